@@ -81,7 +81,7 @@ def doubled():
     its own kinds of accesses, by the same words.)"""
     crates = collections.defaultdict(set)
     for path in glob.glob("crates/*/specs/*.antt", root_dir=ROOT):
-        if not path.endswith(("/Laws.antt", "/Lib.antt")):
+        if not path.endswith(("/Laws.antt", "/AccessPurposes.antt", "/Lib.antt")):
             for name in re.findall(r"^(?:(?:pub|abbrev|unfoldable|record|data) )+([\w'-]+)", read(path), re.M):
                 crates[name].add(path.split("/")[1])
     yield from (f"{', '.join(sorted(its))} define {name}" for name, its in sorted(crates.items()) if len(its) > 1)

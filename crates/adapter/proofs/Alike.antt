@@ -3,9 +3,9 @@ use Rattle.std.proofs.Common.{ℕ, ◌≡◌, ◌+◌, Option, refl, sym, ◌∙
 use Rattle.hba_regs.specs.declared.reg.Reg.{Reg}
 use Rattle.hba_regs.specs.declared.reg.Reg.TheVariants.{Cap, Ghc, Is, Pi, Vs, Cap2, Bohc, Px}
 use Rattle.adapter.specs.Device.{FetchedCommand, Bases, DevicePort, Device}
-use Rattle.adapter.specs.KeptBySteps.{KeepsPort}
+use Rattle.adapter.specs.KeptBySteps.{PortBitsOnlyFall}
 use Rattle.adapter.specs.Steps.{with_port}
-use Rattle.adapter.specs.Access.{Reads, note, noted}
+use Rattle.adapter.specs.Access.{Reads, notes_after_reading, device_after_reading}
 use Rattle.adapter.specs.Guarded.{MissesRange, IsGuardedSlot, IsGuarded}
 use Rattle.adapter.proofs.Changed.{changed_each}
 use Rattle.adapter.proofs.Guards.{in_use_before, steps_guard}
@@ -13,7 +13,7 @@ use Rattle.adapter.proofs.KeptLemmas.{SameEngine, same_engine, still}
 
 pub record IsAlike (old new : Device) : Type 0 where
   pub telling : new.telling ≡ old.telling
-  pub size : new.size ≡ old.size
+  pub size : new.memory_size ≡ old.memory_size
   pub memory : new.memory ≡ old.memory
   pub cap : new.cap ≡ old.cap
   pub pi : new.pi ≡ old.pi
@@ -42,7 +42,7 @@ pub IsAlike-refl : (d : Device) → IsAlike d d
 IsAlike-refl d = record { telling = refl; size = refl; memory = refl; cap = refl; pi = refl; hr = refl; ae = refl; ie = refl; tape = refl; port = λ q. same_engine (d.port q) }
 
 -- a reading changes notes alone
-pub noted_alike : (r : Reg) (v : ℕ) (d : Device) → IsAlike d (noted r v d)
+pub noted_alike : (r : Reg) (v : ℕ) (d : Device) → IsAlike d (device_after_reading r v d)
 noted_alike Cap v d = IsAlike-refl d
 noted_alike Ghc v d = IsAlike-refl d
 noted_alike Is v d = IsAlike-refl d
@@ -50,7 +50,7 @@ noted_alike Pi v d = IsAlike-refl d
 noted_alike Vs v d = IsAlike-refl d
 noted_alike Cap2 v d = IsAlike-refl d
 noted_alike Bohc v d = IsAlike-refl d
-noted_alike (Px port r) v d = port_alike d port.0 (record (d.port port.0) { notes = note r v (d.port port.0) }) (same_engine (d.port port.0))
+noted_alike (Px port r) v d = port_alike d port.0 (record (d.port port.0) { notes = notes_after_reading r v (d.port port.0) }) (same_engine (d.port port.0))
 
 module _ (Tables Kept : ℕ → Type 0) where
   -- what is guarded is guarded in a state that is alike
@@ -58,16 +58,16 @@ module _ (Tables Kept : ℕ → Type 0) where
   guard_alike old new a g = record {
     tables_are_kept = g.tables_are_kept;
     ports_are_guarded = λ q.
-        let k : KeepsPort (old.port q) (new.port q) = still (old.port q) (new.port q) (a.port q) in
+        let k : PortBitsOnlyFall (old.port q) (new.port q) = still (old.port q) (new.port q) (a.port q) in
         record {
           slots_are_guarded = λ slot used.
               let P : (ℕ → ℕ) → Type 0 = λ memory. IsGuardedSlot Tables Kept memory (new.port q).bases.clb slot in
               let Q : Bases → Type 0 = λ b. IsGuardedSlot Tables Kept old.memory b.clb slot in
-              subst P (sym a.memory) (subst Q (sym k.bases) ((g.ports_are_guarded q).slots_are_guarded slot (in_use_before (old.port q) (new.port q) k slot used)));
+              subst P (sym a.memory) (subst Q (sym k.bases_are_kept) ((g.ports_are_guarded q).slots_are_guarded slot (in_use_before (old.port q) (new.port q) k slot used)));
           taken_pieces_are_not_kept = λ slot t is. (g.ports_are_guarded q).taken_pieces_are_not_kept slot t (sym (ap (λ (f : ℕ → Option FetchedCommand). f slot) ((a.port q).7)) ∙ is);
           received_fis_is_not_kept = λ set.
               let P : Bases → Type 0 = λ b. MissesRange Kept b.fb (b.fb + 256) in
-              subst P (sym k.bases) ((g.ports_are_guarded q).received_fis_is_not_kept (sym ((a.port q).2) ∙ set));
+              subst P (sym k.bases_are_kept) ((g.ports_are_guarded q).received_fis_is_not_kept (sym ((a.port q).2) ∙ set));
         };
   }
 
@@ -75,8 +75,8 @@ module _ (Tables Kept : ℕ → Type 0) where
   pub reads_guard : (old new : Device) (r : Reg) (v : ℕ) → Reads r v old new → IsGuarded Tables Kept old →
       IsGuarded Tables Kept new × ((at : ℕ) → Kept at → new.memory at ≡ old.memory at)
   reads_guard old new r v call g =
-      let s = steps_guard Tables Kept old call.mid g call.steps in
-      let a : IsAlike call.mid (noted r v call.mid) = noted_alike r v call.mid in
+      let s = steps_guard Tables Kept old call.at_access g call.steps in
+      let a : IsAlike call.at_access (device_after_reading r v call.at_access) = noted_alike r v call.at_access in
       let P : Device → Type 0 = λ d. IsGuarded Tables Kept d × ((at : ℕ) → Kept at → d.memory at ≡ old.memory at) in
       subst P (sym call.effect)
-      (guard_alike call.mid (noted r v call.mid) a s.0, λ at kept. ap (λ (f : ℕ → ℕ). f at) a.memory ∙ s.1 at kept)
+      (guard_alike call.at_access (device_after_reading r v call.at_access) a s.0, λ at kept. ap (λ (f : ℕ → ℕ). f at) a.memory ∙ s.1 at kept)

@@ -5,13 +5,13 @@ use Rattle.hba_regs.specs.declared.reg.PortReg.{PortReg}
 use Rattle.hba_regs.specs.declared.reg.PortReg.TheVariants.{Clb, Clbu, Fb, Fbu, Is, Ie, Cmd, Tfd, Sig, Ssts, Sctl, Serr, Sact, Ci}
 use Rattle.ata_types.specs.declared.Port.{Port}
 use Rattle.adapter.specs.Device.{Notes, DevicePort, Device}
-use Rattle.adapter.specs.KeptBySteps.{Keeps, KeepsOutsideReset, KeepsPort, KeepsControls}
+use Rattle.adapter.specs.KeptBySteps.{KeepsOverSteps, KeepsOutsideReset, PortBitsOnlyFall, KeepsControlsFlagsRise}
 use Rattle.adapter.specs.Rules.{IsOn}
-pub use Rattle.adapter.specs.RegisterEffects.{KeepsOverDeviceSteps, PortRegisterRead, PortRegisterWritten}
+pub use Rattle.adapter.specs.RegisterEffects.{KeepsOverStepsOutsideReset, PortRegisterRead, PortRegisterWritten}
 use Rattle.adapter.specs.Steps.{Steps, with_port}
-use Rattle.adapter.specs.Access.{PortShows, note, Reads, Writes, Access, Does, DoesAll, IsDriven}
+use Rattle.adapter.specs.Access.{PortShows, notes_after_reading, Reads, Writes, Access, Does, DoesAll, IsDriven}
 use Rattle.adapter.proofs.Changed.{changed_same, changed_other, changed_each}
-use Rattle.adapter.proofs.KeptLemmas.{law_step_lists_keep_what_steps_keep, same_engine, still, same_controls, calm, KeepsPort-refl, KeepsPort-trans, KeepsControls-refl, KeepsControls-trans}
+use Rattle.adapter.proofs.KeptLemmas.{law_step_lists_keep_what_steps_keep, same_engine, still, same_controls, calm, PortBitsOnlyFall-refl, PortBitsOnlyFall-trans, KeepsControlsFlagsRise-refl, KeepsControlsFlagsRise-trans}
 
 -- ---- lists of accesses
 
@@ -31,7 +31,7 @@ driven_then {old} {mid} {new} a b = record { accesses = a.accesses ++ b.accesses
 -- ---- rules that last
 
 pub on_after : {old new : Device} → IsOn old → KeepsOutsideReset old new → IsOn new
-on_after on keeps = record { ae = keeps.ae ∙ on.ae; no_reset = keeps.no_reset }
+on_after on keeps = record { ae_is_set = keeps.ae_is_kept ∙ on.ae_is_set; no_reset = keeps.no_reset }
 
 pub on_stays : {old new : Device} → IsOn old → Steps old new → IsOn new
 on_stays on steps = let k = law_step_lists_keep_what_steps_keep steps in on_after on (k.keeps_outside_reset on.no_reset)
@@ -55,97 +55,97 @@ shows_noted Serr v p n h = h
 shows_noted Sact v p n h = h
 shows_noted Ci v p n h = h
 
-pub KeepsOverDeviceSteps-trans : {old mid new : Device} → KeepsOverDeviceSteps old mid → KeepsOverDeviceSteps mid new → KeepsOverDeviceSteps old new
-KeepsOverDeviceSteps-trans a b = record {
-  size = b.size ∙ a.size;
-  cap = b.cap ∙ a.cap;
-  pi = b.pi ∙ a.pi;
+pub KeepsOverStepsOutsideReset-trans : {old mid new : Device} → KeepsOverStepsOutsideReset old mid → KeepsOverStepsOutsideReset mid new → KeepsOverStepsOutsideReset old new
+KeepsOverStepsOutsideReset-trans a b = record {
+  memory_size = b.memory_size ∙ a.memory_size;
+  cap_is_kept = b.cap_is_kept ∙ a.cap_is_kept;
+  pi_is_kept = b.pi_is_kept ∙ a.pi_is_kept;
   keeps_outside_reset = record {
     no_reset = b.keeps_outside_reset.no_reset;
-    ae = b.keeps_outside_reset.ae ∙ a.keeps_outside_reset.ae;
-    ie = b.keeps_outside_reset.ie ∙ a.keeps_outside_reset.ie;
-    controls = λ q. KeepsControls-trans (a.keeps_outside_reset.controls q) (b.keeps_outside_reset.controls q);
+    ae_is_kept = b.keeps_outside_reset.ae_is_kept ∙ a.keeps_outside_reset.ae_is_kept;
+    ie_is_kept = b.keeps_outside_reset.ie_is_kept ∙ a.keeps_outside_reset.ie_is_kept;
+    controls_are_kept = λ q. KeepsControlsFlagsRise-trans (a.keeps_outside_reset.controls_are_kept q) (b.keeps_outside_reset.controls_are_kept q);
   };
-  ports_are_kept = λ q. KeepsPort-trans (a.ports_are_kept q) (b.ports_are_kept q);
+  ports_keep_what_steps_keep = λ q. PortBitsOnlyFall-trans (a.ports_keep_what_steps_keep q) (b.ports_keep_what_steps_keep q);
 }
 
-pub steps_keep_all : {old new : Device} → old.hr ≡ false → Steps old new → KeepsOverDeviceSteps old new
-steps_keep_all h steps = let k = law_step_lists_keep_what_steps_keep steps in record { size = k.size; cap = k.cap; pi = k.pi; keeps_outside_reset = k.keeps_outside_reset h; ports_are_kept = k.ports_are_kept }
+pub steps_keep_all : {old new : Device} → old.hr ≡ false → Steps old new → KeepsOverStepsOutsideReset old new
+steps_keep_all h steps = let k = law_step_lists_keep_what_steps_keep steps in record { memory_size = k.memory_size_is_kept; cap_is_kept = k.cap_is_kept; pi_is_kept = k.pi_is_kept; keeps_outside_reset = k.keeps_outside_reset h; ports_keep_what_steps_keep = k.ports_are_kept }
 
 module _ (port : Port) (r : PortReg) (v : ℕ) (old new : Device) (call : Reads (Px port r) v old new) (h : old.hr ≡ false) where
-  kept : Keeps old call.mid
+  kept : KeepsOverSteps old call.at_access
   kept = law_step_lists_keep_what_steps_keep call.steps
 
   there : DevicePort
-  there = record (call.mid.port port.0) { notes = note r v (call.mid.port port.0) }
+  there = record (call.at_access.port port.0) { notes = notes_after_reading r v (call.at_access.port port.0) }
 
   is_there : new.port port.0 ≡ there
   unfolding there
-  is_there = ap (λ (d : Device). d.port port.0) call.effect ∙ changed_same call.mid.port port.0 there
+  is_there = ap (λ (d : Device). d.port port.0) call.effect ∙ changed_same call.at_access.port port.0 there
 
-  noted_keeps : KeepsOverDeviceSteps call.mid (with_port call.mid port.0 there)
+  noted_keeps : KeepsOverStepsOutsideReset call.at_access (with_port call.at_access port.0 there)
   unfolding there
   noted_keeps =
-      let on : KeepsOutsideReset old call.mid = kept.keeps_outside_reset h in
+      let on : KeepsOutsideReset old call.at_access = kept.keeps_outside_reset h in
       record {
-        size = refl;
-        cap = refl;
-        pi = refl;
+        memory_size = refl;
+        cap_is_kept = refl;
+        pi_is_kept = refl;
         keeps_outside_reset = record {
           no_reset = on.no_reset;
-          ae = refl;
-          ie = refl;
-          controls = changed_each call.mid.port port.0 there (λ q p. KeepsControls (call.mid.port q) p) (calm (call.mid.port port.0) there (same_controls (call.mid.port port.0))) (λ q. KeepsControls-refl (call.mid.port q));
+          ae_is_kept = refl;
+          ie_is_kept = refl;
+          controls_are_kept = changed_each call.at_access.port port.0 there (λ q p. KeepsControlsFlagsRise (call.at_access.port q) p) (calm (call.at_access.port port.0) there (same_controls (call.at_access.port port.0))) (λ q. KeepsControlsFlagsRise-refl (call.at_access.port q));
         };
-        ports_are_kept = changed_each call.mid.port port.0 there (λ q p. KeepsPort (call.mid.port q) p) (still (call.mid.port port.0) there (same_engine (call.mid.port port.0))) (λ q. KeepsPort-refl (call.mid.port q));
+        ports_keep_what_steps_keep = changed_each call.at_access.port port.0 there (λ q p. PortBitsOnlyFall (call.at_access.port q) p) (still (call.at_access.port port.0) there (same_engine (call.at_access.port port.0))) (λ q. PortBitsOnlyFall-refl (call.at_access.port q));
       }
 
-  seen_keeps : KeepsOverDeviceSteps old new
+  seen_keeps : KeepsOverStepsOutsideReset old new
   unfolding there
   seen_keeps =
-      let P : Device → Type 0 = λ d. KeepsOverDeviceSteps old d in
-      subst P (sym call.effect) (KeepsOverDeviceSteps-trans (steps_keep_all h call.steps) noted_keeps)
+      let P : Device → Type 0 = λ d. KeepsOverStepsOutsideReset old d in
+      subst P (sym call.effect) (KeepsOverStepsOutsideReset-trans (steps_keep_all h call.steps) noted_keeps)
 
   seen_shows : PortShows r v (new.port port.0)
   unfolding there
   seen_shows =
       let P : DevicePort → Type 0 = λ p. PortShows r v p in
-      subst P (sym is_there) (shows_noted r v (call.mid.port port.0) (note r v (call.mid.port port.0)) call.shows)
+      subst P (sym is_there) (shows_noted r v (call.at_access.port port.0) (notes_after_reading r v (call.at_access.port port.0)) call.shows)
 
-  seen_notes : (new.port port.0).notes ≡ note r v (record (new.port port.0) { notes = (old.port port.0).notes })
+  seen_notes : (new.port port.0).notes ≡ notes_after_reading r v (record (new.port port.0) { notes = (old.port port.0).notes })
   unfolding there
   seen_notes =
-      let P : DevicePort → Type 0 = λ p. p.notes ≡ note r v (record p { notes = (old.port port.0).notes }) in
-      let Q : Notes → Type 0 = λ n. note r v (call.mid.port port.0) ≡ note r v (record (call.mid.port port.0) { notes = n }) in
+      let P : DevicePort → Type 0 = λ p. p.notes ≡ notes_after_reading r v (record p { notes = (old.port port.0).notes }) in
+      let Q : Notes → Type 0 = λ n. notes_after_reading r v (call.at_access.port port.0) ≡ notes_after_reading r v (record (call.at_access.port port.0) { notes = n }) in
       subst P (sym is_there) (subst Q (kept.notes_are_kept port.0) refl)
 
   seen_others : (q : ℕ) → q ≢ port.0 → (new.port q).notes ≡ (old.port q).notes
   unfolding there
   seen_others q ne =
-      ap (λ (d : Device). (d.port q).notes) call.effect ∙ (ap (λ (p : DevicePort). p.notes) (changed_other call.mid.port port.0 there q ne) ∙ kept.notes_are_kept q)
+      ap (λ (d : Device). (d.port q).notes) call.effect ∙ (ap (λ (p : DevicePort). p.notes) (changed_other call.at_access.port port.0 there q ne) ∙ kept.notes_are_kept q)
 
   pub seen : PortRegisterRead port.0 r v old new
-  seen = record { keeps = seen_keeps; shows = seen_shows; notes = seen_notes; other_notes_are_kept = seen_others }
+  seen = record { keeps = seen_keeps; shows = seen_shows; notes = seen_notes; notes_of_other_ports_are_kept = seen_others }
 
 -- ---- a register of a port is written: the port has it, after what the device did first; the others have what that left
 
 pub put : (port : Port) (r : PortReg) (v : ℕ) (old new : Device) → Writes (Px port r) v old new → old.hr ≡ false → PortRegisterWritten port.0 r v old new
 put port r v old new call h =
-    let k : Keeps old call.mid = law_step_lists_keep_what_steps_keep call.steps in
-    let on : KeepsOutsideReset old call.mid = k.keeps_outside_reset h in
+    let k : KeepsOverSteps old call.at_access = law_step_lists_keep_what_steps_keep call.steps in
+    let on : KeepsOutsideReset old call.at_access = k.keeps_outside_reset h in
     record {
-      mid = call.mid;
+      at_access = call.at_access;
       steps = call.steps;
       keeps = steps_keep_all h call.steps;
-      notes = k.notes_are_kept;
-      hr = ap (λ (d : Device). d.hr) call.effect ∙ on.no_reset;
-      ae = ap (λ (d : Device). d.ae) call.effect ∙ on.ae;
-      ie = ap (λ (d : Device). d.ie) call.effect ∙ on.ie;
-      size = ap (λ (d : Device). d.size) call.effect ∙ k.size;
-      cap = ap (λ (d : Device). d.cap) call.effect ∙ k.cap;
-      pi = ap (λ (d : Device). d.pi) call.effect ∙ k.pi;
-      memory = ap (λ (d : Device). d.memory) call.effect;
-      tape = ap (λ (d : Device). d.tape) call.effect;
-      port_is_written = ap (λ (d : Device). d.port port.0) call.effect ∙ changed_same call.mid.port port.0 _;
-      other_ports_are_kept = λ q ne. ap (λ (d : Device). d.port q) call.effect ∙ changed_other call.mid.port port.0 _ q ne;
+      steps_keep_notes = k.notes_are_kept;
+      no_reset = ap (λ (d : Device). d.hr) call.effect ∙ on.no_reset;
+      ae_is_kept = ap (λ (d : Device). d.ae) call.effect ∙ on.ae_is_kept;
+      ie_is_kept = ap (λ (d : Device). d.ie) call.effect ∙ on.ie_is_kept;
+      memory_size = ap (λ (d : Device). d.memory_size) call.effect ∙ k.memory_size_is_kept;
+      cap_is_kept = ap (λ (d : Device). d.cap) call.effect ∙ k.cap_is_kept;
+      pi_is_kept = ap (λ (d : Device). d.pi) call.effect ∙ k.pi_is_kept;
+      memory_is_as_at_access = ap (λ (d : Device). d.memory) call.effect;
+      tape_is_as_at_access = ap (λ (d : Device). d.tape) call.effect;
+      port_is_written = ap (λ (d : Device). d.port port.0) call.effect ∙ changed_same call.at_access.port port.0 _;
+      other_ports_are_kept = λ q ne. ap (λ (d : Device). d.port q) call.effect ∙ changed_other call.at_access.port port.0 _ q ne;
     }

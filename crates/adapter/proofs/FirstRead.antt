@@ -5,10 +5,10 @@ use Rattle.std.proofs.lemmas.Bool.Decides.{leb_tells}
 use Rattle.std.proofs.lemmas.List.{length-replicate}
 use Rattle.std.proofs.lemmas.List.Elements.{All-replicate}
 use Rattle.adapter.specs.Memory.{patched, bytes_at, changed}
-use Rattle.adapter.specs.Device.{Disk, IsSector, IsDisk, HasKnownSectors, DevicePort, Device}
+use Rattle.adapter.specs.Device.{Disk, IsValidSector, HasValidSectors, HasKnownSectors, DevicePort, Device}
 use Rattle.adapter.specs.FirstRead.{header_bytes, command_fis_bytes, prd_bytes, first_memory, first_disk_sector, first_disk, no_disk, empty_port, reading_port, first_read_device}
 use Rattle.adapter.specs.Idle.{IsIdlePort, HoldsBytesAndTellsDisks}
-use Rattle.adapter.specs.OneCommand.{HasOneCommand, SaysCommand, CommandLayout, layout_of, is_in_span, is_in_pieces, is_read_only, is_written, is_unwritten, IsElsewhere}
+use Rattle.adapter.specs.OneCommand.{HasOneCommand, SaysCommand, CommandLayout, layout_of, is_in_span, is_in_pieces, is_read_only, is_device_writable, is_not_device_writable, IsOutsideCommand}
 use Rattle.adapter.specs.ReadDone.{read_of, IsReadDone}
 use Rattle.adapter.specs.Rules.{IsUnowned, IsStable}
 use Rattle.adapter.specs.Decoding.{DecodesTo, IsWholePieces, piece_addresses}
@@ -70,7 +70,7 @@ first_says = record {
     ranged = λ _. (omega arith, omega arith, omega arith);
     not_ranged = λ h. true-false refl h;
   };
-  prds_stand = (
+  prds_are_encoded = (
     record {
       size = refl;
       allowed = record { even_address = refl; even_bytes = refl; is_not_empty = omega arith; is_at_most_4_mib = omega arith };
@@ -96,13 +96,13 @@ and_right : (a b : Bool) → a && b ≡ true → b ≡ true
 and_right true b h = h
 and_right false b h = true-false h refl
 
-sector_is : (k : ℕ) → k < 256 → IsSector (first_disk_sector k)
+sector_is : (k : ℕ) → k < 256 → IsValidSector (first_disk_sector k)
 unfolding first_disk_sector
 sector_is k small = (length-replicate 512 k, All-replicate (λ b. b < 256) 512 k small)
 
-told_sectors : (disk : Disk) (told : ℕ → List ℕ) → disk.sectors ≡ Some told → ((k : ℕ) → k < disk.size → IsSector (told k)) → IsDisk disk
+told_sectors : (disk : Disk) (told : ℕ → List ℕ) → disk.sectors ≡ Some told → ((k : ℕ) → k < disk.sector_count → IsValidSector (told k)) → HasValidSectors disk
 told_sectors disk told is each = λ other other_is k small.
-    let P : (ℕ → List ℕ) → Type 0 = λ f. IsSector (f k) in
+    let P : (ℕ → List ℕ) → Type 0 = λ f. IsValidSector (f k) in
     subst P (some_one (sym is ∙ other_is)) (each k small)
 
 -- bytes that are small, as a test
@@ -133,7 +133,7 @@ first_small =
 pub first_sane : HoldsBytesAndTellsDisks first_read_device
 first_sane = record {
   memory_holds_bytes = first_small;
-  disks_hold_sectors = changed_each (λ _. empty_port) 0 reading_port (λ q p. IsDisk p.disk) (told_sectors first_disk first_disk_sector refl (λ k small. sector_is k small)) (λ q. told_sectors no_disk (λ k. []) refl (λ k small. absurd (omega arith)));
+  disks_hold_sectors = changed_each (λ _. empty_port) 0 reading_port (λ q p. HasValidSectors p.disk) (told_sectors first_disk first_disk_sector refl (λ k small. sector_is k small)) (λ q. told_sectors no_disk (λ k. []) refl (λ k small. absurd (omega arith)));
   disks_are_told = λ _. changed_each (λ _. empty_port) 0 reading_port (λ q p. HasKnownSectors p.disk) (first_disk_sector, refl) (λ q. (λ k. [], refl));
 }
 
@@ -161,7 +161,7 @@ command = record { meaning = read_of 100 8; places = piece_addresses 0x64000 8; 
 
 -- where it stands
 abbrev stands : CommandLayout
-stands = record { header = 0; table = 0x1000; entries = 1; places = piece_addresses 0x64000 8; received = 0x400 }
+stands = record { header = 0; table = 0x1000; prd_count = 1; places = piece_addresses 0x64000 8; received_fis_area = 0x400 }
 
 stands_is : layout_of first_read_device 0 0 command ≡ stands
 unfolding changed command first_says
@@ -175,11 +175,11 @@ one_of true b c h = inl refl
 one_of false true c h = inr (inl refl)
 one_of false false c h = inr (inr h)
 
-unwritten : (at : ℕ) → (at < 4) ⊎ (8 ≤ at) → (at < 0x400) ⊎ (0x500 ≤ at) → (at < 0x64000) ⊎ (0x65000 ≤ at) → is_written stands at ≡ false
+unwritten : (at : ℕ) → (at < 4) ⊎ (8 ≤ at) → (at < 0x400) ⊎ (0x500 ≤ at) → (at < 0x64000) ⊎ (0x65000 ≤ at) → is_device_writable stands at ≡ false
 unwritten at count area frame =
     none_of (is_in_span 4 4 at) (is_in_pieces (piece_addresses 0x64000 8) at) (is_in_span 0x400 256 at) (from_no 4 4 at count) (pieces_no 0x64000 8 at frame) (from_no 0x400 256 at area)
 
-stands_apart : (at : ℕ) → is_read_only stands at ≡ true → is_unwritten stands at ≡ true
+stands_apart : (at : ℕ) → is_read_only stands at ≡ true → is_not_device_writable stands at ≡ true
 stands_apart at h =
     elim (one_of (is_in_span 0 4 at) (is_in_span 8 24 at) (is_in_span 0x1000 144 at) h) [
       | inl head ↦
@@ -198,21 +198,21 @@ unfolding changed
 first_command = record {
   slot_is_used = inl refl;
   command = command;
-  taken = λ t is. some-none is refl;
-  reads_apart_from_writes = let P : CommandLayout → Type 0 = λ s. (at : ℕ) → is_read_only s at ≡ true → is_unwritten s at ≡ true in subst P (sym stands_is) stands_apart;
-  other_slots = λ k ne. record { ci = changed_other (λ _. false) 0 true k ne; taken = refl };
-  other_ports = λ q ne. let P : DevicePort → Type 0 = λ p. IsIdlePort p in subst P (sym (changed_other (λ _. empty_port) 0 reading_port q ne)) quiet;
+  taken_has_these_places = λ t is. some-none is refl;
+  reads_apart_from_writes = let P : CommandLayout → Type 0 = λ s. (at : ℕ) → is_read_only s at ≡ true → is_not_device_writable s at ≡ true in subst P (sym stands_is) stands_apart;
+  other_slots_are_free = λ k ne. record { ci_is_clear = changed_other (λ _. false) 0 true k ne; is_not_taken = refl };
+  other_ports_are_idle = λ q ne. let P : DevicePort → Type 0 = λ p. IsIdlePort p in subst P (sym (changed_other (λ _. empty_port) 0 reading_port q ne)) quiet;
 }
   where
     quiet : IsIdlePort empty_port
-    quiet = record { st = refl; cr = refl; fre = refl; fr = refl; ci = λ _. refl; sact = λ _. refl; taken = λ _. refl }
+    quiet = record { st_is_clear = refl; cr_is_clear = refl; fre_is_clear = refl; fr_is_clear = refl; ci_is_clear = λ _. refl; sact_is_clear = λ _. refl; none_is_taken = λ _. refl }
 
 -- the next frame is none of it
-elsewhere : IsElsewhere stands 0x65000 4096 first_read_device
+elsewhere : IsOutsideCommand stands 0x65000 4096 first_read_device
 elsewhere = record {
   inside = omega arith;
   elsewhere = λ a low high.
-      or_no (is_read_only stands a) (is_written stands a)
+      or_no (is_read_only stands a) (is_device_writable stands a)
       (none_of (is_in_span 0 4 a) (is_in_span 8 24 a) (is_in_span 0x1000 144 a) (from_no 0 4 a (inr (omega (arith, low)))) (from_no 8 24 a (inr (omega (arith, low)))) (from_no 0x1000 144 a (inr (omega (arith, low)))))
       (unwritten a (inr (omega (arith, low))) (inr (omega (arith, low))) (inr low));
 }
@@ -223,7 +223,7 @@ elsewhere = record {
 pub first_free : IsStable (IsUnowned 0x65000 4096) first_read_device
 unfolding first_command
 first_free =
-    let P : CommandLayout → Type 0 = λ s. IsElsewhere s 0x65000 4096 first_read_device in
+    let P : CommandLayout → Type 0 = λ s. IsOutsideCommand s 0x65000 4096 first_read_device in
     elsewhere_free first_read_device 0 0 first_command 0x65000 4096 (subst P (sym stands_is) elsewhere)
 
 -- ---- and it can be done
@@ -234,8 +234,8 @@ first_done =
     read_done first_read_device 0 0 100 8 (piece_addresses 0x64000 8) first_disk_sector
     (record {
       may_be_fetched = record {
-        fetchable = record { st = refl; issued = refl; free = refl };
-        working = record { running = refl; present = refl; fresh = refl; admitted = refl; whole = refl };
+        fetchable = record { st_is_set = refl; issued = refl; free = refl };
+        working = record { cr_is_set = refl; present = refl; fresh = refl; admitted = refl; is_not_broken = refl };
         is_unmixed = λ slot t is. some-none is refl;
         says = first_says;
       };

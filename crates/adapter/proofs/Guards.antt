@@ -3,7 +3,7 @@ use Rattle.std.proofs.Common.{ℕ, ◌≡◌, ◌+◌, Bool, true, false, List, 
 use Rattle.adapter.specs.Memory.{patched, changed}
 use Rattle.adapter.specs.Commands.{Meaning, reads_memory}
 use Rattle.adapter.specs.Device.{FetchedCommand, Bases, DevicePort, Device}
-use Rattle.adapter.specs.KeptBySteps.{Keeps, KeepsPort}
+use Rattle.adapter.specs.KeptBySteps.{KeepsOverSteps, PortBitsOnlyFall}
 use Rattle.adapter.specs.Rules.{InUse}
 use Rattle.adapter.specs.Steps.{DeviceTransition, Can, device_after, TransitionsLead, Steps, MayFetch, MayScribble, next_place}
 use Rattle.adapter.specs.Steps.DeviceTransition.{Fetch, FetchFault, Move, Clear, Done, Fault, Fatal, Fall, FrFall, LinkUp, Unplug, Plug, ResetEnds, Scribble}
@@ -24,7 +24,7 @@ module _ (Tables Kept : ℕ → Type 0) where
       MissesRange Kept at (at + length bytes)
   scribble_spares d port slot at bytes g may =
       elim may.place [
-        | inl area ↦ λ a low high kept. (g.ports_are_guarded port).received_fis_is_not_kept may.fre a (omega (arith, area.0)) (omega (arith, area.1)) kept
+        | inl area ↦ λ a low high kept. (g.ports_are_guarded port).received_fis_is_not_kept may.fre_is_set a (omega (arith, area.0)) (omega (arith, area.1)) kept
         | inr count ↦ λ a low high kept. ((g.ports_are_guarded port).slots_are_guarded slot (inr (count.0, count.1))).prdbc_is_not_kept a (omega (arith, count.2)) (omega (arith, count.2, count.3)) kept
       ]
 
@@ -34,7 +34,7 @@ module _ (Tables Kept : ℕ → Type 0) where
     where
       spares : MissesRange Kept (next_place t) (next_place t + length bytes)
       spares at low high kept_at =
-          (g.ports_are_guarded port).taken_pieces_are_not_kept slot t can.works.taken at kept_at (record { number = t.moved; listed = can.piece_is_left; from = low; to = omega (arith, can.bytes_are_sector.0) })
+          (g.ports_are_guarded port).taken_pieces_are_not_kept slot t can.works.taken at kept_at (record { number = t.moved; number_in_range = can.piece_is_left; from = low; to = omega (arith, can.bytes_are_sector.0) })
 
       by : (b : Bool) → (if b then d.memory else patched d.memory (next_place t) bytes) a ≡ d.memory a
       by true = refl
@@ -56,18 +56,18 @@ module _ (Tables Kept : ℕ → Type 0) where
     header_end_is_table = h.header_end_is_table;
     table_is_guarded = h.table_is_guarded;
     prdbc_is_not_kept = h.prdbc_is_not_kept;
-    places_avoid = h.places_avoid;
+    pieces_are_not_kept = h.pieces_are_not_kept;
   }
 
 -- a slot that is in use was in use
-module _ (old new : DevicePort) (k : KeepsPort old new) (slot : ℕ) where
+module _ (old new : DevicePort) (k : PortBitsOnlyFall old new) (slot : ℕ) where
   taken_before : (ci : Bool) (o : Option FetchedCommand) → old.ci slot ≡ ci → old.taken slot ≡ o → (t : FetchedCommand) → new.taken slot ≡ Some t → InUse old slot
   taken_before true o set is t now = inl set
   taken_before false (Some u) unset is t now = inr (u, is)
   taken_before false None unset is t now = some-none now (k.slots_stay_free slot unset is)
 
   pub in_use_before : InUse new slot → InUse old slot
-  in_use_before (inl set) = inl (set_before (old.ci slot) (new.ci slot) (k.ci slot) set)
+  in_use_before (inl set) = inl (set_before (old.ci slot) (new.ci slot) (k.ci_stays_clear slot) set)
   in_use_before (inr (t, is)) = taken_before (old.ci slot) (old.taken slot) refl refl t is
 
 -- a slot is filled with a command, or emptied
@@ -100,7 +100,7 @@ module _ (Tables Kept : ℕ → Type 0) (d : Device) (g : IsGuarded Tables Kept 
   fetch_avoids port slot m places can =
       let h : IsGuardedSlot Tables Kept d.memory (d.port port).bases.clb slot = (g.ports_are_guarded port).slots_are_guarded slot (inl can.fetchable.issued) in
       let P : List ℕ → Type 0 = λ l. MissesPieces Kept l in
-      subst P (says_places d.memory (d.port port).bases.clb slot h.meaning m h.places places h.says can.says) h.places_avoid
+      subst P (says_places d.memory (d.port port).bases.clb slot h.meaning m h.places places h.says can.says) h.pieces_are_not_kept
 
   step_taken : (step : DeviceTransition) → Can step d → (q : ℕ) → TakenAvoid ((device_after step d).port q)
   step_taken (Fetch port slot m places) can = at_port port _ (filled at_slot (d.port port).taken slot (now port) _ (fetch_avoids port slot m places can))
@@ -120,23 +120,23 @@ module _ (Tables Kept : ℕ → Type 0) (d : Device) (g : IsGuarded Tables Kept 
 
   pub step_guards : (step : DeviceTransition) → Can step d → IsGuarded Tables Kept (device_after step d)
   step_guards step can =
-      let all : Keeps d (device_after step d) = step_keeps step d can in
+      let all : KeepsOverSteps d (device_after step d) = step_keeps step d can in
       let same : (a : ℕ) → Tables a → (device_after step d).memory a ≡ d.memory a = λ a table. step_bytes Tables Kept step d can g a (g.tables_are_kept a table) in
       record {
         tables_are_kept = g.tables_are_kept;
         ports_are_guarded = λ q.
-            let k : KeepsPort (d.port q) ((device_after step d).port q) = all.ports_are_kept q in
+            let k : PortBitsOnlyFall (d.port q) ((device_after step d).port q) = all.ports_are_kept q in
             let p : IsGuardedPort Tables Kept d.memory (d.port q) = g.ports_are_guarded q in
             record {
               slots_are_guarded = λ slot used.
                   let P : Bases → Type 0 = λ b. IsGuardedSlot Tables Kept (device_after step d).memory b.clb slot in
-                  subst P (sym k.bases)
+                  subst P (sym k.bases_are_kept)
                   (held_same Tables Kept d.memory (device_after step d).memory (d.port q).bases.clb slot same
                   (p.slots_are_guarded slot (in_use_before (d.port q) ((device_after step d).port q) k slot used)));
               taken_pieces_are_not_kept = step_taken step can q;
               received_fis_is_not_kept = λ set.
                   let P : Bases → Type 0 = λ b. MissesRange Kept b.fb (b.fb + 256) in
-                  subst P (sym k.bases) (p.received_fis_is_not_kept (set_before (d.port q).fre ((device_after step d).port q).fre k.fre set));
+                  subst P (sym k.bases_are_kept) (p.received_fis_is_not_kept (set_before (d.port q).fre ((device_after step d).port q).fre k.fre_stays_clear set));
             };
       }
 

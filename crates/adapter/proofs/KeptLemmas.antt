@@ -5,7 +5,7 @@ use Rattle.adapter.proofs.Changed.{changed_each}
 use Rattle.adapter.specs.Memory.{changed}
 use Rattle.adapter.specs.Commands.{is_queued}
 use Rattle.adapter.specs.Device.{FetchedCommand, DevicePort, Device}
-use Rattle.adapter.specs.KeptBySteps.{Keeps, KeepsOutsideReset, KeepsPort, KeepsControls}
+use Rattle.adapter.specs.KeptBySteps.{KeepsOverSteps, KeepsOutsideReset, PortBitsOnlyFall, KeepsControlsFlagsRise}
 use Rattle.adapter.specs.Steps.{DeviceTransition, Can, device_after, TransitionsLead, Steps, with_port}
 use Rattle.adapter.specs.Steps.DeviceTransition.{Fetch, FetchFault, Move, Clear, Done, Fault, Fatal, Fall, FrFall, LinkUp, Unplug, Plug, ResetEnds, Scribble}
 use Rattle.adapter.specs.declared.tape.Entry.{Entry}
@@ -41,61 +41,61 @@ SameEngine old new =
 pub same_engine : (p : DevicePort) → SameEngine p p
 same_engine p = (refl, refl, refl, refl, refl, refl, refl, refl)
 
-pub still : (old new : DevicePort) → SameEngine old new → KeepsPort old new
+pub still : (old new : DevicePort) → SameEngine old new → PortBitsOnlyFall old new
 still old new (bases, st, fre, cr, fr, ci, sact, taken) =
     let at : (slot : ℕ) → new.taken slot ≡ old.taken slot = λ slot. ap (λ (f : ℕ → Option FetchedCommand). f slot) taken in
     record {
-      bases = bases;
-      st = λ h. st ∙ h;
-      fre = λ h. fre ∙ h;
-      cr = λ h. cr ∙ h;
-      fr = λ h. fr ∙ h;
-      ci = λ k h. ap (λ (f : ℕ → Bool). f k) ci ∙ h;
-      sact = λ k h. ap (λ (f : ℕ → Bool). f k) sact ∙ h;
+      bases_are_kept = bases;
+      st_stays_clear = λ h. st ∙ h;
+      fre_stays_clear = λ h. fre ∙ h;
+      cr_stays_clear = λ h. cr ∙ h;
+      fr_stays_clear = λ h. fr ∙ h;
+      ci_stays_clear = λ k h. ap (λ (f : ℕ → Bool). f k) ci ∙ h;
+      sact_stays_clear = λ k h. ap (λ (f : ℕ → Bool). f k) sact ∙ h;
       stays_without_commands = λ quiet none slot. at slot ∙ none slot;
       fall_drops_commands = λ ran quiet. true-false ran (sym cr ∙ quiet);
       slots_stay_free = λ slot unset none. at slot ∙ none;
     }
 
-pub KeepsPort-refl : (p : DevicePort) → KeepsPort p p
-KeepsPort-refl p = still p p (same_engine p)
+pub PortBitsOnlyFall-refl : (p : DevicePort) → PortBitsOnlyFall p p
+PortBitsOnlyFall-refl p = still p p (same_engine p)
 
 -- what the driver's controls are, and the flags, are the same, and CR is
 abbrev pub SameControls : DevicePort → DevicePort → Type 0
 SameControls old new =
     (new.st ≡ old.st) × (new.fre ≡ old.fre) × (new.sctl_det ≡ old.sctl_det) × (new.ie ≡ old.ie) × (new.is ≡ old.is)
-    × (new.ips ≡ old.ips) × (new.serr_n ≡ old.serr_n) × (new.serr_x ≡ old.serr_x) × (new.cr ≡ old.cr)
+    × (new.ips_latched ≡ old.ips_latched) × (new.serr_n ≡ old.serr_n) × (new.serr_x ≡ old.serr_x) × (new.cr ≡ old.cr)
 
 pub same_controls : (p : DevicePort) → SameControls p p
 same_controls p = (refl, refl, refl, refl, refl, refl, refl, refl, refl)
 
-pub calm : (old new : DevicePort) → SameControls old new → KeepsControls old new
+pub calm : (old new : DevicePort) → SameControls old new → KeepsControlsFlagsRise old new
 calm old new (st, fre, det, ie, is, ips, n, x, cr) = record {
-  st = st;
-  fre = fre;
-  sctl_det = det;
-  ie = ie;
-  is = λ k h. ap (λ (f : ℕ → Bool). f k) is ∙ h;
-  ips = ips;
-  serr_n = λ h. n ∙ h;
-  serr_x = λ h. x ∙ h;
+  st_is_kept = st;
+  fre_is_kept = fre;
+  sctl_det_is_kept = det;
+  ie_is_kept = ie;
+  causes_stay_set = λ k h. ap (λ (f : ℕ → Bool). f k) is ∙ h;
+  ips_is_kept = ips;
+  serr_n_stays_set = λ h. n ∙ h;
+  serr_x_stays_set = λ h. x ∙ h;
   engine_stays_running = λ _ ran. cr ∙ ran;
 }
 
-pub KeepsControls-refl : (p : DevicePort) → KeepsControls p p
-KeepsControls-refl p = calm p p (same_controls p)
+pub KeepsControlsFlagsRise-refl : (p : DevicePort) → KeepsControlsFlagsRise p p
+KeepsControlsFlagsRise-refl p = calm p p (same_controls p)
 
 -- a flag rises
-flagged : (p : DevicePort) (place : ℕ) (new : DevicePort) → SameControls (record p { is = changed p.is place true }) new → KeepsControls p new
+flagged : (p : DevicePort) (place : ℕ) (new : DevicePort) → SameControls (record p { is = changed p.is place true }) new → KeepsControlsFlagsRise p new
 flagged p place new (st, fre, det, ie, is, ips, n, x, cr) = record {
-  st = st;
-  fre = fre;
-  sctl_det = det;
-  ie = ie;
-  is = λ k h. ap (λ (f : ℕ → Bool). f k) is ∙ rise_keeps p.is place k h;
-  ips = ips;
-  serr_n = λ h. n ∙ h;
-  serr_x = λ h. x ∙ h;
+  st_is_kept = st;
+  fre_is_kept = fre;
+  sctl_det_is_kept = det;
+  ie_is_kept = ie;
+  causes_stay_set = λ k h. ap (λ (f : ℕ → Bool). f k) is ∙ rise_keeps p.is place k h;
+  ips_is_kept = ips;
+  serr_n_stays_set = λ h. n ∙ h;
+  serr_x_stays_set = λ h. x ∙ h;
   engine_stays_running = λ _ ran. cr ∙ ran;
 }
 
@@ -107,15 +107,15 @@ slot_keeps p slot new used =
 
 -- the command of a slot of a working port goes on
 worked : (p : DevicePort) (slot : ℕ) (t u : FetchedCommand) (new : DevicePort) → p.cr ≡ true → p.taken slot ≡ Some t
-    → SameEngine (record p { taken = changed p.taken slot (Some u) }) new → KeepsPort p new
+    → SameEngine (record p { taken = changed p.taken slot (Some u) }) new → PortBitsOnlyFall p new
 worked p slot t u new running is (bases, st, fre, cr, fr, ci, sact, taken) = record {
-  bases = bases;
-  st = λ h. st ∙ h;
-  fre = λ h. fre ∙ h;
-  cr = λ h. cr ∙ h;
-  fr = λ h. fr ∙ h;
-  ci = λ k h. ap (λ (f : ℕ → Bool). f k) ci ∙ h;
-  sact = λ k h. ap (λ (f : ℕ → Bool). f k) sact ∙ h;
+  bases_are_kept = bases;
+  st_stays_clear = λ h. st ∙ h;
+  fre_stays_clear = λ h. fre ∙ h;
+  cr_stays_clear = λ h. cr ∙ h;
+  fr_stays_clear = λ h. fr ∙ h;
+  ci_stays_clear = λ k h. ap (λ (f : ℕ → Bool). f k) ci ∙ h;
+  sact_stays_clear = λ k h. ap (λ (f : ℕ → Bool). f k) sact ∙ h;
   stays_without_commands = λ quiet. true-false running quiet;
   fall_drops_commands = λ ran quiet. true-false ran (sym cr ∙ quiet);
   slots_stay_free = λ k unset none. ap (λ (f : ℕ → Option FetchedCommand). f k) taken ∙ slot_keeps p slot (Some u) (λ _ n. some-none is n) k unset none;
@@ -123,70 +123,70 @@ worked p slot t u new running is (bases, st, fre, cr, fr, ci, sact, taken) = rec
 
 -- ---- one step, at its port
 
-module _ (d : Device) (port : ℕ) (new : DevicePort) (keeps : KeepsPort (d.port port) new) (controls : KeepsControls (d.port port) new) (same : new.notes ≡ (d.port port).notes) where
-  ports : (q : ℕ) → KeepsPort (d.port q) (changed d.port port new q)
-  ports = changed_each d.port port new (λ q p. KeepsPort (d.port q) p) keeps (λ q. KeepsPort-refl (d.port q))
+module _ (d : Device) (port : ℕ) (new : DevicePort) (keeps : PortBitsOnlyFall (d.port port) new) (controls : KeepsControlsFlagsRise (d.port port) new) (same : new.notes ≡ (d.port port).notes) where
+  ports : (q : ℕ) → PortBitsOnlyFall (d.port q) (changed d.port port new q)
+  ports = changed_each d.port port new (λ q p. PortBitsOnlyFall (d.port q) p) keeps (λ q. PortBitsOnlyFall-refl (d.port q))
 
-  all_controls : (q : ℕ) → KeepsControls (d.port q) (changed d.port port new q)
-  all_controls = changed_each d.port port new (λ q p. KeepsControls (d.port q) p) controls (λ q. KeepsControls-refl (d.port q))
+  all_controls : (q : ℕ) → KeepsControlsFlagsRise (d.port q) (changed d.port port new q)
+  all_controls = changed_each d.port port new (λ q p. KeepsControlsFlagsRise (d.port q) p) controls (λ q. KeepsControlsFlagsRise-refl (d.port q))
 
   all_notes : (q : ℕ) → (changed d.port port new q).notes ≡ (d.port q).notes
   all_notes = changed_each d.port port new (λ q p. p.notes ≡ (d.port q).notes) same (λ q. refl)
 
   -- one port changes, and the tape and memory with it
   keeps_recorded : (memory : ℕ → ℕ) (gained : List Entry) →
-      Keeps d (record d { memory = memory; port = changed d.port port new; tape = d.tape ++ gained })
+      KeepsOverSteps d (record d { memory = memory; port = changed d.port port new; tape = d.tape ++ gained })
   keeps_recorded memory gained = record {
-    telling = refl;
-    size = refl;
-    cap = refl;
-    pi = refl;
+    telling_is_kept = refl;
+    memory_size_is_kept = refl;
+    cap_is_kept = refl;
+    pi_is_kept = refl;
     ports_are_kept = ports;
     notes_are_kept = all_notes;
     new_entries = gained;
     tape_grows = refl;
-    keeps_outside_reset = λ h. record { no_reset = h; ae = refl; ie = refl; controls = all_controls };
+    keeps_outside_reset = λ h. record { no_reset = h; ae_is_kept = refl; ie_is_kept = refl; controls_are_kept = all_controls };
   }
 
-  keeps_quiet : Keeps d (with_port d port new)
+  keeps_quiet : KeepsOverSteps d (with_port d port new)
   keeps_quiet = record {
-    telling = refl;
-    size = refl;
-    cap = refl;
-    pi = refl;
+    telling_is_kept = refl;
+    memory_size_is_kept = refl;
+    cap_is_kept = refl;
+    pi_is_kept = refl;
     ports_are_kept = ports;
     notes_are_kept = all_notes;
     new_entries = [];
     tape_grows = sym (append-nil d.tape);
-    keeps_outside_reset = λ h. record { no_reset = h; ae = refl; ie = refl; controls = all_controls };
+    keeps_outside_reset = λ h. record { no_reset = h; ae_is_kept = refl; ie_is_kept = refl; controls_are_kept = all_controls };
   }
 
-pub Keeps-refl : (d : Device) → Keeps d d
+pub Keeps-refl : (d : Device) → KeepsOverSteps d d
 Keeps-refl d = record {
-  telling = refl;
-  size = refl;
-  cap = refl;
-  pi = refl;
-  ports_are_kept = λ q. KeepsPort-refl (d.port q);
+  telling_is_kept = refl;
+  memory_size_is_kept = refl;
+  cap_is_kept = refl;
+  pi_is_kept = refl;
+  ports_are_kept = λ q. PortBitsOnlyFall-refl (d.port q);
   notes_are_kept = λ q. refl;
   new_entries = [];
   tape_grows = sym (append-nil d.tape);
-  keeps_outside_reset = λ h. record { no_reset = h; ae = refl; ie = refl; controls = λ q. KeepsControls-refl (d.port q) };
+  keeps_outside_reset = λ h. record { no_reset = h; ae_is_kept = refl; ie_is_kept = refl; controls_are_kept = λ q. KeepsControlsFlagsRise-refl (d.port q) };
 }
 
-pub step_keeps : (step : DeviceTransition) (d : Device) → Can step d → Keeps d (device_after step d)
+pub step_keeps : (step : DeviceTransition) (d : Device) → Can step d → KeepsOverSteps d (device_after step d)
 step_keeps (Fetch port slot meaning places) d can =
     let p : DevicePort = d.port port in
     keeps_quiet d port _
     (record {
-      bases = refl;
-      st = λ h. h;
-      fre = λ h. h;
-      cr = λ h. h;
-      fr = λ h. h;
-      ci = λ k h. fall_if (is_queued meaning.operation) p.ci slot k h;
-      sact = λ k h. h;
-      stays_without_commands = λ quiet. true-false can.working.running quiet;
+      bases_are_kept = refl;
+      st_stays_clear = λ h. h;
+      fre_stays_clear = λ h. h;
+      cr_stays_clear = λ h. h;
+      fr_stays_clear = λ h. h;
+      ci_stays_clear = λ k h. fall_if (is_queued meaning.operation) p.ci slot k h;
+      sact_stays_clear = λ k h. h;
+      stays_without_commands = λ quiet. true-false can.working.cr_is_set quiet;
       fall_drops_commands = λ ran quiet. true-false ran quiet;
       slots_stay_free = slot_keeps p slot _ (λ unset _. true-false can.fetchable.issued unset);
     })
@@ -195,21 +195,21 @@ step_keeps (Fetch port slot meaning places) d can =
 step_keeps (FetchFault port slot queued kept_bits) d can =
     keeps_recorded d port _ (still _ _ (same_engine (d.port port))) (flagged (d.port port) 30 _ (same_controls (record (d.port port) { is = changed (d.port port).is 30 true }))) refl d.memory _
 step_keeps (Move port slot t bytes) d can =
-    keeps_recorded d port _ (worked (d.port port) slot t _ _ can.works.working.running can.works.taken (same_engine (record (d.port port) { taken = changed (d.port port).taken slot (Some _) }))) (calm _ _ (same_controls (d.port port))) refl _ _
+    keeps_recorded d port _ (worked (d.port port) slot t _ _ can.works.working.cr_is_set can.works.taken (same_engine (record (d.port port) { taken = changed (d.port port).taken slot (Some _) }))) (calm _ _ (same_controls (d.port port))) refl _ _
 step_keeps (Clear port slot t first count) d can =
-    keeps_recorded d port _ (worked (d.port port) slot t _ _ can.works.working.running can.works.taken (same_engine (record (d.port port) { taken = changed (d.port port).taken slot (Some _) }))) (calm _ _ (same_controls (d.port port))) refl d.memory _
+    keeps_recorded d port _ (worked (d.port port) slot t _ _ can.works.working.cr_is_set can.works.taken (same_engine (record (d.port port) { taken = changed (d.port port).taken slot (Some _) }))) (calm _ _ (same_controls (d.port port))) refl d.memory _
 step_keeps (Done port slot flag t) d can =
     let p : DevicePort = d.port port in
     keeps_recorded d port _
     (record {
-      bases = refl;
-      st = λ h. h;
-      fre = λ h. h;
-      cr = λ h. h;
-      fr = λ h. h;
-      ci = λ k h. fall_unless (is_queued t.meaning.operation) p.ci slot k h;
-      sact = λ k h. fall_if (is_queued t.meaning.operation) p.sact slot k h;
-      stays_without_commands = λ quiet. true-false can.works.working.running quiet;
+      bases_are_kept = refl;
+      st_stays_clear = λ h. h;
+      fre_stays_clear = λ h. h;
+      cr_stays_clear = λ h. h;
+      fr_stays_clear = λ h. h;
+      ci_stays_clear = λ k h. fall_unless (is_queued t.meaning.operation) p.ci slot k h;
+      sact_stays_clear = λ k h. fall_if (is_queued t.meaning.operation) p.sact slot k h;
+      stays_without_commands = λ quiet. true-false can.works.working.cr_is_set quiet;
       fall_drops_commands = λ ran quiet. true-false ran quiet;
       slots_stay_free = slot_keeps p slot None (λ _ _. refl);
     })
@@ -222,39 +222,39 @@ step_keeps (Fatal port place) d can =
 step_keeps (Fall port) d can =
     keeps_quiet d port _
     (record {
-      bases = refl;
-      st = λ h. h;
-      fre = λ h. h;
-      cr = λ _. refl;
-      fr = λ h. h;
-      ci = λ k h. h;
-      sact = λ k h. h;
+      bases_are_kept = refl;
+      st_stays_clear = λ h. h;
+      fre_stays_clear = λ h. h;
+      cr_stays_clear = λ _. refl;
+      fr_stays_clear = λ h. h;
+      ci_stays_clear = λ k h. h;
+      sact_stays_clear = λ k h. h;
       stays_without_commands = λ quiet none slot. refl;
       fall_drops_commands = λ ran quiet slot. refl;
       slots_stay_free = λ slot unset none. refl;
     })
     (record {
-      st = refl;
-      fre = refl;
-      sctl_det = refl;
-      ie = refl;
-      is = λ k h. h;
-      ips = refl;
-      serr_n = λ h. h;
-      serr_x = λ h. h;
+      st_is_kept = refl;
+      fre_is_kept = refl;
+      sctl_det_is_kept = refl;
+      ie_is_kept = refl;
+      causes_stay_set = λ k h. h;
+      ips_is_kept = refl;
+      serr_n_stays_set = λ h. h;
+      serr_x_stays_set = λ h. h;
       engine_stays_running = λ st ran. true-false st can.0;
     })
     refl
 step_keeps (FrFall port) d can =
     keeps_quiet d port _
     (record {
-      bases = refl;
-      st = λ h. h;
-      fre = λ h. h;
-      cr = λ h. h;
-      fr = λ _. refl;
-      ci = λ k h. h;
-      sact = λ k h. h;
+      bases_are_kept = refl;
+      st_stays_clear = λ h. h;
+      fre_stays_clear = λ h. h;
+      cr_stays_clear = λ h. h;
+      fr_stays_clear = λ _. refl;
+      ci_stays_clear = λ k h. h;
+      sact_stays_clear = λ k h. h;
       stays_without_commands = λ quiet none. none;
       fall_drops_commands = λ ran quiet. true-false ran quiet;
       slots_stay_free = λ slot unset none. none;
@@ -264,58 +264,58 @@ step_keeps (FrFall port) d can =
 step_keeps (LinkUp port sig n) d can =
     keeps_quiet d port _ (still _ _ (same_engine (d.port port)))
     (record {
-      st = refl;
-      fre = refl;
-      sctl_det = refl;
-      ie = refl;
-      is = λ k h. h;
-      ips = refl;
-      serr_n = or_keeps (d.port port).serr_n n;
-      serr_x = λ _. refl;
+      st_is_kept = refl;
+      fre_is_kept = refl;
+      sctl_det_is_kept = refl;
+      ie_is_kept = refl;
+      causes_stay_set = λ k h. h;
+      ips_is_kept = refl;
+      serr_n_stays_set = or_keeps (d.port port).serr_n n;
+      serr_x_stays_set = λ _. refl;
       engine_stays_running = λ st ran. ran;
     })
     refl
 step_keeps (Unplug port) d can =
     keeps_recorded d port _ (still _ _ (same_engine (d.port port)))
     (record {
-      st = refl;
-      fre = refl;
-      sctl_det = refl;
-      ie = refl;
-      is = λ k h. h;
-      ips = refl;
-      serr_n = λ _. refl;
-      serr_x = λ h. h;
+      st_is_kept = refl;
+      fre_is_kept = refl;
+      sctl_det_is_kept = refl;
+      ie_is_kept = refl;
+      causes_stay_set = λ k h. h;
+      ips_is_kept = refl;
+      serr_n_stays_set = λ _. refl;
+      serr_x_stays_set = λ h. h;
       engine_stays_running = λ st ran. ran;
     })
     refl d.memory _
 step_keeps (Plug port disk) d can =
     keeps_recorded d port _ (still _ _ (same_engine (d.port port)))
     (record {
-      st = refl;
-      fre = refl;
-      sctl_det = refl;
-      ie = refl;
-      is = λ k h. h;
-      ips = refl;
-      serr_n = λ _. refl;
-      serr_x = λ _. refl;
+      st_is_kept = refl;
+      fre_is_kept = refl;
+      sctl_det_is_kept = refl;
+      ie_is_kept = refl;
+      causes_stay_set = λ k h. h;
+      ips_is_kept = refl;
+      serr_n_stays_set = λ _. refl;
+      serr_x_stays_set = λ _. refl;
       engine_stays_running = λ st ran. ran;
     })
     refl d.memory _
 step_keeps ResetEnds d can = record {
-  telling = refl;
-  size = refl;
-  cap = refl;
-  pi = refl;
+  telling_is_kept = refl;
+  memory_size_is_kept = refl;
+  cap_is_kept = refl;
+  pi_is_kept = refl;
   ports_are_kept = λ q. record {
-    bases = refl;
-    st = λ _. refl;
-    fre = λ _. refl;
-    cr = λ _. refl;
-    fr = λ _. refl;
-    ci = λ k _. refl;
-    sact = λ k _. refl;
+    bases_are_kept = refl;
+    st_stays_clear = λ _. refl;
+    fre_stays_clear = λ _. refl;
+    cr_stays_clear = λ _. refl;
+    fr_stays_clear = λ _. refl;
+    ci_stays_clear = λ k _. refl;
+    sact_stays_clear = λ k _. refl;
     stays_without_commands = λ quiet none slot. refl;
     fall_drops_commands = λ ran quiet slot. refl;
     slots_stay_free = λ slot unset none. refl;
@@ -326,77 +326,77 @@ step_keeps ResetEnds d can = record {
   keeps_outside_reset = λ h. true-false can h;
 }
 step_keeps (Scribble port slot at bytes) d can = record {
-  telling = refl;
-  size = refl;
-  cap = refl;
-  pi = refl;
-  ports_are_kept = λ q. KeepsPort-refl (d.port q);
+  telling_is_kept = refl;
+  memory_size_is_kept = refl;
+  cap_is_kept = refl;
+  pi_is_kept = refl;
+  ports_are_kept = λ q. PortBitsOnlyFall-refl (d.port q);
   notes_are_kept = λ q. refl;
   new_entries = [];
   tape_grows = sym (append-nil d.tape);
-  keeps_outside_reset = λ h. record { no_reset = h; ae = refl; ie = refl; controls = λ q. KeepsControls-refl (d.port q) };
+  keeps_outside_reset = λ h. record { no_reset = h; ae_is_kept = refl; ie_is_kept = refl; controls_are_kept = λ q. KeepsControlsFlagsRise-refl (d.port q) };
 }
 
 -- ---- lists of steps
 
-module _ {old mid new : DevicePort} (a : KeepsPort old mid) (b : KeepsPort mid new) where
+module _ {old mid new : DevicePort} (a : PortBitsOnlyFall old mid) (b : PortBitsOnlyFall mid new) where
   -- CR fell in the first part or in the second
   fell_between : (cr : Bool) → mid.cr ≡ cr → old.cr ≡ true → new.cr ≡ false → (slot : ℕ) → new.taken slot ≡ None
   fell_between true is ran quiet = b.fall_drops_commands is quiet
   fell_between false is ran quiet = b.stays_without_commands is (a.fall_drops_commands ran is)
 
-  pub KeepsPort-trans : KeepsPort old new
-  KeepsPort-trans = record {
-    bases = b.bases ∙ a.bases;
-    st = λ h. b.st (a.st h);
-    fre = λ h. b.fre (a.fre h);
-    cr = λ h. b.cr (a.cr h);
-    fr = λ h. b.fr (a.fr h);
-    ci = λ k h. b.ci k (a.ci k h);
-    sact = λ k h. b.sact k (a.sact k h);
-    stays_without_commands = λ quiet none. b.stays_without_commands (a.cr quiet) (a.stays_without_commands quiet none);
+  pub PortBitsOnlyFall-trans : PortBitsOnlyFall old new
+  PortBitsOnlyFall-trans = record {
+    bases_are_kept = b.bases_are_kept ∙ a.bases_are_kept;
+    st_stays_clear = λ h. b.st_stays_clear (a.st_stays_clear h);
+    fre_stays_clear = λ h. b.fre_stays_clear (a.fre_stays_clear h);
+    cr_stays_clear = λ h. b.cr_stays_clear (a.cr_stays_clear h);
+    fr_stays_clear = λ h. b.fr_stays_clear (a.fr_stays_clear h);
+    ci_stays_clear = λ k h. b.ci_stays_clear k (a.ci_stays_clear k h);
+    sact_stays_clear = λ k h. b.sact_stays_clear k (a.sact_stays_clear k h);
+    stays_without_commands = λ quiet none. b.stays_without_commands (a.cr_stays_clear quiet) (a.stays_without_commands quiet none);
     fall_drops_commands = λ ran quiet. fell_between mid.cr refl ran quiet;
-    slots_stay_free = λ slot unset none. b.slots_stay_free slot (a.ci slot unset) (a.slots_stay_free slot unset none);
+    slots_stay_free = λ slot unset none. b.slots_stay_free slot (a.ci_stays_clear slot unset) (a.slots_stay_free slot unset none);
   }
 
-pub KeepsControls-trans : {old mid new : DevicePort} → KeepsControls old mid → KeepsControls mid new → KeepsControls old new
-KeepsControls-trans a b = record {
-  st = b.st ∙ a.st;
-  fre = b.fre ∙ a.fre;
-  sctl_det = b.sctl_det ∙ a.sctl_det;
-  ie = b.ie ∙ a.ie;
-  is = λ k h. b.is k (a.is k h);
-  ips = b.ips ∙ a.ips;
-  serr_n = λ h. b.serr_n (a.serr_n h);
-  serr_x = λ h. b.serr_x (a.serr_x h);
-  engine_stays_running = λ st ran. b.engine_stays_running (a.st ∙ st) (a.engine_stays_running st ran);
+pub KeepsControlsFlagsRise-trans : {old mid new : DevicePort} → KeepsControlsFlagsRise old mid → KeepsControlsFlagsRise mid new → KeepsControlsFlagsRise old new
+KeepsControlsFlagsRise-trans a b = record {
+  st_is_kept = b.st_is_kept ∙ a.st_is_kept;
+  fre_is_kept = b.fre_is_kept ∙ a.fre_is_kept;
+  sctl_det_is_kept = b.sctl_det_is_kept ∙ a.sctl_det_is_kept;
+  ie_is_kept = b.ie_is_kept ∙ a.ie_is_kept;
+  causes_stay_set = λ k h. b.causes_stay_set k (a.causes_stay_set k h);
+  ips_is_kept = b.ips_is_kept ∙ a.ips_is_kept;
+  serr_n_stays_set = λ h. b.serr_n_stays_set (a.serr_n_stays_set h);
+  serr_x_stays_set = λ h. b.serr_x_stays_set (a.serr_x_stays_set h);
+  engine_stays_running = λ st ran. b.engine_stays_running (a.st_is_kept ∙ st) (a.engine_stays_running st ran);
 }
 
 pub KeepsOutsideReset-trans : {old mid new : Device} → KeepsOutsideReset old mid → KeepsOutsideReset mid new → KeepsOutsideReset old new
 KeepsOutsideReset-trans a b = record {
   no_reset = b.no_reset;
-  ae = b.ae ∙ a.ae;
-  ie = b.ie ∙ a.ie;
-  controls = λ q. KeepsControls-trans (a.controls q) (b.controls q);
+  ae_is_kept = b.ae_is_kept ∙ a.ae_is_kept;
+  ie_is_kept = b.ie_is_kept ∙ a.ie_is_kept;
+  controls_are_kept = λ q. KeepsControlsFlagsRise-trans (a.controls_are_kept q) (b.controls_are_kept q);
 }
 
-pub Keeps-trans : {old mid new : Device} → Keeps old mid → Keeps mid new → Keeps old new
+pub Keeps-trans : {old mid new : Device} → KeepsOverSteps old mid → KeepsOverSteps mid new → KeepsOverSteps old new
 Keeps-trans {old} {mid} {new} a b = record {
-  telling = b.telling ∙ a.telling;
-  size = b.size ∙ a.size;
-  cap = b.cap ∙ a.cap;
-  pi = b.pi ∙ a.pi;
-  ports_are_kept = λ q. KeepsPort-trans (a.ports_are_kept q) (b.ports_are_kept q);
+  telling_is_kept = b.telling_is_kept ∙ a.telling_is_kept;
+  memory_size_is_kept = b.memory_size_is_kept ∙ a.memory_size_is_kept;
+  cap_is_kept = b.cap_is_kept ∙ a.cap_is_kept;
+  pi_is_kept = b.pi_is_kept ∙ a.pi_is_kept;
+  ports_are_kept = λ q. PortBitsOnlyFall-trans (a.ports_are_kept q) (b.ports_are_kept q);
   notes_are_kept = λ q. b.notes_are_kept q ∙ a.notes_are_kept q;
   new_entries = a.new_entries ++ b.new_entries;
   tape_grows = b.tape_grows ∙ (ap (λ t. t ++ b.new_entries) a.tape_grows ∙ append_assoc old.tape a.new_entries b.new_entries);
   keeps_outside_reset = λ h. let first : KeepsOutsideReset old mid = a.keeps_outside_reset h in KeepsOutsideReset-trans first (b.keeps_outside_reset first.no_reset);
 }
 
-leads_keeps : (steps : List DeviceTransition) (old new : Device) → TransitionsLead steps old new → Keeps old new
-leads_keeps [] old new e = let P : Device → Type 0 = λ d. Keeps old d in subst P (sym e) (Keeps-refl old)
+leads_keeps : (steps : List DeviceTransition) (old new : Device) → TransitionsLead steps old new → KeepsOverSteps old new
+leads_keeps [] old new e = let P : Device → Type 0 = λ d. KeepsOverSteps old d in subst P (sym e) (Keeps-refl old)
 leads_keeps (step ∷ steps) old new (can, rest) = Keeps-trans (step_keeps step old can) (leads_keeps steps (device_after step old) new rest)
 
 -- whatever the device does, it keeps this
-pub law_step_lists_keep_what_steps_keep : {old new : Device} → Steps old new → Keeps old new
+pub law_step_lists_keep_what_steps_keep : {old new : Device} → Steps old new → KeepsOverSteps old new
 law_step_lists_keep_what_steps_keep {old} {new} s = leads_keeps s.steps old new s.lead

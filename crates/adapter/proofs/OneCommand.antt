@@ -1,12 +1,12 @@
 -- An adapter without a command, and one with one, are guarded.
-use Rattle.ata_types.specs.declared.memory.TheConstants.{PRD_BYTES, TABLE_HEAD}
+use Rattle.ata_types.specs.declared.memory.TheConstants.{PRD_BYTES, TABLE_HEAD_BYTES}
 use Rattle.std.proofs.Common.{ℕ, zero, suc, ◌≡◌, ◌<◌, ◌≤◌, ◌+◌, ◌*◌, ◌||◌, not, Bool, true, false, List, [], ◌∷◌, length, slice_index, refl, sym, ◌∙◌, ap, subst, arith, inl, inr}
 use Rattle.std.proofs.lemmas.Bool.{cases_eq, cases_lt, le-leb, lt-ltb}
 use Rattle.adapter.specs.Device.{DevicePort, Device}
 use Rattle.adapter.specs.Idle.{IsIdle, IsIdlePort}
 use Rattle.adapter.specs.Rules.{InUse, InDataBlocks, IsUnowned, IsStable}
 use Rattle.adapter.specs.Guarded.{PassesTest, MissesRange, MissesPieces, IsGuardedSlot, IsGuardedPort, IsGuarded}
-use Rattle.adapter.specs.OneCommand.{CommandLayout, is_in_span, is_in_pieces, is_read_only, is_written, is_unwritten, IsFreeSlot, layout_of, HasOneCommand, NoneHasCommand, IsElsewhere}
+use Rattle.adapter.specs.OneCommand.{CommandLayout, is_in_span, is_in_pieces, is_read_only, is_device_writable, is_not_device_writable, IsFreeSlot, layout_of, HasOneCommand, NoneHasCommand, IsOutsideCommand}
 use Rattle.adapter.proofs.Absurd.{true-false, some-none}
 use Rattle.adapter.proofs.Free.{apart_free_stays}
 
@@ -41,44 +41,44 @@ third_of a b c h = or_two (a || b) c h
 
 module _ (s : CommandLayout) (at : ℕ) where
   reads_head : s.header ≤ at → at < s.header + 4 → is_read_only s at ≡ true
-  reads_head low high = first_of (is_in_span s.header 4 at) (is_in_span (s.header + 8) 24 at) (is_in_span s.table (TABLE_HEAD + PRD_BYTES * s.entries) at) (is_from_yes s.header 4 at low high)
+  reads_head low high = first_of (is_in_span s.header 4 at) (is_in_span (s.header + 8) 24 at) (is_in_span s.table (TABLE_HEAD_BYTES + PRD_BYTES * s.prd_count) at) (is_from_yes s.header 4 at low high)
 
   reads_rest : s.header + 8 ≤ at → at < s.header + 32 → is_read_only s at ≡ true
-  reads_rest low high = second_of (is_in_span s.header 4 at) (is_in_span (s.header + 8) 24 at) (is_in_span s.table (TABLE_HEAD + PRD_BYTES * s.entries) at) (is_from_yes (s.header + 8) 24 at low (omega (arith, high)))
+  reads_rest low high = second_of (is_in_span s.header 4 at) (is_in_span (s.header + 8) 24 at) (is_in_span s.table (TABLE_HEAD_BYTES + PRD_BYTES * s.prd_count) at) (is_from_yes (s.header + 8) 24 at low (omega (arith, high)))
 
-  reads_table : s.table ≤ at → at < s.table + TABLE_HEAD + PRD_BYTES * s.entries → is_read_only s at ≡ true
-  reads_table low high = third_of (is_in_span s.header 4 at) (is_in_span (s.header + 8) 24 at) (is_in_span s.table (TABLE_HEAD + PRD_BYTES * s.entries) at) (is_from_yes s.table (TABLE_HEAD + PRD_BYTES * s.entries) at low (omega (arith, high)))
+  reads_table : s.table ≤ at → at < s.table + TABLE_HEAD_BYTES + PRD_BYTES * s.prd_count → is_read_only s at ≡ true
+  reads_table low high = third_of (is_in_span s.header 4 at) (is_in_span (s.header + 8) 24 at) (is_in_span s.table (TABLE_HEAD_BYTES + PRD_BYTES * s.prd_count) at) (is_from_yes s.table (TABLE_HEAD_BYTES + PRD_BYTES * s.prd_count) at low (omega (arith, high)))
 
-  writes_count : s.header + 4 ≤ at → at < s.header + 8 → is_written s at ≡ true
-  writes_count low high = first_of (is_in_span (s.header + 4) 4 at) (is_in_pieces s.places at) (is_in_span s.received 256 at) (is_from_yes (s.header + 4) 4 at low (omega (arith, high)))
+  writes_count : s.header + 4 ≤ at → at < s.header + 8 → is_device_writable s at ≡ true
+  writes_count low high = first_of (is_in_span (s.header + 4) 4 at) (is_in_pieces s.places at) (is_in_span s.received_fis_area 256 at) (is_from_yes (s.header + 4) 4 at low (omega (arith, high)))
 
-  writes_piece : InDataBlocks s.places at → is_written s at ≡ true
-  writes_piece w = second_of (is_in_span (s.header + 4) 4 at) (is_in_pieces s.places at) (is_in_span s.received 256 at) (is_of_pieces_yes s.places w.number at w.listed w.from w.to)
+  writes_piece : InDataBlocks s.places at → is_device_writable s at ≡ true
+  writes_piece w = second_of (is_in_span (s.header + 4) 4 at) (is_in_pieces s.places at) (is_in_span s.received_fis_area 256 at) (is_of_pieces_yes s.places w.number at w.number_in_range w.from w.to)
 
-  writes_area : s.received ≤ at → at < s.received + 256 → is_written s at ≡ true
-  writes_area low high = third_of (is_in_span (s.header + 4) 4 at) (is_in_pieces s.places at) (is_in_span s.received 256 at) (is_from_yes s.received 256 at low high)
+  writes_area : s.received_fis_area ≤ at → at < s.received_fis_area + 256 → is_device_writable s at ≡ true
+  writes_area low high = third_of (is_in_span (s.header + 4) 4 at) (is_in_pieces s.places at) (is_in_span s.received_fis_area 256 at) (is_from_yes s.received_fis_area 256 at low high)
 
 -- a byte that is written isn't unwritten
-written_not : {A : Type 0} (s : CommandLayout) (at : ℕ) → is_written s at ≡ true → is_unwritten s at ≡ true → A
+written_not : {A : Type 0} (s : CommandLayout) (at : ℕ) → is_device_writable s at ≡ true → is_not_device_writable s at ≡ true → A
 written_not s at w u = true-false u (ap not w)
 
 -- ---- ports with no command
 
 free_unused : {A : Type 0} (p : DevicePort) (slot : ℕ) → IsFreeSlot p slot → InUse p slot → A
-free_unused p slot f (inl set) = true-false set f.ci
-free_unused p slot f (inr (t, is)) = some-none is f.taken
+free_unused p slot f (inl set) = true-false set f.ci_is_clear
+free_unused p slot f (inr (t, is)) = some-none is f.is_not_taken
 
 port_unused : (Tables Kept : ℕ → Type 0) (memory : ℕ → ℕ) (p : DevicePort) → ((slot : ℕ) → IsFreeSlot p slot) →
     (p.fre ≡ true → MissesRange Kept p.bases.fb (p.bases.fb + 256)) → IsGuardedPort Tables Kept memory p
 port_unused Tables Kept memory p free area = record {
   slots_are_guarded = λ slot used. free_unused p slot (free slot) used;
-  taken_pieces_are_not_kept = λ slot t is. some-none is (free slot).taken;
+  taken_pieces_are_not_kept = λ slot t is. some-none is (free slot).is_not_taken;
   received_fis_is_not_kept = area;
 }
 
 port_idle : (Tables Kept : ℕ → Type 0) (memory : ℕ → ℕ) (p : DevicePort) → IsIdlePort p → IsGuardedPort Tables Kept memory p
 port_idle Tables Kept memory p i =
-    port_unused Tables Kept memory p (λ slot. record { ci = i.ci slot; taken = i.taken slot }) (λ fre. true-false fre i.fre)
+    port_unused Tables Kept memory p (λ slot. record { ci_is_clear = i.ci_is_clear slot; is_not_taken = i.none_is_taken slot }) (λ fre. true-false fre i.fre_is_clear)
 
 pub unused_guarded : (kept : ℕ → Bool) (d : Device) → NoneHasCommand d →
     ((port : ℕ) → (d.port port).fre ≡ true → MissesRange (PassesTest kept) (d.port port).bases.fb ((d.port port).bases.fb + 256)) →
@@ -94,14 +94,14 @@ idle_guarded kept d i = record {
   ports_are_guarded = λ q. port_idle (PassesTest (λ _. false)) (PassesTest kept) d.memory (d.port q) (i.ports_are_idle q);
 }
 
-pub idle_free : (at n : ℕ) (d : Device) → IsIdle d → at + n ≤ d.size → IsStable (IsUnowned at n) d
+pub idle_free : (at n : ℕ) (d : Device) → IsIdle d → at + n ≤ d.memory_size → IsStable (IsUnowned at n) d
 idle_free at n d i inside =
     apart_free_stays (PassesTest (λ _. false)) (PassesTest (λ _. true)) at n d (idle_guarded (λ _. true) d i)
     (record {
       inside = inside;
       kept = λ a low high. refl;
       no_table = λ a low high table. true-false table refl;
-      no_header = λ q slot a used low high from to. free_unused (d.port q) slot (record { ci = (i.ports_are_idle q).ci slot; taken = (i.ports_are_idle q).taken slot }) used;
+      no_header = λ q slot a used low high from to. free_unused (d.port q) slot (record { ci_is_clear = (i.ports_are_idle q).ci_is_clear slot; is_not_taken = (i.ports_are_idle q).none_is_taken slot }) used;
     })
 
 -- ---- one command
@@ -114,7 +114,7 @@ module _ (d : Device) (port slot : ℕ) (c : HasOneCommand d port slot) where
   Tables = PassesTest (is_read_only s)
 
   abbrev Kept : ℕ → Type 0
-  Kept = PassesTest (is_unwritten s)
+  Kept = PassesTest (is_not_device_writable s)
 
   places_avoid : MissesPieces Kept c.command.places
   places_avoid at kept in_places = written_not s at (writes_piece s at in_places) kept
@@ -128,7 +128,7 @@ module _ (d : Device) (port slot : ℕ) (c : HasOneCommand d port slot) where
     header_end_is_table = λ at low high. reads_rest s at low high;
     table_is_guarded = λ at low high. reads_table s at low high;
     prdbc_is_not_kept = λ at low high kept. written_not s at (writes_count s at low high) kept;
-    places_avoid = places_avoid;
+    pieces_are_not_kept = places_avoid;
   }
 
   port_guarded : IsGuardedPort Tables Kept d.memory (d.port port)
@@ -138,19 +138,19 @@ module _ (d : Device) (port slot : ℕ) (c : HasOneCommand d port slot) where
           | inl e ↦
               let P : ℕ → Type 0 = λ n. IsGuardedSlot Tables Kept d.memory (d.port port).bases.clb n in
               subst P (sym e) command_guarded
-          | inr ne ↦ free_unused (d.port port) k (c.other_slots k ne) used
+          | inr ne ↦ free_unused (d.port port) k (c.other_slots_are_free k ne) used
         ];
     taken_pieces_are_not_kept = λ k t is.
         elim (cases_eq k slot) [
           | inl e ↦
               let P : List ℕ → Type 0 = λ places. MissesPieces Kept places in
-              subst P (sym (c.taken t (ap (d.port port).taken (sym e) ∙ is))) places_avoid
-          | inr ne ↦ some-none is (c.other_slots k ne).taken
+              subst P (sym (c.taken_has_these_places t (ap (d.port port).taken (sym e) ∙ is))) places_avoid
+          | inr ne ↦ some-none is (c.other_slots_are_free k ne).is_not_taken
         ];
     received_fis_is_not_kept = λ fre at low high kept. written_not s at (writes_area s at low high) kept;
   }
 
-  pub command_is_guarded : IsGuarded (PassesTest (is_read_only (layout_of d port slot c.command))) (PassesTest (is_unwritten (layout_of d port slot c.command))) d
+  pub command_is_guarded : IsGuarded (PassesTest (is_read_only (layout_of d port slot c.command))) (PassesTest (is_not_device_writable (layout_of d port slot c.command))) d
   command_is_guarded = record {
     tables_are_kept = c.reads_apart_from_writes;
     ports_are_guarded = λ q.
@@ -158,7 +158,7 @@ module _ (d : Device) (port slot : ℕ) (c : HasOneCommand d port slot) where
           | inl e ↦
               let P : ℕ → Type 0 = λ n. IsGuardedPort Tables Kept d.memory (d.port n) in
               subst P (sym e) port_guarded
-          | inr ne ↦ port_idle Tables Kept d.memory (d.port q) (c.other_ports q ne)
+          | inr ne ↦ port_idle Tables Kept d.memory (d.port q) (c.other_ports_are_idle q ne)
         ];
   }
 
@@ -167,24 +167,24 @@ module _ (d : Device) (port slot : ℕ) (c : HasOneCommand d port slot) where
   or_none false b h k = k refl h
 
   -- a byte of the header is read alone or written
-  in_header : (at : ℕ) → s.header ≤ at → at < s.header + 32 → is_read_only s at || is_written s at ≡ true
+  in_header : (at : ℕ) → s.header ≤ at → at < s.header + 32 → is_read_only s at || is_device_writable s at ≡ true
   in_header at low high =
       elim (cases_lt at (s.header + 4)) [
-        | inl first ↦ or_one (is_read_only s at) (is_written s at) (reads_head s at low first)
+        | inl first ↦ or_one (is_read_only s at) (is_device_writable s at) (reads_head s at low first)
         | inr more ↦
             elim (cases_lt at (s.header + 8)) [
-              | inl count ↦ or_two (is_read_only s at) (is_written s at) (writes_count s at more count)
-              | inr rest ↦ or_one (is_read_only s at) (is_written s at) (reads_rest s at rest high)
+              | inl count ↦ or_two (is_read_only s at) (is_device_writable s at) (writes_count s at more count)
+              | inr rest ↦ or_one (is_read_only s at) (is_device_writable s at) (reads_rest s at rest high)
             ]
       ]
 
-  pub elsewhere_free : (at n : ℕ) → IsElsewhere (layout_of d port slot c.command) at n d → IsStable (IsUnowned at n) d
+  pub elsewhere_free : (at n : ℕ) → IsOutsideCommand (layout_of d port slot c.command) at n d → IsStable (IsUnowned at n) d
   elsewhere_free at n e =
       apart_free_stays Tables Kept at n d command_is_guarded
       (record {
         inside = e.inside;
-        kept = λ a low high. or_none (is_read_only s a) (is_written s a) (e.elsewhere a low high) (λ r w. ap not w);
-        no_table = λ a low high table. or_none (is_read_only s a) (is_written s a) (e.elsewhere a low high) (λ r w. true-false table r);
+        kept = λ a low high. or_none (is_read_only s a) (is_device_writable s a) (e.elsewhere a low high) (λ r w. ap not w);
+        no_table = λ a low high table. or_none (is_read_only s a) (is_device_writable s a) (e.elsewhere a low high) (λ r w. true-false table r);
         no_header = λ q k a used low high from to.
             elim (cases_eq q port) [
               | inl same ↦
@@ -194,9 +194,9 @@ module _ (d : Device) (port slot : ℕ) (c : HasOneCommand d port slot) where
                         true-false (in_header a (omega (arith, clb, it, from)) (omega (arith, clb, it, to))) (e.elsewhere a low high)
                     | inr ne ↦
                         let P : ℕ → Type 0 = λ n. InUse (d.port n) k in
-                        free_unused (d.port port) k (c.other_slots k ne) (subst P same used)
+                        free_unused (d.port port) k (c.other_slots_are_free k ne) (subst P same used)
                   ]
               | inr ne ↦
-                  free_unused (d.port q) k (record { ci = (c.other_ports q ne).ci k; taken = (c.other_ports q ne).taken k }) used
+                  free_unused (d.port q) k (record { ci_is_clear = (c.other_ports_are_idle q ne).ci_is_clear k; is_not_taken = (c.other_ports_are_idle q ne).none_is_taken k }) used
             ];
       })

@@ -13,12 +13,12 @@ use Rattle.hba_regs.specs.declared.reg.Reg.TheVariants.{Cap, Ghc, Pi, Vs, Cap2, 
 use Rattle.hba_regs.specs.declared.reg.Reg.TheVariants as adapter
 use Rattle.hba_regs.specs.declared.reg.PortReg.{PortReg}
 use Rattle.hba_regs.specs.declared.reg.PortReg.TheVariants.{Clb, Clbu, Fb, Fbu, Is, Ie, Cmd, Tfd, Sig, Ssts, Sctl, Serr, Sact, Ci}
-use Rattle.adapter.specs.Access.{Access, ShowsPending, Does, DoesAll, Reads, Writes, causes, is_cause, is_pending, named_causes, noted, port_after_write, raises, raises_interrupt, shown_interrupt, port_after_hba_is_write, port_after_st_write, written}
+use Rattle.adapter.specs.Access.{Access, ShowsPending, Does, DoesAll, Reads, Writes, named_cause_bits, is_named_cause, is_pending, named_causes_mask, device_after_reading, port_after_write, raises_cause, raises_interrupt, shown_interrupt, port_after_hba_is_write, port_after_st_write, device_after_write}
 use Rattle.adapter.specs.Access.Access.{Reading, Writing, Loading, Storing}
 use Rattle.adapter.specs.Device.{DevicePort, Device}
-use Rattle.adapter.specs.KeptBySteps.{KeepsControls}
+use Rattle.adapter.specs.KeptBySteps.{KeepsControlsFlagsRise}
 use Rattle.adapter.specs.Memory.{changed}
-use Rattle.adapter.specs.PendingInterrupts.{LeavesIe, KeepsIsBit, SetsCause, EnablesAllCauses, interrupting_port}
+use Rattle.adapter.specs.PendingInterrupts.{LeavesIe, KeepsIsBit, SetsCause, EnablesNamedCauses, interrupting_port}
 use Rattle.adapter.specs.Rules.{HasPort}
 use Rattle.adapter.specs.Steps.{DeviceTransition, Can, device_after, clear_entry, done_entry, fault_entry, TransitionsLead, move_of, halt_after_start, Steps}
 use Rattle.adapter.specs.Steps.DeviceTransition.{Fetch, FetchFault, Move, Clear, Done, Fault, Fatal, Fall, FrFall, LinkUp, Unplug, Plug, ResetEnds, Scribble}
@@ -32,7 +32,7 @@ use Rattle.adapter.specs.declared.tape.Entry.TheVariants as entry
 
 -- what holds of each of the nine holds of each cause
 module _ (P : ℕ → Type 0) (dhrs : P 0) (pss : P 1) (sdbs : P 3) (pcs : P 6) (prcs : P 22) (ifs : P 27) (hbds : P 28) (hbfs : P 29) (tfes : P 30) where
-  pub named_each : (place : ℕ) → is_cause place ≡ true → P place
+  pub named_each : (place : ℕ) → is_named_cause place ≡ true → P place
   named_each place is =
       ⊎_elim (λ m. ⊎_elim (λ m. ⊎_elim (λ m. ⊎_elim (λ m. ⊎_elim (at 0 dhrs)
       (at 1 pss) (or_cases _ _ m))
@@ -78,38 +78,38 @@ each_below f (suc n) h k small =
     let both = and_parts (f n) (all_below f n) h in
     ⊎_elim (λ e. subst (λ (m : ℕ). f m ≡ true) (sym e) both.0) (λ e. each_below f n both.1 k (omega (arith, small, e))) (cases_eq k n)
 
-pub named_exactly : (place : ℕ) → place < 32 → bit named_causes place ≡ is_cause place
+pub named_exactly : (place : ℕ) → place < 32 → bit named_causes_mask place ≡ is_named_cause place
 unfolding alike all_below
-named_exactly place small = alike_same (bit named_causes place) (is_cause place) (each_below (λ k. alike (bit named_causes k) (is_cause k)) 32 refl place small)
+named_exactly place small = alike_same (bit named_causes_mask place) (is_named_cause place) (each_below (λ k. alike (bit named_causes_mask k) (is_named_cause k)) 32 refl place small)
 
-pub named_enabled : (place : ℕ) → is_cause place ≡ true → bit named_causes place ≡ true
-named_enabled = named_each (λ place. bit named_causes place ≡ true) refl refl refl refl refl refl refl refl refl
+pub named_enabled : (place : ℕ) → is_named_cause place ≡ true → bit named_causes_mask place ≡ true
+named_enabled = named_each (λ place. bit named_causes_mask place ≡ true) refl refl refl refl refl refl refl refl refl
 
-named_raises : (f : ℕ → Bool) (place : ℕ) → is_cause place ≡ true → f place ≡ true → list_any f causes ≡ true
-named_raises f = named_each (λ place. f place ≡ true → list_any f causes ≡ true)
-    (list_any_at f causes 0 0 (omega arith))
-    (list_any_at f causes 1 0 (omega arith))
-    (list_any_at f causes 2 0 (omega arith))
-    (list_any_at f causes 3 0 (omega arith))
-    (list_any_at f causes 4 0 (omega arith))
-    (list_any_at f causes 5 0 (omega arith))
-    (list_any_at f causes 6 0 (omega arith))
-    (list_any_at f causes 7 0 (omega arith))
-    (list_any_at f causes 8 0 (omega arith))
+named_raises : (f : ℕ → Bool) (place : ℕ) → is_named_cause place ≡ true → f place ≡ true → list_any f named_cause_bits ≡ true
+named_raises f = named_each (λ place. f place ≡ true → list_any f named_cause_bits ≡ true)
+    (list_any_at f named_cause_bits 0 0 (omega arith))
+    (list_any_at f named_cause_bits 1 0 (omega arith))
+    (list_any_at f named_cause_bits 2 0 (omega arith))
+    (list_any_at f named_cause_bits 3 0 (omega arith))
+    (list_any_at f named_cause_bits 4 0 (omega arith))
+    (list_any_at f named_cause_bits 5 0 (omega arith))
+    (list_any_at f named_cause_bits 6 0 (omega arith))
+    (list_any_at f named_cause_bits 7 0 (omega arith))
+    (list_any_at f named_cause_bits 8 0 (omega arith))
 
 -- a list of tests, each of which passes where another does
 any_more : (f g : ℕ → Bool) → ((k : ℕ) → f k ≡ true → g k ≡ true) → (ks : List ℕ) → list_any f ks ≡ true → list_any g ks ≡ true
 any_more f g more [] h = h
 any_more f g more (k ∷ ks) h = ⊎_elim (λ x. or_left (g k) (list_any g ks) (more k x)) (λ x. or_right (g k) (list_any g ks) (any_more f g more ks x)) (or_cases (f k) (list_any f ks) h)
 
-pub shown_pends : (p : DevicePort) (place : ℕ) → is_cause place ≡ true → shown_interrupt p place ≡ true → bit p.ie place ≡ true → is_pending p ≡ true
-shown_pends p place is shown enabled = or_right p.ips (raises_interrupt p) (named_raises (raises p) place is (and_from _ _ shown enabled))
+pub shown_pends : (p : DevicePort) (place : ℕ) → is_named_cause place ≡ true → shown_interrupt p place ≡ true → bit p.ie place ≡ true → is_pending p ≡ true
+shown_pends p place is shown enabled = or_right p.ips_latched (raises_interrupt p) (named_raises (raises_cause p) place is (and_from _ _ shown enabled))
 
 -- ---- what was pending stays so, where no cause falls
 
 -- what raises an interrupt has not fallen
 record Rises (old new : DevicePort) : Type 0 where
-  ips : old.ips ≡ true → new.ips ≡ true
+  ips : old.ips_latched ≡ true → new.ips_latched ≡ true
   ie : new.ie ≡ old.ie
   is : (place : ℕ) → old.is place ≡ true → new.is place ≡ true
   serr_n : old.serr_n ≡ true → new.serr_n ≡ true
@@ -124,25 +124,25 @@ module _ (old new : DevicePort) (r : Rises old new) where
       by false true h = r.serr_n h
       by false false h = r.is place h
 
-  raises_on : (place : ℕ) → raises old place ≡ true → raises new place ≡ true
+  raises_on : (place : ℕ) → raises_cause old place ≡ true → raises_cause new place ≡ true
   raises_on place h =
       let both = and_parts (shown_interrupt old place) (bit old.ie place) h in
       and_from (shown_interrupt new place) (bit new.ie place) (shown_on place both.0) (ap (λ (n : ℕ). bit n place) r.ie ∙ both.1)
 
   pending_on : is_pending old ≡ true → is_pending new ≡ true
-  pending_on h = ⊎_elim (λ x. or_left new.ips (raises_interrupt new) (r.ips x)) (λ x. or_right new.ips (raises_interrupt new) (any_more (raises old) (raises new) raises_on causes x)) (or_cases old.ips (raises_interrupt old) h)
+  pending_on h = ⊎_elim (λ x. or_left new.ips_latched (raises_interrupt new) (r.ips x)) (λ x. or_right new.ips_latched (raises_interrupt new) (any_more (raises_cause old) (raises_cause new) raises_on named_cause_bits x)) (or_cases old.ips_latched (raises_interrupt old) h)
 
-controls_rise : (old new : DevicePort) → KeepsControls old new → Rises old new
-controls_rise old new k = record { ips = λ h. k.ips ∙ h; ie = k.ie; is = k.is; serr_n = k.serr_n; serr_x = k.serr_x }
+controls_rise : (old new : DevicePort) → KeepsControlsFlagsRise old new → Rises old new
+controls_rise old new k = record { ips = λ h. k.ips_is_kept ∙ h; ie = k.ie_is_kept; is = k.causes_stay_set; serr_n = k.serr_n_stays_set; serr_x = k.serr_x_stays_set }
 
 pub steps_pend : (port : ℕ) (old new : Device) → Steps old new → old.hr ≡ false → is_pending (old.port port) ≡ true → is_pending (new.port port) ≡ true
-steps_pend port old new s off = pending_on (old.port port) (new.port port) (controls_rise (old.port port) (new.port port) (((law_step_lists_keep_what_steps_keep s).keeps_outside_reset off).controls port))
+steps_pend port old new s off = pending_on (old.port port) (new.port port) (controls_rise (old.port port) (new.port port) (((law_step_lists_keep_what_steps_keep s).keeps_outside_reset off).controls_are_kept port))
 
 -- ---- a step that raises a cause
 
 module _ (d : Device) (its : ℕ) (new : DevicePort) where
   -- at the port where it is raised
-  here : (port place : ℕ) → port ≡ its → is_cause place ≡ true → shown_interrupt new place ≡ true → new.ie ≡ (d.port its).ie → bit (d.port port).ie place ≡ true → is_pending (changed d.port its new port) ≡ true
+  here : (port place : ℕ) → port ≡ its → is_named_cause place ≡ true → shown_interrupt new place ≡ true → new.ie ≡ (d.port its).ie → bit (d.port port).ie place ≡ true → is_pending (changed d.port its new port) ≡ true
   here port place at is shown same enabled =
       let P : ℕ → Type 0 = λ q. bit (d.port q).ie place ≡ true → is_pending (changed d.port its new q) ≡ true in
       subst P (sym at) (λ e. subst (λ (p : DevicePort). is_pending p ≡ true) (sym (changed_same d.port its new)) (shown_pends new place is shown (ap (λ (n : ℕ). bit n place) same ∙ e))) enabled
@@ -158,7 +158,7 @@ flag_shown p flag x n is same = by (nat_eq flag 6) (nat_eq flag 22) x n
 
 -- the causes that steps raise in PxIS itself
 record IsFlag (place : ℕ) : Type 0 where
-  cause : is_cause place ≡ true
+  cause : is_named_cause place ≡ true
   no_x : nat_eq place 6 ≡ false
   no_n : nat_eq place 22 ≡ false
 
@@ -177,8 +177,8 @@ fatal_flag place (inr e) = flag_of place 29 e (record { cause = refl; no_x = ref
 fault_flag : IsFlag 30
 fault_flag = record { cause = refl; no_x = refl; no_n = refl }
 
-its_cause : (place k : ℕ) → place ≡ k → is_cause k ≡ true → is_cause place ≡ true
-its_cause place k is = subst (λ (n : ℕ). is_cause n ≡ true) (sym is)
+its_cause : (place k : ℕ) → place ≡ k → is_named_cause k ≡ true → is_named_cause place ≡ true
+its_cause place k is = subst (λ (n : ℕ). is_named_cause n ≡ true) (sym is)
 
 module _ (d : Device) (its : ℕ) (new : DevicePort) where
   flag_raised : (port place flag : ℕ) → port ≡ its → place ≡ flag → IsFlag flag → new.is ≡ changed (d.port its).is flag true → new.ie ≡ (d.port its).ie → bit (d.port port).ie place ≡ true → is_pending (changed d.port its new port) ≡ true
@@ -212,7 +212,7 @@ raised_pends ResetEnds port place d can none = absurd none
 raised_pends (Scribble p slot at bytes) port place d can none = absurd none
 
 -- what a step raises is one of the causes that are named
-pub raised_named : (step : DeviceTransition) (port place : ℕ) (d : Device) → Can step d → SetsCause step port place → is_cause place ≡ true
+pub raised_named : (step : DeviceTransition) (port place : ℕ) (d : Device) → Can step d → SetsCause step port place → is_named_cause place ≡ true
 raised_named (FetchFault its slot queued kept_bits) port place d can (at, is) = (flag_of place 30 is fault_flag).cause
 raised_named (Done its slot flag t) port place d can (at, is) = (flag_of place flag is (done_flag flag can.cause_is_allowed)).cause
 raised_named (Fault its slot error kept_bits t) port place d can (at, is) = (flag_of place 30 is fault_flag).cause
@@ -242,7 +242,7 @@ record Leaves (port : ℕ) (access : Access) (d new : Device) : Type 0 where
 leaves_all : (port : ℕ) (access : Access) (d : Device) → Leaves port access d d
 leaves_all port access d = record { off = λ h. h; tape = refl; ie = λ spares. refl; pends = λ h. h }
 
-noted_leaves : (port : ℕ) (r : Reg) (v : ℕ) (d : Device) → Leaves port (Reading r v) d (noted r v d)
+noted_leaves : (port : ℕ) (r : Reg) (v : ℕ) (d : Device) → Leaves port (Reading r v) d (device_after_reading r v d)
 noted_leaves port Cap v d = leaves_all port _ d
 noted_leaves port Ghc v d = leaves_all port _ d
 noted_leaves port Pi v d = leaves_all port _ d
@@ -311,7 +311,7 @@ or_false : (a b : Bool) → a ≡ false → b ≡ false → (a || b) ≡ false
 or_false false b x y = y
 or_false true b x y = true-false refl x
 
-written_leaves : (port : ℕ) (r : Reg) (v : ℕ) (d : Device) → KeepsIsBit port (Writing r v) → Leaves port (Writing r v) d (written r v d)
+written_leaves : (port : ℕ) (r : Reg) (v : ℕ) (d : Device) → KeepsIsBit port (Writing r v) → Leaves port (Writing r v) d (device_after_write r v d)
 written_leaves port Ghc v d none = record { off = λ h. or_false d.hr (bit v 0) h none; tape = refl; ie = λ spares. refl; pends = λ h. h }
 written_leaves port adapter.Is v d none = record { off = λ h. h; tape = refl; ie = λ spares. same (bit v port); pends = by (bit v port) none }
   where
@@ -340,11 +340,11 @@ written_leaves port Bohc v d none = leaves_all port _ d
 module _ (port : ℕ) (P : Device → Type 0) (May : Access → Type 0)
     (on : (old new : Device) → Steps old new → P old → P new) (over : (access : Access) (d new : Device) → May access → Leaves port access d new → P d → P new) where
   access_goes : (access : Access) (old new : Device) → May access → KeepsIsBit port access → Does access old new → P old → P new
-  access_goes (Reading r v) old new may none x h = subst P (sym x.effect) (over (Reading r v) x.mid (noted r v x.mid) may (noted_leaves port r v x.mid) (on old x.mid x.steps h))
-  access_goes (Writing r v) old new may none x h = subst P (sym x.effect) (over (Writing r v) x.mid (written r v x.mid) may (written_leaves port r v x.mid none) (on old x.mid x.steps h))
+  access_goes (Reading r v) old new may none x h = subst P (sym x.effect) (over (Reading r v) x.at_access (device_after_reading r v x.at_access) may (noted_leaves port r v x.at_access) (on old x.at_access x.steps h))
+  access_goes (Writing r v) old new may none x h = subst P (sym x.effect) (over (Writing r v) x.at_access (device_after_write r v x.at_access) may (written_leaves port r v x.at_access none) (on old x.at_access x.steps h))
   access_goes (Loading at bytes) old new may none x h = on old new x.steps h
   access_goes (Storing at bytes) old new may none x h =
-      subst P (sym x.effect) (over (Storing at bytes) x.mid _ may (record { off = λ h. h; tape = refl; ie = λ spares. refl; pends = λ h. h }) (on old x.mid x.steps h))
+      subst P (sym x.effect) (over (Storing at bytes) x.at_access _ may (record { off = λ h. h; tape = refl; ie = λ spares. refl; pends = λ h. h }) (on old x.at_access x.steps h))
 
   all_go : (accesses : List Access) (old new : Device) → DoesAll accesses old new → All May accesses → All (KeepsIsBit port) accesses → P old → P new
   all_go [] old new e may none h = subst P (sym e) h
@@ -381,17 +381,17 @@ module _ (port : ℕ) (told : Entry) (its : interrupting_port told ≡ Some port
   -- since the tape was so, what it tells of left the port's interrupt pending
   record Waits (d : Device) : Type 0 where
     off : d.hr ≡ false
-    tells : EnablesAllCauses (d.port port)
+    tells : EnablesNamedCauses (d.port port)
     gained : List Entry
     tape : d.tape ≡ begun ++ gained
     pends : Contains gained told → is_pending (d.port port) ≡ true
 
-  enables_on : (p q : DevicePort) → q.ie ≡ p.ie → EnablesAllCauses p → EnablesAllCauses q
+  enables_on : (p q : DevicePort) → q.ie ≡ p.ie → EnablesNamedCauses p → EnablesNamedCauses q
   enables_on p q same all place is = ap (λ (n : ℕ). bit n place) same ∙ all place is
 
   module _ (step : DeviceTransition) (d : Device) (can : Can step d) (w : Waits d) where
-    controls : KeepsControls (d.port port) ((device_after step d).port port)
-    controls = ((step_keeps step d can).keeps_outside_reset w.off).controls port
+    controls : KeepsControlsFlagsRise (d.port port) ((device_after step d).port port)
+    controls = ((step_keeps step d can).keeps_outside_reset w.off).controls_are_kept port
 
     goes_on : is_pending (d.port port) ≡ true → is_pending ((device_after step d).port port) ≡ true
     goes_on = pending_on (d.port port) ((device_after step d).port port) (controls_rise (d.port port) ((device_after step d).port port) controls)
@@ -399,7 +399,7 @@ module _ (port : ℕ) (told : Entry) (its : interrupting_port told ≡ Some port
     quiet : (device_after step d).tape ≡ d.tape → Waits (device_after step d)
     quiet same = record {
       off = ((step_keeps step d can).keeps_outside_reset w.off).no_reset;
-      tells = enables_on (d.port port) ((device_after step d).port port) controls.ie w.tells;
+      tells = enables_on (d.port port) ((device_after step d).port port) controls.ie_is_kept w.tells;
       gained = w.gained;
       tape = same ∙ w.tape;
       pends = λ has. goes_on (w.pends has);
@@ -408,7 +408,7 @@ module _ (port : ℕ) (told : Entry) (its : interrupting_port told ≡ Some port
     recorded : (e : Entry) → (device_after step d).tape ≡ d.tape ++ e ∷ [] → (interrupting_port e ≡ Some port → is_pending ((device_after step d).port port) ≡ true) → Waits (device_after step d)
     recorded e same raised = record {
       off = ((step_keeps step d can).keeps_outside_reset w.off).no_reset;
-      tells = enables_on (d.port port) ((device_after step d).port port) controls.ie w.tells;
+      tells = enables_on (d.port port) ((device_after step d).port port) controls.ie_is_kept w.tells;
       gained = w.gained ++ e ∷ [];
       tape = same ∙ (ap (λ (t : List Entry). t ++ e ∷ []) w.tape ∙ append_assoc begun w.gained (e ∷ []));
       pends = λ has. ⊎_elim (λ x. goes_on (w.pends x)) (λ is. raised (ap (λ (x : Entry). interrupting_port x) is ∙ its)) (Contains-push_cases w.gained e told has);
@@ -416,8 +416,8 @@ module _ (port : ℕ) (told : Entry) (its : interrupting_port told ≡ Some port
 
     -- one that raises a cause, where the entry is of the port
     raising : (e : Entry) (q place : ℕ) → (device_after step d).tape ≡ d.tape ++ e ∷ [] → interrupting_port e ≡ Some q → (port ≡ q → SetsCause step port place) → Waits (device_after step d)
-    raising e q place same of_q raises = recorded e same (λ is.
-        let r = raises (port_is q port (sym of_q ∙ is)) in
+    raising e q place same of_q raises_cause = recorded e same (λ is.
+        let r = raises_cause (port_is q port (sym of_q ∙ is)) in
         raised_pends step port place d can r (w.tells place (raised_named step port place d can r)))
 
     other : (e : Entry) → interrupting_port e ≡ None → (device_after step d).tape ≡ d.tape ++ e ∷ [] → Waits (device_after step d)
@@ -453,7 +453,7 @@ module _ (port : ℕ) (told : Entry) (its : interrupting_port told ≡ Some port
   }
 
 pub told_pend : (port : ℕ) (told : Entry) (accesses : List Access) (gained : List Entry) (old new : Device) → interrupting_port told ≡ Some port → DoesAll accesses old new → All (KeepsIsBit port) accesses → All (LeavesIe port) accesses
-    → old.hr ≡ false → EnablesAllCauses (old.port port) → new.tape ≡ old.tape ++ gained → Contains gained told → is_pending (new.port port) ≡ true
+    → old.hr ≡ false → EnablesNamedCauses (old.port port) → new.tape ≡ old.tape ++ gained → Contains gained told → is_pending (new.port port) ≡ true
 told_pend port told accesses gained old new its does none spares off tells tape has =
     let w : Waits port told its old.tape new = all_go port (Waits port told its old.tape) (LeavesIe port)
     (λ a b s. leads_wait port told its old.tape s.steps a b s.lead) (effect_waits port told its old.tape) accesses old new does spares none
@@ -471,6 +471,6 @@ pending_shown port v old new x has =
 pub pending_cleared : (port v : ℕ) (old new : Device) → Writes adapter.Is v old new → bit v port ≡ true → is_pending (new.port port) ≡ raises_interrupt (new.port port)
 pending_cleared port v old new x set = subst (λ (d : Device). is_pending (d.port port) ≡ raises_interrupt (d.port port)) (sym x.effect) (by (bit v port) set)
   where
-    by : (b : Bool) → b ≡ true → is_pending (if b then port_after_hba_is_write (x.mid.port port) else x.mid.port port) ≡ raises_interrupt (if b then port_after_hba_is_write (x.mid.port port) else x.mid.port port)
+    by : (b : Bool) → b ≡ true → is_pending (if b then port_after_hba_is_write (x.at_access.port port) else x.at_access.port port) ≡ raises_interrupt (if b then port_after_hba_is_write (x.at_access.port port) else x.at_access.port port)
     by true is = refl
     by false is = true-false is refl

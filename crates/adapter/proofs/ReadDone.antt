@@ -1,12 +1,12 @@
 -- A read that may be fetched can be done: one piece after another.
 use Rattle.std.proofs.Common.{ℕ, zero, suc, true, ◌≡◌, ◌+◌, ◌<◌, ◌≤◌, List, [], ◌∷◌, ◌++◌, length, slice_index, Option, None, Some, IfSome, Bool, false, refl, sym, ◌∙◌, ap, subst, arith, inl, inr, append_assoc, append-nil}
 use Rattle.std.proofs.lemmas.Bool.{cases_eq}
-use Rattle.adapter.specs.ToldSteps.{DoesSlotSteps, EndsAndPosts, PostsNone}
+use Rattle.adapter.specs.AskedSteps.{DoesSlotSteps, EndsAndPosts, PostsNone}
 use Rattle.adapter.specs.Memory.{patched, bytes_at, changed}
-use Rattle.adapter.specs.Device.{Disk, IsSector, FetchedCommand, Halt, DevicePort, Device}
+use Rattle.adapter.specs.Device.{Disk, IsValidSector, FetchedCommand, Halt, DevicePort, Device}
 use Rattle.adapter.specs.OneCommand.{IsFreeSlot}
-use Rattle.adapter.specs.ReadDone.{read_of, IsReadFetchable, move_entries, IsReadDone}
-use Rattle.adapter.specs.Steps.{device_after, Steps, WorksOn, IsWorking, admits, begun, MayMove, MayBeDone, port_after_fetch, port_after_move, port_after_done, done_entry, move_of}
+use Rattle.adapter.specs.ReadDone.{read_of, IsReadFetchable, read_move_entries, IsReadDone}
+use Rattle.adapter.specs.Steps.{device_after, Steps, WorksOn, IsWorking, admits, newly_fetched, MayMove, MayBeDone, port_after_fetch, port_after_move, port_after_done, done_entry, move_of}
 use Rattle.adapter.specs.Steps.DeviceTransition.{Fetch, Move, Done}
 use Rattle.adapter.specs.declared.command.Operation.{Operation}
 use Rattle.adapter.specs.declared.command.Operation.TheVariants.{Read, Trim}
@@ -19,17 +19,17 @@ use Rattle.adapter.proofs.Runs.{Steps-one, Steps-trans}
 -- a port that works goes on to, with other slots and registers
 pub still_working : (p new : DevicePort) (o : Operation) → o ≡ Read → IsWorking p o → new.cr ≡ p.cr → new.present ≡ p.present → new.fresh ≡ p.fresh → new.halt ≡ p.halt → new.broken ≡ p.broken → IsWorking new Read
 still_working p new o read w cr present fresh halt broken = record {
-  running = cr ∙ w.running;
+  cr_is_set = cr ∙ w.cr_is_set;
   present = present ∙ w.present;
   fresh = fresh ∙ w.fresh;
   admitted = ap (λ (h : Halt). admits h Read) halt ∙ (ap (admits p.halt) (sym read) ∙ w.admitted);
-  whole = broken ∙ w.whole;
+  is_not_broken = broken ∙ w.is_not_broken;
 }
 
 module _ (old : Device) (port slot first count : ℕ) (places : List ℕ) (told : ℕ → List ℕ) (may : IsReadFetchable old port slot first count places told) where
   -- the command when so many of its pieces were moved
   abbrev command : ℕ → FetchedCommand
-  command n = record (begun (read_of first count) places) { moved = n }
+  command n = record (newly_fetched (read_of first count) places) { moved = n }
 
   -- so many pieces were moved
   record IsMoved (n : ℕ) (d : Device) : Type 0 where
@@ -38,8 +38,8 @@ module _ (old : Device) (port slot first count : ℕ) (places : List ℕ) (told 
     pub is : (d.port port).is ≡ (old.port port).is
     pub works : WorksOn (d.port port) slot (command n) Read
     pub disk : (d.port port).disk ≡ (old.port port).disk
-    pub size : d.size ≡ old.size
-    pub tape : d.tape ≡ old.tape ++ move_entries port slot first places told n
+    pub size : d.memory_size ≡ old.memory_size
+    pub tape : d.tape ≡ old.tape ++ read_move_entries port slot first places told n
     pub bytes : (k : ℕ) → k < n → bytes_at d.memory (slice_index places k) 512 ≡ told (first + k)
 
   many : length places ≡ count
@@ -71,7 +71,7 @@ module _ (old : Device) (port slot first count : ℕ) (places : List ℕ) (told 
     sector : List ℕ
     sector = told (first + n)
 
-    is_sector : IsSector sector
+    is_sector : IsValidSector sector
     unfolding sector
     is_sector = may.disk_holds_sectors told may.told_is (first + n) (omega (arith, left, may.on_disk))
 
@@ -82,7 +82,7 @@ module _ (old : Device) (port slot first count : ℕ) (places : List ℕ) (told 
       piece_is_left = omega (arith, left, many);
       bytes_are_sector = is_sector;
       brings =
-          let P : Disk → Type 0 = λ disk. (first + n < disk.size) × IfSome disk.sectors (λ f. told (first + n) ≡ f (first + n)) in
+          let P : Disk → Type 0 = λ disk. (first + n < disk.sector_count) × IfSome disk.sectors (λ f. told (first + n) ≡ f (first + n)) in
           let Q : Option (ℕ → List ℕ) → Type 0 = λ o. IfSome o (λ f. told (first + n) ≡ f (first + n)) in
           subst P (sym m.disk) (omega (arith, left, may.on_disk), subst Q (sym may.told_is) refl);
     }
@@ -127,7 +127,7 @@ module _ (old : Device) (port slot first count : ℕ) (places : List ℕ) (told 
               });
           disk = ap (λ (p : DevicePort). p.disk) here ∙ m.disk;
           size = m.size;
-          tape = ap (λ (entries : List Entry). entries ++ entry.Move (move_of port slot (command n) (told (first + n))) ∷ []) m.tape ∙ append_assoc old.tape (move_entries port slot first places told n) _;
+          tape = ap (λ (entries : List Entry). entries ++ entry.Move (move_of port slot (command n) (told (first + n))) ∷ []) m.tape ∙ append_assoc old.tape (read_move_entries port slot first places told n) _;
           bytes = moved_bytes;
         }
 
@@ -150,7 +150,7 @@ module _ (old : Device) (port slot first count : ℕ) (places : List ℕ) (told 
         cause_is_allowed = inl refl;
       } in
       let ended : EndsAndPosts PostsNone port slot d end =
-      record { mid = end; done = record { flag = 0; fetched_command = command count; can = can; effect = refl }; posts = refl } in
+      record { after_end = end; done = record { cause_bit = 0; fetched_command = command count; can = can; effect = refl }; posts = refl } in
       let P : DevicePort → Type 0 = λ p. IsFreeSlot p slot in (
         end,
         record {
@@ -158,8 +158,8 @@ module _ (old : Device) (port slot first count : ℕ) (places : List ℕ) (told 
           slot_goes_on = (suc count, (d, m.goes, inr (inr (inl ended))));
           dhrs_is_shown = ap (λ (p : DevicePort). p.is) here ∙ ap (λ (f : ℕ → Bool). changed f 0 true) m.is;
           slot_is_free = subst P (sym here)
-              (record { ci = changed_same (d.port port).ci slot false; taken = changed_same (d.port port).taken slot None });
-          tape_tells_read = ap (λ (entries : List Entry). entries ++ done_entry port slot Read ∷ []) m.tape ∙ append_assoc old.tape (move_entries port slot first places told count) _;
+              (record { ci_is_clear = changed_same (d.port port).ci slot false; is_not_taken = changed_same (d.port port).taken slot None });
+          tape_tells_read = ap (λ (entries : List Entry). entries ++ done_entry port slot Read ∷ []) m.tape ∙ append_assoc old.tape (read_move_entries port slot first places told count) _;
           sectors_are_in_memory = m.bytes;
         },
       )

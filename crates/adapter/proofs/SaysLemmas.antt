@@ -1,5 +1,5 @@
 -- What a slot says depends on its header and its table alone, and is one command with one list of places.
-use Rattle.ata_types.specs.declared.memory.TheConstants.{PRD_BYTES, TABLE_HEAD}
+use Rattle.ata_types.specs.declared.memory.TheConstants.{PRD_BYTES, TABLE_HEAD_BYTES}
 use Rattle.std.proofs.Common.{ℕ, zero, suc, ◌≡◌, ◌<◌, ◌≤◌, ◌+◌, ◌*◌, ◌^◌, List, [], ◌∷◌, length, slice_index, refl, sym, ◌∙◌, ap, arith, subst, Bool, true, false, if◌then◌else◌, nat_eq}
 use Rattle.byteorder.specs.Endian.{little_from}
 use Rattle.adapter.specs.Memory.{bytes_at}
@@ -51,7 +51,7 @@ module _ (old new : ℕ → ℕ) where
 
   unfoldable pub says_same : (list slot : ℕ) (m : Meaning) (places : List ℕ) (s : DecodesTo old list slot m places) →
       Agree old new (list + 32 * slot) (list + 32 * slot + 4) → Agree old new (list + 32 * slot + 8) (list + 32 * slot + 32) →
-      Agree old new s.table (s.table + TABLE_HEAD + PRD_BYTES * length s.prds) → DecodesTo new list slot m places
+      Agree old new s.table (s.table + TABLE_HEAD_BYTES + PRD_BYTES * length s.prds) → DecodesTo new list slot m places
   says_same list slot m places s head rest body =
       let fis : bytes_at new s.table 20 ≡ bytes_at old s.table 20 = bytes_same old new s.table 20 (λ a low high. body a low (omega arith)) in
       let P : List ℕ → Type 0 = λ bytes. EncodesCommand bytes (command_of m.operation slot m.first m.count) in
@@ -61,7 +61,7 @@ module _ (old new : ℕ → ℕ) where
         header = header_same (list + 32 * slot) (reads_memory m.operation) (length s.prds) s.table head rest s.header;
         fis = subst P (sym fis) s.fis;
         meaning = s.meaning;
-        prds_stand = prds_same s.table (s.table + TABLE_HEAD + PRD_BYTES * length s.prds) (s.table + TABLE_HEAD) s.prds body (omega arith) (omega arith) s.prds_stand;
+        prds_are_encoded = prds_same s.table (s.table + TABLE_HEAD_BYTES + PRD_BYTES * length s.prds) (s.table + TABLE_HEAD_BYTES) s.prds body (omega arith) (omega arith) s.prds_are_encoded;
         prd_count_is_allowed = s.prd_count_is_allowed;
         prds_are_whole_pieces = s.prds_are_whole_pieces;
         places_are = s.places_are;
@@ -150,8 +150,8 @@ module _ (memory : ℕ → ℕ) (list slot : ℕ) (m n : Meaning) (xs ys : List 
   says_prds =
       let same : length a.prds ≡ length b.prds =
       omega (arith, a.header.dword0_is, b.header.dword0_is, w_small (reads_memory m.operation), w_small (reads_memory n.operation)) in
-      let P : ℕ → Type 0 = λ at. HasPrds memory (at + TABLE_HEAD) a.prds in
-      prds_one memory (b.table + TABLE_HEAD) a.prds b.prds same (subst P says_table a.prds_stand) b.prds_stand
+      let P : ℕ → Type 0 = λ at. HasPrds memory (at + TABLE_HEAD_BYTES) a.prds in
+      prds_one memory (b.table + TABLE_HEAD_BYTES) a.prds b.prds same (subst P says_table a.prds_are_encoded) b.prds_are_encoded
 
   pub says_places : xs ≡ ys
   says_places = a.places_are ∙ (ap pieces says_prds ∙ sym b.places_are)

@@ -5,7 +5,7 @@ use Rattle.std.proofs.lemmas.Bool.{cases_lt, false≢true}
 use Rattle.std.proofs.lemmas.Bool.Decides.{leb_tells}
 use Rattle.std.proofs.lemmas.List.{length-replicate, get_or-replicate}
 use Rattle.ata_types.specs.declared.memory.TheConstants.{HEADER_BYTES, RECEIVED_FIS_BYTES}
-use Rattle.adapter.specs.ToldSteps.{IsByteWithin, IsScribblePlace, IsScribbled, memory_filled}
+use Rattle.adapter.specs.AskedSteps.{IsByteWithin, IsScribblePlace, IsScribbled, memory_filled}
 use Rattle.adapter.specs.Device.{DevicePort}
 use Rattle.adapter.specs.Memory.{patched}
 use Rattle.adapter.proofs.MemoryLemmas.{patched_before, patched_past}
@@ -56,7 +56,7 @@ module _ (size byte : ℕ) (p : DevicePort) where
           | inl there ↦ there.1
           | inr not ↦ absurd (⊎_elim not.0 (λ (w : (slot : ℕ) × (slot < 0) × (is_some (p.taken slot) ≡ true) × IsByteWithin size (count_at slot) 4 place). omega (arith, w.1)) it)
         ];
-    others = λ place none. elim (fill_told size p.bases.fb RECEIVED_FIS_BYTES byte place old) [ inl there ↦ absurd (none (inl there.0)) | inr not ↦ not.1 ];
+    others_are_kept = λ place none. elim (fill_told size p.bases.fb RECEIVED_FIS_BYTES byte place old) [ inl there ↦ absurd (none (inl there.0)) | inr not ↦ not.1 ];
   }
 
   -- a place of one slot more
@@ -82,7 +82,7 @@ module _ (size byte : ℕ) (p : DevicePort) where
       by : (b : Bool) → is_some (p.taken slot) ≡ b → new ≡ (if b then memory_filled size (count_at slot) 4 byte before else before) → IsScribbled (slot + 1) size byte p old new
       by false free is = record {
         filled = λ place it. (λ i. is i place) ∙ ⊎_elim (so_far.filled place) (λ w. absurd (false≢true (sym free ∙ w.0))) (earlier slot place it);
-        others = λ place none. (λ i. is i place) ∙ so_far.others place (λ it. none (later slot place it));
+        others_are_kept = λ place none. (λ i. is i place) ∙ so_far.others_are_kept place (λ it. none (later slot place it));
       }
       by true held is = record {
         filled = λ place it. (λ i. is i place) ∙
@@ -90,10 +90,10 @@ module _ (size byte : ℕ) (p : DevicePort) where
               | inl there ↦ there.1
               | inr not ↦ not.1 ∙ ⊎_elim (so_far.filled place) (λ w. absurd (not.0 w.1)) (earlier slot place it)
             ];
-        others = λ place none. (λ i. is i place) ∙
+        others_are_kept = λ place none. (λ i. is i place) ∙
             elim (fill_told size (count_at slot) 4 byte place before) [
               | inl there ↦ absurd (none (inr (slot, omega arith, held, there.0)))
-              | inr not ↦ not.1 ∙ so_far.others place (λ it. none (later slot place it))
+              | inr not ↦ not.1 ∙ so_far.others_are_kept place (λ it. none (later slot place it))
             ];
       }
 
@@ -129,5 +129,5 @@ module _ (size byte : ℕ) (p : DevicePort) where
       same place =
           elim (is_place slots place) [
             | inl it ↦ a.filled place it ∙ sym (b.filled place it)
-            | inr none ↦ a.others place none ∙ sym (b.others place none)
+            | inr none ↦ a.others_are_kept place none ∙ sym (b.others_are_kept place none)
           ]

@@ -7,8 +7,8 @@ use Rattle.adapter.specs.Steps.{DeviceTransition, TransitionsLead, device_after}
 use Rattle.adapter.specs.Steps.DeviceTransition.{ResetEnds}
 
 one_was_on : (step : DeviceTransition) (d : Device) → IsOn (device_after step d) → IsOn d
-one_was_on ResetEnds d on = absurd (false≢true on.ae)
-one_was_on step d on = record { ae = on.ae; no_reset = on.no_reset }
+one_was_on ResetEnds d on = absurd (false≢true on.ae_is_set)
+one_was_on step d on = record { ae_is_set = on.ae_is_set; no_reset = on.no_reset }
 
 pub was_on : (steps : List DeviceTransition) (old new : Device) → TransitionsLead steps old new → IsOn new → IsOn old
 was_on [] old new same on = subst IsOn same on

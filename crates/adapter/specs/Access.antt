@@ -18,8 +18,9 @@ use Rattle.adapter.specs.Steps.{Steps, with_port, halt_after_start}
 -- The causes in PxIS that steps raise, and HBDS: DHRS, PSS, SDBS, PCS, PRCS, IFS, HBDS, HBFS and TFES. The others may
 -- show anything. DHRS, PSS and SDBS are set just as a command ends. A real adapter may set DHRS as a command fails,
 -- too: no call of this driver looks at them, nor at IS.
-abbrev pub is_cause : ℕ → Bool
-is_cause place = nat_eq place 0 || nat_eq place 1 || nat_eq place 3 || nat_eq place 6 || nat_eq place 22 || nat_le 27
+abbrev pub is_named_cause : ℕ → Bool
+is_named_cause place = nat_eq place 0 || nat_eq place 1 || nat_eq place 3 || nat_eq place 6 || nat_eq place 22 || nat_le
+    27
     place && nat_le place 30
 
 -- PxIS: PCS shows X and PRCS shows N
@@ -28,27 +29,27 @@ shown_interrupt p place =
     if nat_eq place 6 then p.serr_x else (if nat_eq place 22 then p.serr_n else p.is place)
 
 -- PxIS shows the cause, and PxIE enables it (AHCI 1.3.1, 3.3.5 and 3.3.6)
-abbrev pub raises : DevicePort → ℕ → Bool
-raises p place = shown_interrupt p place && bit p.ie place
+abbrev pub raises_cause : DevicePort → ℕ → Bool
+raises_cause p place = shown_interrupt p place && bit p.ie place
 
 -- The port interrupts: it raises one of the causes that are named.
-abbrev pub causes : List ℕ
-causes = 0 ∷ 1 ∷ 3 ∷ 6 ∷ 22 ∷ 27 ∷ 28 ∷ 29 ∷ 30 ∷ []
+abbrev pub named_cause_bits : List ℕ
+named_cause_bits = 0 ∷ 1 ∷ 3 ∷ 6 ∷ 22 ∷ 27 ∷ 28 ∷ 29 ∷ 30 ∷ []
 
 abbrev pub raises_interrupt : DevicePort → Bool
-raises_interrupt p = list_any (raises p) causes
+raises_interrupt p = list_any (raises_cause p) named_cause_bits
 
 -- The port's bit of IS is set by the level of the port's interrupt, and stays until it is cleared (AHCI 1.3.1, 3.1.3
 -- and 10.7).
 abbrev pub is_pending : DevicePort → Bool
-is_pending p = p.ips || raises_interrupt p
+is_pending p = p.ips_latched || raises_interrupt p
 
 -- the causes that are named, as bits of PxIE; and whether it enables others
-abbrev pub named_causes : ℕ
-named_causes = 0x7840004b
+abbrev pub named_causes_mask : ℕ
+named_causes_mask = 0x7840004b
 
-abbrev pub enables_others : ℕ → Bool
-enables_others ie = not (nat_eq (bit_and ie named_causes) ie)
+abbrev pub enables_unnamed_causes : ℕ → Bool
+enables_unnamed_causes ie = not (nat_eq (bit_and ie named_causes_mask) ie)
 
 -- The bit of IS is one where the port's interrupt is pending. Where it isn't, it is zero, unless a cause that isn't
 -- named may have set it.
@@ -68,8 +69,8 @@ PortShows Sctl v p = v % 16 ≡ p.sctl_det
 PortShows Serr v p = (bit v 16 ≡ p.serr_n) × (bit v 26 ≡ p.serr_x)
 PortShows Ci v p = (slot : ℕ) → slot < 32 → bit v slot ≡ p.ci slot
 PortShows Sact v p = (slot : ℕ) → slot < 32 → bit v slot ≡ p.sact slot
-PortShows Is v p = (place : ℕ) → is_cause place ≡ true → bit v place ≡ shown_interrupt p place
-PortShows Ie v p = (place : ℕ) → is_cause place ≡ true → bit v place ≡ bit p.ie place
+PortShows Is v p = (place : ℕ) → is_named_cause place ≡ true → bit v place ≡ shown_interrupt p place
+PortShows Ie v p = (place : ℕ) → is_named_cause place ≡ true → bit v place ≡ bit p.ie place
 
 abbrev pub Shows : Reg → ℕ → Device → Type 0
 Shows Cap v d = v ≡ d.cap
@@ -95,45 +96,46 @@ link_count_after_reading det n = if nat_eq det 3 then MOST_READINGS else min MOS
 abbrev pub while_no_comreset : DevicePort → ℕ → ℕ → ℕ
 while_no_comreset p new old = if nat_eq p.sctl_det 0 then new else old
 
-abbrev pub note : PortReg → ℕ → DevicePort → Notes
-note Cmd v p =
+abbrev pub notes_after_reading : PortReg → ℕ → DevicePort → Notes
+notes_after_reading Cmd v p =
     record p.notes {
       last_cmd = v;
       engine_count = count_after_reading (not p.st && bit v 15 || not p.fre && bit v 14) p.notes.engine_count;
     }
-note Ssts v p =
+notes_after_reading Ssts v p =
     record p.notes {
       last_ssts = v;
-      link_count = while_no_comreset p (link_count_after_reading (v % 16) p.notes.link_count)
-          p.notes.link_count;
+      link_wait_count = while_no_comreset p (link_count_after_reading (v % 16) p.notes.link_wait_count)
+          p.notes.link_wait_count;
     }
-note Tfd v p =
+notes_after_reading Tfd v p =
     record p.notes {
       last_tfd = v;
       busy_count = while_no_comreset p (count_after_reading (bit v 7 || bit v 3) p.notes.busy_count)
           p.notes.busy_count;
     }
-note Ci v p =
+notes_after_reading Ci v p =
     record p.notes {
       last_ci = v;
-      command_count = while_no_comreset p (count_after_reading (bit v 0) p.notes.command_count)
-          p.notes.command_count;
+      slot0_issued_count = while_no_comreset p (count_after_reading (bit v 0) p.notes.slot0_issued_count)
+          p.notes.slot0_issued_count;
     }
-note Sig v p = record p.notes { last_sig = v }
-note Sact v p = record p.notes { last_sact = v }
+notes_after_reading Sig v p = record p.notes { last_sig = v }
+notes_after_reading Sact v p = record p.notes { last_sact = v }
 -- the causes that were read have to be written back before the port's bit of IS is written
-note Is v p = record p.notes { acknowledged = false }
-note _ v p = p.notes
+notes_after_reading Is v p = record p.notes { acknowledged = false }
+notes_after_reading _ v p = p.notes
 
-abbrev pub noted : Reg → ℕ → Device → Device
-noted (Px port r) v d = with_port d port.0 (record (d.port port.0) { notes = note r v (d.port port.0) })
-noted _ v d = d
+abbrev pub device_after_reading : Reg → ℕ → Device → Device
+device_after_reading (Px port r) v d = with_port d port.0
+    (record (d.port port.0) { notes = notes_after_reading r v (d.port port.0) })
+device_after_reading _ v d = d
 
 -- ---- what a write does
 
 -- PxCMD.ST: going to one sets CR, going to zero clears CI and SACT
 abbrev pub port_after_st_write : Bool → ℕ → DevicePort → DevicePort
-port_after_st_write st tape p =
+port_after_st_write st tape_length p =
     if st
     then (if p.st then p
     else record p {
@@ -141,7 +143,7 @@ port_after_st_write st tape p =
       cr = true;
       broken = false;
       halt = halt_after_start p.halt;
-      notes = record p.notes { st_set_at = tape };
+      notes = record p.notes { st_set_at = tape_length };
     })
     else record p {
       st = false;
@@ -155,75 +157,84 @@ port_after_fre_write fre p = record p { fre = fre; fr = fre || p.fr }
 
 -- PxSCTL.DET: 1 sends COMRESET, and 0 after 1 lets the link come up
 abbrev pub port_after_det_write : ℕ → ℕ → DevicePort → DevicePort
-port_after_det_write det tape p =
+port_after_det_write det tape_length p =
     record p {
       sctl_det = det;
       ssts_det = if nat_eq det 1 then 0 else p.ssts_det;
       tfd = if nat_eq det 1 then 0x7f + 256 * (p.tfd / 256) else p.tfd;
       link_due = p.link_due || nat_eq p.sctl_det 1 && nat_eq det 0;
-      notes = record p.notes { sctl_written_at = tape; link_count = 0; busy_count = 0; command_count = 0 };
+      notes = record p.notes {
+        sctl_written_at = tape_length;
+        link_wait_count = 0;
+        busy_count = 0;
+        slot0_issued_count = 0;
+      };
     }
 
 abbrev pub port_after_write : PortReg → ℕ → ℕ → DevicePort → DevicePort
-port_after_write Clb v tape p = record p { bases = record p.bases { clb = v; clb_set = true } }
-port_after_write Clbu v tape p = record p { bases = record p.bases { clbu_set = true } }
-port_after_write Fb v tape p = record p { bases = record p.bases { fb = v; fb_set = true } }
-port_after_write Fbu v tape p = record p { bases = record p.bases { fbu_set = true } }
-port_after_write Cmd v tape p = port_after_fre_write (bit v 4) (port_after_st_write (bit v 0) tape p)
-port_after_write Sctl v tape p = port_after_det_write (v % 16) tape p
+port_after_write Clb v tape_length p = record p { bases = record p.bases { clb = v; clb_set = true } }
+port_after_write Clbu v tape_length p = record p { bases = record p.bases { clbu_set = true } }
+port_after_write Fb v tape_length p = record p { bases = record p.bases { fb = v; fb_set = true } }
+port_after_write Fbu v tape_length p = record p { bases = record p.bases { fbu_set = true } }
+port_after_write Cmd v tape_length p = port_after_fre_write (bit v 4) (port_after_st_write (bit v 0) tape_length p)
+port_after_write Sctl v tape_length p = port_after_det_write (v % 16) tape_length p
 -- the port's bit of IS stays, also where its causes go (AHCI 1.3.1, 3.1.3): so these three keep it first
-port_after_write Serr v tape p =
+port_after_write Serr v tape_length p =
     record p {
-      ips = is_pending p;
+      ips_latched = is_pending p;
       serr_n = p.serr_n && not (bit v 16);
       serr_x = p.serr_x && not (bit v 26);
     }
-port_after_write Is v tape p =
+port_after_write Is v tape_length p =
     record p {
-      ips = is_pending p;
+      ips_latched = is_pending p;
       is = λ place. p.is place && not (bit v place);
       notes = record p.notes { acknowledged = true };
     }
-port_after_write Ie v tape p =
-    record p { ips = is_pending p; other_causes = p.other_causes || enables_others v; ie = v }
-port_after_write Ci v tape p = record p { ci = λ slot. p.ci slot || bit v slot }
-port_after_write Sact v tape p = record p { sact = λ slot. p.sact slot || bit v slot }
-port_after_write _ v tape p = p
+port_after_write Ie v tape_length p =
+    record p { ips_latched = is_pending p; other_causes = p.other_causes || enables_unnamed_causes v; ie = v }
+port_after_write Ci v tape_length p = record p { ci = λ slot. p.ci slot || bit v slot }
+port_after_write Sact v tape_length p = record p { sact = λ slot. p.sact slot || bit v slot }
+port_after_write _ v tape_length p = p
 
 -- The port's bit of IS was written: it falls, unless a cause sets it anew.
 abbrev pub port_after_hba_is_write : DevicePort → DevicePort
 port_after_hba_is_write p =
-    record p { ips = false; other_causes = enables_others p.ie; notes = record p.notes { acknowledged = false } }
+    record p {
+      ips_latched = false;
+      other_causes = enables_unnamed_causes p.ie;
+      notes = record p.notes { acknowledged = false };
+    }
 
-abbrev pub written : Reg → ℕ → Device → Device
-written Ghc v d = record d { hr = d.hr || bit v 0; ae = bit v 31; ie = bit v 1 }
-written adapter.Is v d = record d {
+abbrev pub device_after_write : Reg → ℕ → Device → Device
+device_after_write Ghc v d = record d { hr = d.hr || bit v 0; ae = bit v 31; ie = bit v 1 }
+device_after_write adapter.Is v d = record d {
   port = λ port. if bit v port then port_after_hba_is_write (d.port port) else d.port port;
 }
-written (Px port r) v d = with_port d port.0 (port_after_write r v (length d.tape) (d.port port.0))
-written _ v d = d
+device_after_write (Px port r) v d = with_port d port.0 (port_after_write r v (length d.tape) (d.port port.0))
+device_after_write _ v d = d
 
 -- ---- the calls
 
 pub record Reads (r : Reg) (v : ℕ) (old new : Device) : Type 0 where
-  pub mid : Device
-  pub steps : Steps old mid
-  pub shows : Shows r v mid
-  pub effect : new ≡ noted r v mid
+  pub at_access : Device
+  pub steps : Steps old at_access
+  pub shows : Shows r v at_access
+  pub effect : new ≡ device_after_reading r v at_access
 
 pub record Writes (r : Reg) (v : ℕ) (old new : Device) : Type 0 where
-  pub mid : Device
-  pub steps : Steps old mid
-  pub effect : new ≡ written r v mid
+  pub at_access : Device
+  pub steps : Steps old at_access
+  pub effect : new ≡ device_after_write r v at_access
 
 pub record Loads (at : ℕ) (bytes : List ℕ) (old new : Device) : Type 0 where
   pub steps : Steps old new
   pub shows : bytes ≡ bytes_at new.memory at (length bytes)
 
 pub record Stores (at : ℕ) (bytes : List ℕ) (old new : Device) : Type 0 where
-  pub mid : Device
-  pub steps : Steps old mid
-  pub effect : new ≡ record mid { memory = patched mid.memory at bytes }
+  pub at_access : Device
+  pub steps : Steps old at_access
+  pub effect : new ≡ record at_access { memory = patched at_access.memory at bytes }
 
 -- ---- one call after another
 

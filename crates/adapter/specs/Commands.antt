@@ -66,6 +66,6 @@ pub record Meaning : Type 0 where
   pub count : ℕ
 
 -- The sectors are some that a FIS can name; where it names none, they are 0.
-pub record IsMeaning (m : Meaning) : Type 0 where
+pub record IsValidMeaning (m : Meaning) : Type 0 where
   pub ranged : is_ranged m.operation ≡ true → (1 ≤ m.count) × (m.count ≤ 65536) × (m.first < 2 ^ 48)
   pub not_ranged : is_ranged m.operation ≡ false → (m.first ≡ 0) × (m.count ≡ 0)

@@ -1,9 +1,9 @@
 -- What the bytes at a slot's places mean, read as the device reads them.
 use Rattle.std.specs.Prelude.{ℕ, zero, suc, ◌≡◌, ◌+◌, ◌*◌, ◌/◌, ◌%◌, ◌≤◌, List, [], ◌∷◌, ◌++◌, length, All}
 use Rattle.ata_types.specs.declared.limits.TheConstants.{MOST_REQUEST_FRAMES}
-use Rattle.ata_types.specs.declared.memory.TheConstants.{HEADER_BYTES, TABLE_HEAD}
+use Rattle.ata_types.specs.declared.memory.TheConstants.{HEADER_BYTES, TABLE_HEAD_BYTES}
 use Rattle.adapter.specs.Memory.{bytes_at}
-use Rattle.adapter.specs.Commands.{Meaning, IsMeaning, command_of, reads_memory, piece_count}
+use Rattle.adapter.specs.Commands.{Meaning, IsValidMeaning, command_of, reads_memory, piece_count}
 use Rattle.adapter.specs.Encoding.{EncodesCommand, EncodesHeader, EncodesPrd}
 use Rattle.adapter.specs.declared.command.Prd.{Prd}
 
@@ -34,8 +34,8 @@ pub record DecodesTo (memory : ℕ → ℕ) (list slot : ℕ) (m : Meaning) (pla
   pub header : EncodesHeader (bytes_at memory (list + HEADER_BYTES * slot) HEADER_BYTES) (reads_memory m.operation)
       (length prds) table
   pub fis : EncodesCommand (bytes_at memory table 20) (command_of m.operation slot m.first m.count)
-  pub meaning : IsMeaning m
-  pub prds_stand : HasPrds memory (table + TABLE_HEAD) prds
+  pub meaning : IsValidMeaning m
+  pub prds_are_encoded : HasPrds memory (table + TABLE_HEAD_BYTES) prds
   -- no more than a PRD for each frame of the longest request (this project's own)
   pub prd_count_is_allowed : length prds ≤ MOST_REQUEST_FRAMES
   pub prds_are_whole_pieces : All IsWholePieces prds

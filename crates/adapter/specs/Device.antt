@@ -8,7 +8,7 @@ use Rattle.adapter.specs.declared.tape.Entry.{Entry}
 -- doesn't.
 pub record Disk : Type 0 where
   pub name : ℕ
-  pub size : ℕ
+  pub sector_count : ℕ
   pub sectors : Option (ℕ → List ℕ)
 
 -- the disk tells its sectors
@@ -16,12 +16,13 @@ abbrev pub HasKnownSectors : Disk → Type 0
 HasKnownSectors disk = (told : ℕ → List ℕ) × (disk.sectors ≡ Some told)
 
 -- the bytes of a sector
-abbrev pub IsSector : List ℕ → Type 0
-IsSector bytes = (length bytes ≡ 512) × All (λ byte. byte < 256) bytes
+abbrev pub IsValidSector : List ℕ → Type 0
+IsValidSector bytes = (length bytes ≡ 512) × All (λ byte. byte < 256) bytes
 
 -- each sector that the disk tells is one
-abbrev pub IsDisk : Disk → Type 0
-IsDisk disk = (told : ℕ → List ℕ) → disk.sectors ≡ Some told → (k : ℕ) → k < disk.size → IsSector (told k)
+abbrev pub HasValidSectors : Disk → Type 0
+HasValidSectors disk = (told : ℕ → List ℕ) → disk.sectors ≡ Some told → (k : ℕ) → k < disk.sector_count
+    → IsValidSector (told k)
 
 -- A command that the device has taken: what it means, the addresses of its pieces, how many were moved, the block that
 -- a trim has brought, and how many of the block's sectors were cleared.
@@ -60,14 +61,14 @@ pub record Notes : Type 0 where
   pub last_ci : ℕ
   pub last_sact : ℕ
   pub engine_count : ℕ
-  pub link_count : ℕ
+  pub link_wait_count : ℕ
   pub busy_count : ℕ
-  pub command_count : ℕ
+  pub slot0_issued_count : ℕ
   pub acknowledged : Bool
 
 -- What of the disk is lasting: what it held when it last ended a flush, or else when it was first in, where it tells;
 -- and how long the tape was then.
-pub record Lasting : Type 0 where
+pub record DurableState : Type 0 where
   pub sectors : Option (ℕ → List ℕ)
   pub tape_length : ℕ
 
@@ -91,15 +92,15 @@ pub record DevicePort : Type 0 where
   pub is : ℕ → Bool
   -- the port's bit of IS, as far as it outlasts its causes; and whether PxIE has enabled a cause that isn't named here
   -- since that bit was last cleared: such a cause may have set it, too
-  pub ips : Bool
+  pub ips_latched : Bool
   pub other_causes : Bool
   pub ci : ℕ → Bool
   pub sact : ℕ → Bool
   -- behind the registers: the disk that is in, or was last; those that were plugged in, as they were then, the oldest
   -- first (a disk's identity is its place there; the first was in at the start)
   pub disk : Disk
-  pub plugged : List Disk
-  pub lasting : Lasting
+  pub plug_history : List Disk
+  pub lasting : DurableState
   pub present : Bool
   -- its first FIS has come since it was plugged in
   pub fresh : Bool
@@ -115,7 +116,7 @@ pub record DevicePort : Type 0 where
 -- the oldest entry first. `telling` says whether every disk tells its sectors.
 pub record Device : Type 0 where
   pub telling : Bool
-  pub size : ℕ
+  pub memory_size : ℕ
   pub memory : ℕ → ℕ
   pub cap : ℕ
   pub pi : ℕ

@@ -26,10 +26,10 @@ unfoldable pub first_disk_sector : ℕ → List ℕ
 first_disk_sector k = replicate 512 k
 
 abbrev pub first_disk : Disk
-first_disk = record { name = 0; size = 256; sectors = Some first_disk_sector }
+first_disk = record { name = 0; sector_count = 256; sectors = Some first_disk_sector }
 
 abbrev pub no_disk : Disk
-no_disk = record { name = 0; size = 0; sectors = Some (λ k. []) }
+no_disk = record { name = 0; sector_count = 0; sectors = Some (λ k. []) }
 
 -- nothing was read yet
 abbrev pub no_notes : Notes
@@ -44,9 +44,9 @@ no_notes =
       last_ci = 0;
       last_sact = 0;
       engine_count = 0;
-      link_count = 0;
+      link_wait_count = 0;
       busy_count = 0;
-      command_count = 0;
+      slot0_issued_count = 0;
       acknowledged = false;
     }
 
@@ -67,12 +67,12 @@ empty_port =
       serr_n = false;
       serr_x = false;
       is = λ _. false;
-      ips = false;
+      ips_latched = false;
       other_causes = false;
       ci = λ _. false;
       sact = λ _. false;
       disk = no_disk;
-      plugged = [];
+      plug_history = [];
       lasting = record { sectors = no_disk.sectors; tape_length = 0 };
       present = false;
       fresh = false;
@@ -97,7 +97,7 @@ reading_port =
       ssts_det = 3;
       ci = changed (λ _. false) 0 true;
       disk = first_disk;
-      plugged = first_disk ∷ [];
+      plug_history = first_disk ∷ [];
       lasting = record { sectors = first_disk.sectors; tape_length = 0 };
       present = true;
       fresh = true;
@@ -108,7 +108,7 @@ abbrev pub first_read_device : Device
 first_read_device =
     record {
       telling = true;
-      size = FRAME_BYTES * 256;
+      memory_size = FRAME_BYTES * 256;
       memory = first_memory;
       cap = 0x1f03;
       pi = 0x0f;

@@ -1,6 +1,6 @@
 -- Bytes that no step of the device changes, and on which every command in use stands.
 use Rattle.std.specs.Prelude.{ℕ, Bool, true, ◌≡◌, ◌+◌, ◌*◌, ◌<◌, ◌≤◌, length, List, Some}
-use Rattle.ata_types.specs.declared.memory.TheConstants.{HEADER_BYTES, PRD_BYTES, RECEIVED_FIS_BYTES, TABLE_HEAD}
+use Rattle.ata_types.specs.declared.memory.TheConstants.{HEADER_BYTES, PRD_BYTES, RECEIVED_FIS_BYTES, TABLE_HEAD_BYTES}
 use Rattle.adapter.specs.Commands.{Meaning}
 use Rattle.adapter.specs.Device.{FetchedCommand, DevicePort, Device}
 use Rattle.adapter.specs.Decoding.{DecodesTo}
@@ -26,9 +26,9 @@ pub record IsGuardedSlot (Tables Kept : ℕ → Type 0) (memory : ℕ → ℕ) (
   pub says : DecodesTo memory list slot meaning places
   pub header_start_is_table : HasRange Tables (list + HEADER_BYTES * slot) (list + HEADER_BYTES * slot + 4)
   pub header_end_is_table : HasRange Tables (list + HEADER_BYTES * slot + 8) (list + HEADER_BYTES * slot + HEADER_BYTES)
-  pub table_is_guarded : HasRange Tables says.table (says.table + TABLE_HEAD + PRD_BYTES * length says.prds)
+  pub table_is_guarded : HasRange Tables says.table (says.table + TABLE_HEAD_BYTES + PRD_BYTES * length says.prds)
   pub prdbc_is_not_kept : MissesRange Kept (list + HEADER_BYTES * slot + 4) (list + HEADER_BYTES * slot + 8)
-  pub places_avoid : MissesPieces Kept places
+  pub pieces_are_not_kept : MissesPieces Kept places
 
 -- Each slot in use is guarded, no piece of a taken command is kept, nor is a byte of the received FIS area.
 pub record IsGuardedPort (Tables Kept : ℕ → Type 0) (memory : ℕ → ℕ) (p : DevicePort) : Type 0 where
@@ -43,8 +43,8 @@ pub record IsGuarded (Tables Kept : ℕ → Type 0) (d : Device) : Type 0 where
   pub ports_are_guarded : (port : ℕ) → IsGuardedPort Tables Kept d.memory (d.port port)
 
 -- These bytes are inside the memory and kept, in no table, and in no header of a slot in use.
-pub record IsApart (Tables Kept : ℕ → Type 0) (at n : ℕ) (d : Device) : Type 0 where
-  pub inside : at + n ≤ d.size
+pub record IsKeptOutsideTables (Tables Kept : ℕ → Type 0) (at n : ℕ) (d : Device) : Type 0 where
+  pub inside : at + n ≤ d.memory_size
   pub kept : HasRange Kept at (at + n)
   pub no_table : MissesRange Tables at (at + n)
   pub no_header : (port slot a : ℕ) → InUse (d.port port) slot → at ≤ a → a < at + n →

@@ -1,16 +1,16 @@
 -- An adapter as its driver takes it over.
 use Rattle.std.specs.Prelude.{ℕ, true, false, ◌≡◌, ◌<◌, None}
-use Rattle.adapter.specs.Device.{HasKnownSectors, IsDisk, DevicePort, Device}
+use Rattle.adapter.specs.Device.{HasKnownSectors, HasValidSectors, DevicePort, Device}
 
 -- no command runs, and none is issued or taken, in any slot number
 pub record IsIdlePort (p : DevicePort) : Type 0 where
-  pub st : p.st ≡ false
-  pub cr : p.cr ≡ false
-  pub fre : p.fre ≡ false
-  pub fr : p.fr ≡ false
-  pub ci : (slot : ℕ) → p.ci slot ≡ false
-  pub sact : (slot : ℕ) → p.sact slot ≡ false
-  pub taken : (slot : ℕ) → p.taken slot ≡ None
+  pub st_is_clear : p.st ≡ false
+  pub cr_is_clear : p.cr ≡ false
+  pub fre_is_clear : p.fre ≡ false
+  pub fr_is_clear : p.fr ≡ false
+  pub ci_is_clear : (slot : ℕ) → p.ci slot ≡ false
+  pub sact_is_clear : (slot : ℕ) → p.sact slot ≡ false
+  pub none_is_taken : (slot : ℕ) → p.taken slot ≡ None
 
 -- No reset is pending, and every port is idle, whatever its number.
 pub record IsIdle (d : Device) : Type 0 where
@@ -24,5 +24,5 @@ TellsDisks d = d.telling ≡ true → (port : ℕ) → HasKnownSectors (d.port p
 -- Memory and disks hold bytes, and disks tell their sectors if the adapter is one that tells.
 pub record HoldsBytesAndTellsDisks (d : Device) : Type 0 where
   pub memory_holds_bytes : (at : ℕ) → d.memory at < 256
-  pub disks_hold_sectors : (port : ℕ) → IsDisk (d.port port).disk
+  pub disks_hold_sectors : (port : ℕ) → HasValidSectors (d.port port).disk
   pub disks_are_told : TellsDisks d

@@ -5,14 +5,14 @@ use Rattle.adapter.specs.declared.tape.Entry.{Entry}
 
 -- The addresses are the driver's. Bits of CI, SACT, ST, CR, FRE and FR only fall; nothing is taken while CR
 -- is 0, nothing is left taken once it has fallen, and a free slot stays free.
-pub record KeepsPort (old new : DevicePort) : Type 0 where
-  pub bases : new.bases ≡ old.bases
-  pub st : old.st ≡ false → new.st ≡ false
-  pub fre : old.fre ≡ false → new.fre ≡ false
-  pub cr : old.cr ≡ false → new.cr ≡ false
-  pub fr : old.fr ≡ false → new.fr ≡ false
-  pub ci : (slot : ℕ) → old.ci slot ≡ false → new.ci slot ≡ false
-  pub sact : (slot : ℕ) → old.sact slot ≡ false → new.sact slot ≡ false
+pub record PortBitsOnlyFall (old new : DevicePort) : Type 0 where
+  pub bases_are_kept : new.bases ≡ old.bases
+  pub st_stays_clear : old.st ≡ false → new.st ≡ false
+  pub fre_stays_clear : old.fre ≡ false → new.fre ≡ false
+  pub cr_stays_clear : old.cr ≡ false → new.cr ≡ false
+  pub fr_stays_clear : old.fr ≡ false → new.fr ≡ false
+  pub ci_stays_clear : (slot : ℕ) → old.ci slot ≡ false → new.ci slot ≡ false
+  pub sact_stays_clear : (slot : ℕ) → old.sact slot ≡ false → new.sact slot ≡ false
   pub stays_without_commands : old.cr ≡ false → ((slot : ℕ) → old.taken slot ≡ None) → (slot : ℕ) → new.taken slot
       ≡ None
   pub fall_drops_commands : old.cr ≡ true → new.cr ≡ false → (slot : ℕ) → new.taken slot ≡ None
@@ -20,29 +20,29 @@ pub record KeepsPort (old new : DevicePort) : Type 0 where
 
 -- While no reset is pending: ST, FRE, SCTL.DET and PxIE are the driver's, flags only rise, what IS has latched stays,
 -- and a running port runs on.
-pub record KeepsControls (old new : DevicePort) : Type 0 where
-  pub st : new.st ≡ old.st
-  pub fre : new.fre ≡ old.fre
-  pub sctl_det : new.sctl_det ≡ old.sctl_det
-  pub ie : new.ie ≡ old.ie
-  pub is : (place : ℕ) → old.is place ≡ true → new.is place ≡ true
-  pub ips : new.ips ≡ old.ips
-  pub serr_n : old.serr_n ≡ true → new.serr_n ≡ true
-  pub serr_x : old.serr_x ≡ true → new.serr_x ≡ true
+pub record KeepsControlsFlagsRise (old new : DevicePort) : Type 0 where
+  pub st_is_kept : new.st ≡ old.st
+  pub fre_is_kept : new.fre ≡ old.fre
+  pub sctl_det_is_kept : new.sctl_det ≡ old.sctl_det
+  pub ie_is_kept : new.ie ≡ old.ie
+  pub causes_stay_set : (place : ℕ) → old.is place ≡ true → new.is place ≡ true
+  pub ips_is_kept : new.ips_latched ≡ old.ips_latched
+  pub serr_n_stays_set : old.serr_n ≡ true → new.serr_n ≡ true
+  pub serr_x_stays_set : old.serr_x ≡ true → new.serr_x ≡ true
   pub engine_stays_running : old.st ≡ true → old.cr ≡ true → new.cr ≡ true
 
 pub record KeepsOutsideReset (old new : Device) : Type 0 where
   pub no_reset : new.hr ≡ false
-  pub ae : new.ae ≡ old.ae
-  pub ie : new.ie ≡ old.ie
-  pub controls : (port : ℕ) → KeepsControls (old.port port) (new.port port)
+  pub ae_is_kept : new.ae ≡ old.ae
+  pub ie_is_kept : new.ie ≡ old.ie
+  pub controls_are_kept : (port : ℕ) → KeepsControlsFlagsRise (old.port port) (new.port port)
 
-pub record Keeps (old new : Device) : Type 0 where
-  pub telling : new.telling ≡ old.telling
-  pub size : new.size ≡ old.size
-  pub cap : new.cap ≡ old.cap
-  pub pi : new.pi ≡ old.pi
-  pub ports_are_kept : (port : ℕ) → KeepsPort (old.port port) (new.port port)
+pub record KeepsOverSteps (old new : Device) : Type 0 where
+  pub telling_is_kept : new.telling ≡ old.telling
+  pub memory_size_is_kept : new.memory_size ≡ old.memory_size
+  pub cap_is_kept : new.cap ≡ old.cap
+  pub pi_is_kept : new.pi ≡ old.pi
+  pub ports_are_kept : (port : ℕ) → PortBitsOnlyFall (old.port port) (new.port port)
   pub notes_are_kept : (port : ℕ) → (new.port port).notes ≡ (old.port port).notes
   pub new_entries : List Entry
   pub tape_grows : new.tape ≡ old.tape ++ new_entries

@@ -11,7 +11,7 @@ pub mod KeptBySteps
 pub mod RegisterEffects
 pub mod Guarded
 pub mod Idle
-pub mod ToldSteps
+pub mod AskedSteps
 pub mod OneCommand
 pub mod ReadDone
 pub mod FirstRead

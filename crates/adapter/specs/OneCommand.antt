@@ -1,6 +1,6 @@
 -- An adapter with one command in use.
 use Rattle.std.specs.Prelude.{ℕ, Bool, false, true, ◌≡◌, ◌≢◌, ◌+◌, ◌*◌, ◌<◌, ◌≤◌, ◌&&◌, ◌||◌, not, List, [], ◌∷◌, length, None, Some, nat_le, nat_lt}
-use Rattle.ata_types.specs.declared.memory.TheConstants.{HEADER_BYTES, PRD_BYTES, RECEIVED_FIS_BYTES, TABLE_HEAD}
+use Rattle.ata_types.specs.declared.memory.TheConstants.{HEADER_BYTES, PRD_BYTES, RECEIVED_FIS_BYTES, TABLE_HEAD_BYTES}
 use Rattle.adapter.specs.Commands.{Meaning}
 use Rattle.adapter.specs.Device.{FetchedCommand, DevicePort, Device}
 use Rattle.adapter.specs.Idle.{IsIdlePort}
@@ -12,9 +12,9 @@ use Rattle.adapter.specs.Decoding.{DecodesTo}
 pub record CommandLayout : Type 0 where
   pub header : ℕ
   pub table : ℕ
-  pub entries : ℕ
+  pub prd_count : ℕ
   pub places : List ℕ
-  pub received : ℕ
+  pub received_fis_area : ℕ
 
 -- the byte is one of so many from an address on
 abbrev pub is_in_span : ℕ → ℕ → ℕ → Bool
@@ -28,21 +28,21 @@ is_in_pieces (place ∷ places) at = is_in_span place 512 at || is_in_pieces pla
 -- a byte that the device only reads: of the header but for PRDBC, or of the table
 abbrev pub is_read_only : CommandLayout → ℕ → Bool
 is_read_only s at = is_in_span s.header 4 at || is_in_span (s.header + 8) 24 at
-    || is_in_span s.table (TABLE_HEAD + PRD_BYTES * s.entries) at
+    || is_in_span s.table (TABLE_HEAD_BYTES + PRD_BYTES * s.prd_count) at
 
 -- a byte that the device may write: of PRDBC, of a piece, or of the received FIS area
-abbrev pub is_written : CommandLayout → ℕ → Bool
-is_written s at = is_in_span
-    (s.header + 4) 4 at || is_in_pieces s.places at || is_in_span s.received RECEIVED_FIS_BYTES at
+abbrev pub is_device_writable : CommandLayout → ℕ → Bool
+is_device_writable s at = is_in_span
+    (s.header + 4) 4 at || is_in_pieces s.places at || is_in_span s.received_fis_area RECEIVED_FIS_BYTES at
 
 -- every byte that the device doesn't write
-abbrev pub is_unwritten : CommandLayout → ℕ → Bool
-is_unwritten s at = not (is_written s at)
+abbrev pub is_not_device_writable : CommandLayout → ℕ → Bool
+is_not_device_writable s at = not (is_device_writable s at)
 
 -- a slot with no command, neither issued nor taken
 pub record IsFreeSlot (p : DevicePort) (slot : ℕ) : Type 0 where
-  pub ci : p.ci slot ≡ false
-  pub taken : p.taken slot ≡ None
+  pub ci_is_clear : p.ci slot ≡ false
+  pub is_not_taken : p.taken slot ≡ None
 
 -- the slot's bytes say a command
 pub record SaysCommand (d : Device) (port slot : ℕ) : Type 0 where
@@ -55,9 +55,9 @@ layout_of d port slot c =
     record {
       header = (d.port port).bases.clb + HEADER_BYTES * slot;
       table = c.says.table;
-      entries = length c.says.prds;
+      prd_count = length c.says.prds;
       places = c.places;
-      received = (d.port port).bases.fb;
+      received_fis_area = (d.port port).bases.fb;
     }
 
 -- One slot of one port has a command that is issued or taken, and its bytes say it; if it is taken, then with the
@@ -66,16 +66,16 @@ layout_of d port slot c =
 pub record HasOneCommand (d : Device) (port slot : ℕ) : Type 0 where
   pub slot_is_used : InUse (d.port port) slot
   pub command : SaysCommand d port slot
-  pub taken : (t : FetchedCommand) → (d.port port).taken slot ≡ Some t → t.places ≡ command.places
+  pub taken_has_these_places : (t : FetchedCommand) → (d.port port).taken slot ≡ Some t → t.places ≡ command.places
   pub reads_apart_from_writes : (at : ℕ) → is_read_only (layout_of d port slot command) at ≡ true
-      → is_unwritten (layout_of d port slot command) at ≡ true
-  pub other_slots : (k : ℕ) → k ≢ slot → IsFreeSlot (d.port port) k
-  pub other_ports : (q : ℕ) → q ≢ port → IsIdlePort (d.port q)
+      → is_not_device_writable (layout_of d port slot command) at ≡ true
+  pub other_slots_are_free : (k : ℕ) → k ≢ slot → IsFreeSlot (d.port port) k
+  pub other_ports_are_idle : (q : ℕ) → q ≢ port → IsIdlePort (d.port q)
 
 -- these bytes are inside the memory, and none of them is the command's
-pub record IsElsewhere (s : CommandLayout) (at n : ℕ) (d : Device) : Type 0 where
-  pub inside : at + n ≤ d.size
-  pub elsewhere : (a : ℕ) → at ≤ a → a < at + n → is_read_only s a || is_written s a ≡ false
+pub record IsOutsideCommand (s : CommandLayout) (at n : ℕ) (d : Device) : Type 0 where
+  pub inside : at + n ≤ d.memory_size
+  pub elsewhere : (a : ℕ) → at ≤ a → a < at + n → is_read_only s a || is_device_writable s a ≡ false
 
 -- no slot of any port has a command
 abbrev pub NoneHasCommand : Device → Type 0

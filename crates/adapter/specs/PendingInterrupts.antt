@@ -4,11 +4,11 @@ use Rattle.hba_regs.specs.Bits.{bit}
 use Rattle.hba_regs.specs.declared.reg.Reg.TheVariants.{Ghc, Px}
 use Rattle.hba_regs.specs.declared.reg.Reg.TheVariants as adapter
 use Rattle.hba_regs.specs.declared.reg.PortReg.TheVariants.{Is, Ie}
-use Rattle.adapter.specs.Access.{Access, is_cause, named_causes, written}
+use Rattle.adapter.specs.Access.{Access, is_named_cause, named_causes_mask, device_after_write}
 use Rattle.adapter.specs.Access.Access.{Writing}
 use Rattle.adapter.specs.Device.{Device, DevicePort, FetchedCommand}
 use Rattle.adapter.specs.FirstRead.{first_read_device, reading_port}
-use Rattle.adapter.specs.Steps.{DeviceTransition, device_after, begun, with_port}
+use Rattle.adapter.specs.Steps.{DeviceTransition, device_after, newly_fetched, with_port}
 use Rattle.adapter.specs.Memory.{changed}
 use Rattle.adapter.specs.Steps.DeviceTransition.{FetchFault, Done, Fault, Fatal, LinkUp, Unplug, Plug}
 use Rattle.adapter.specs.declared.command.Operation.TheVariants.{Flush}
@@ -38,8 +38,8 @@ LeavesIe port (Writing (Px its Ie) v) = its.0 ≢ port
 LeavesIe port access = Unit {0}
 
 -- PxIE enables each cause that is named
-abbrev pub EnablesAllCauses : DevicePort → Type 0
-EnablesAllCauses p = (place : ℕ) → is_cause place ≡ true → bit p.ie place ≡ true
+abbrev pub EnablesNamedCauses : DevicePort → Type 0
+EnablesNamedCauses p = (place : ℕ) → is_named_cause place ≡ true → bit p.ie place ≡ true
 
 -- the port that interrupts for what the entry tells of: a command that ended or failed, a fatal error, a disk that went
 -- or came
@@ -54,15 +54,15 @@ interrupting_port _ = None
 -- An adapter whose port 0 tells of all the causes that are named, where its flush is taken; then where the flush has
 -- ended; and where its cause was cleared then.
 abbrev pub flush_taken : FetchedCommand
-flush_taken = begun (record { operation = Flush; first = 0; count = 0 }) []
+flush_taken = newly_fetched (record { operation = Flush; first = 0; count = 0 }) []
 
 abbrev pub flushing : Device
 flushing =
     with_port first_read_device 0
-    (record reading_port { ie = named_causes; taken = changed reading_port.taken 0 (Some flush_taken) })
+    (record reading_port { ie = named_causes_mask; taken = changed reading_port.taken 0 (Some flush_taken) })
 
 abbrev pub flushed : Device
 flushed = device_after (Done 0 0 0 flush_taken) flushing
 
-abbrev pub cleared : Device
-cleared = written (Px (record { 0 = 0 }) Is) 1 flushed
+abbrev pub flush_cause_cleared : Device
+flush_cause_cleared = device_after_write (Px (record { 0 = 0 }) Is) 1 flushed

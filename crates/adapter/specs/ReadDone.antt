@@ -1,9 +1,9 @@
 -- A READ DMA EXT, from its fetch to its end.
 use Rattle.std.specs.Prelude.{ℕ, zero, suc, true, ◌≡◌, ◌+◌, ◌<◌, ◌≤◌, ◌⊎◌, List, [], ◌∷◌, ◌++◌, Some, slice_index}
-use Rattle.adapter.specs.ToldSteps.{SlotGoesOn, PostsNone}
+use Rattle.adapter.specs.AskedSteps.{SlotGoesOn, PostsNone}
 use Rattle.adapter.specs.Memory.{bytes_at, changed}
 use Rattle.adapter.specs.Commands.{Meaning}
-use Rattle.adapter.specs.Device.{IsDisk, Device}
+use Rattle.adapter.specs.Device.{HasValidSectors, Device}
 use Rattle.adapter.specs.OneCommand.{IsFreeSlot}
 use Rattle.adapter.specs.Steps.{Can, Steps, done_entry, snapshot_of_bytes}
 use Rattle.adapter.specs.Steps.DeviceTransition.{Fetch}
@@ -19,18 +19,18 @@ read_of first count = record { operation = Read; first = first; count = count }
 -- memory and apart from the others.
 pub record IsReadFetchable (d : Device) (port slot first count : ℕ) (places : List ℕ) (told : ℕ → List ℕ) : Type 0 where
   pub may_be_fetched : Can (Fetch port slot (read_of first count) places) d
-  pub disk_holds_sectors : IsDisk (d.port port).disk
+  pub disk_holds_sectors : HasValidSectors (d.port port).disk
   pub told_is : (d.port port).disk.sectors ≡ Some told
-  pub on_disk : first + count ≤ (d.port port).disk.size
-  pub inside : (k : ℕ) → k < count → slice_index places k + 512 ≤ d.size
+  pub on_disk : first + count ≤ (d.port port).disk.sector_count
+  pub inside : (k : ℕ) → k < count → slice_index places k + 512 ≤ d.memory_size
   pub pieces_are_apart : (j k : ℕ) → j < k → k < count →
       (slice_index places j + 512 ≤ slice_index places k) ⊎ (slice_index places k + 512 ≤ slice_index places j)
 
 -- the tape's entries of the first n moves: sector after sector goes to piece after piece
-abbrev pub move_entries : (port slot first : ℕ) (places : List ℕ) (told : ℕ → List ℕ) → ℕ → List Entry
-move_entries port slot first places told zero = []
-move_entries port slot first places told (suc n) =
-    move_entries port slot first places told n
+abbrev pub read_move_entries : (port slot first : ℕ) (places : List ℕ) (told : ℕ → List ℕ) → ℕ → List Entry
+read_move_entries port slot first places told zero = []
+read_move_entries port slot first places told (suc n) =
+    read_move_entries port slot first places told n
     ++ entry.Move (record {
       port = record { 0 = port };
       slot = record { 0 = slot };
@@ -50,6 +50,6 @@ pub record IsReadDone (old new : Device) (port slot first count : ℕ) (places :
   pub slot_goes_on : SlotGoesOn PostsNone port slot old new
   pub dhrs_is_shown : (new.port port).is ≡ changed (old.port port).is 0 true
   pub slot_is_free : IsFreeSlot (new.port port) slot
-  pub tape_tells_read : new.tape ≡ old.tape ++ (move_entries port slot first places told count
+  pub tape_tells_read : new.tape ≡ old.tape ++ (read_move_entries port slot first places told count
       ++ done_entry port slot Read ∷ [])
   pub sectors_are_in_memory : (k : ℕ) → k < count → bytes_at new.memory (slice_index places k) 512 ≡ told (first + k)

@@ -1,6 +1,6 @@
 -- What the driver of an adapter has to keep to (AHCI 1.3.1, 3.1, 3.3, 5.3 and 10).
 use Rattle.std.specs.Prelude.{ℕ, true, false, ◌≡◌, ◌≢◌, ◌+◌, ◌*◌, ◌/◌, ◌%◌, ◌<◌, ◌≤◌, ◌⊎◌, ◌||◌, List, length, None, Some, slice_index}
-use Rattle.ata_types.specs.declared.memory.TheConstants.{HEADER_BYTES, LIST_BYTES, PRD_BYTES, RECEIVED_FIS_BYTES, TABLE_HEAD}
+use Rattle.ata_types.specs.declared.memory.TheConstants.{HEADER_BYTES, LIST_BYTES, PRD_BYTES, RECEIVED_FIS_BYTES, TABLE_HEAD_BYTES}
 use Rattle.hba_regs.specs.Bits.{bit}
 use Rattle.hba_regs.specs.declared.reg.Reg.{Reg}
 use Rattle.hba_regs.specs.declared.reg.Reg.TheVariants.{Ghc, Px}
@@ -18,7 +18,7 @@ IsStable P d = (mid : Device) → Steps d mid → P mid
 
 -- the adapter was switched on, and no reset of it is pending
 pub record IsOn (d : Device) : Type 0 where
-  pub ae : d.ae ≡ true
+  pub ae_is_set : d.ae ≡ true
   pub no_reset : d.hr ≡ false
 
 -- the adapter has the port, which is one of the four that are driven
@@ -34,10 +34,10 @@ MayRead _ d = IsOn d
 
 -- Command list and received FIS area are programmed, with no upper addresses.
 pub record IsProgrammed (p : DevicePort) : Type 0 where
-  pub clb : p.bases.clb_set ≡ true
-  pub clbu : p.bases.clbu_set ≡ true
-  pub fb : p.bases.fb_set ≡ true
-  pub fbu : p.bases.fbu_set ≡ true
+  pub clb_is_written : p.bases.clb_set ≡ true
+  pub clbu_is_written : p.bases.clbu_set ≡ true
+  pub fb_is_written : p.bases.fb_set ≡ true
+  pub fbu_is_written : p.bases.fbu_set ≡ true
 
 -- ST may be set
 pub record MayStart (p : DevicePort) : Type 0 where
@@ -50,8 +50,8 @@ pub record MayStart (p : DevicePort) : Type 0 where
 -- FRE may be set
 pub record MaySetFre (p : DevicePort) : Type 0 where
   pub fr_is_clear : p.fr ≡ false
-  pub fb : p.bases.fb_set ≡ true
-  pub fbu : p.bases.fbu_set ≡ true
+  pub fb_is_written : p.bases.fb_set ≡ true
+  pub fbu_is_written : p.bases.fbu_set ≡ true
 
 -- FRE may be cleared
 pub record MayStopReceiving (p : DevicePort) : Type 0 where
@@ -63,14 +63,14 @@ pub record MayWriteCmd (p : DevicePort) (v : ℕ) : Type 0 where
   pub start : bit v 0 ≡ true → (p.st ≡ true) ⊎ MayStart p
   pub receive : bit v 4 ≡ true → (p.fre ≡ true) ⊎ MaySetFre p
   pub stop_receiving : bit v 4 ≡ false → (p.fre ≡ false) ⊎ (MayStopReceiving p × (bit v 0 ≡ false))
-  pub others : (place : ℕ) → place < 32 → place ≢ 0 → place ≢ 4 → bit v place ≡ bit p.notes.last_cmd place
+  pub other_bits_are_kept : (place : ℕ) → place < 32 → place ≢ 0 → place ≢ 4 → bit v place ≡ bit p.notes.last_cmd place
 
 -- Each slot whose bit is set is one of the adapter's and has no command; its bytes say one, and if that is a queued
 -- command, its SACT bit is set already. How many queued commands are out isn't held against the depth that a disk
 -- tells: to keep to that is the driver's. Nor is a plain command forbidden beside queued ones: `IsUnmixed` keeps it
 -- from being taken.
 pub record MayIssue (d : Device) (p : DevicePort) (v : ℕ) : Type 0 where
-  pub running : p.st ≡ true
+  pub st_is_set : p.st ≡ true
   pub slots_are_usable : (slot : ℕ) → bit v slot ≡ true → slot ≤ d.cap / 256 % 32
   pub slots_are_free : (slot : ℕ) → bit v slot ≡ true → (p.ci slot ≡ false) × (p.taken slot ≡ None)
   pub slots_say_commands : (slot : ℕ) → bit v slot ≡ true → (meaning : Meaning) × (places : List ℕ)
@@ -81,10 +81,10 @@ pub record MayIssue (d : Device) (p : DevicePort) (v : ℕ) : Type 0 where
 abbrev pub MayWritePort : PortReg → ℕ → Device → DevicePort → Type 0
 MayWritePort Cmd v d p = MayWriteCmd p v
 MayWritePort Sctl v d p = (p.st ≡ false) × ((v % 16 ≡ 0) ⊎ (v % 16 ≡ 1))
-MayWritePort Clb v d p = (p.cr ≡ false) × (p.st ≡ false) × (v % LIST_BYTES ≡ 0) × (v + LIST_BYTES ≤ d.size)
+MayWritePort Clb v d p = (p.cr ≡ false) × (p.st ≡ false) × (v % LIST_BYTES ≡ 0) × (v + LIST_BYTES ≤ d.memory_size)
 MayWritePort Clbu v d p = (p.cr ≡ false) × (p.st ≡ false) × (v ≡ 0)
 MayWritePort Fb v d p = (p.fr ≡ false) × (p.fre ≡ false) × (v % RECEIVED_FIS_BYTES ≡ 0)
-    × (v + RECEIVED_FIS_BYTES ≤ d.size)
+    × (v + RECEIVED_FIS_BYTES ≤ d.memory_size)
 MayWritePort Fbu v d p = (p.fr ≡ false) × (p.fre ≡ false) × (v ≡ 0)
 MayWritePort Ci v d p = MayIssue d p v
 MayWritePort Sact v d p = p.st ≡ true
@@ -110,7 +110,7 @@ MayWrite _ v d = ⊥
 -- the byte belongs to a piece of a command
 pub record InDataBlocks (places : List ℕ) (at : ℕ) : Type 0 where
   pub number : ℕ
-  pub listed : number < length places
+  pub number_in_range : number < length places
   pub from : slice_index places number ≤ at
   pub to : at < slice_index places number + 512
 
@@ -119,10 +119,10 @@ abbrev pub InUse : DevicePort → ℕ → Type 0
 InUse p slot = (p.ci slot ≡ true) ⊎ ((t : FetchedCommand) × (p.taken slot ≡ Some t))
 
 -- the byte belongs to what the slot's bytes say: its command table, or a piece
-abbrev pub InCommand : Device → DevicePort → ℕ → ℕ → Type 0
-InCommand d p slot at =
+abbrev pub InTableOrPiece : Device → DevicePort → ℕ → ℕ → Type 0
+InTableOrPiece d p slot at =
     (meaning : Meaning) × (places : List ℕ) × (s : DecodesTo d.memory p.bases.clb slot meaning places)
-    × (((s.table ≤ at) × (at < s.table + TABLE_HEAD + PRD_BYTES * length s.prds)) ⊎ InDataBlocks places at)
+    × (((s.table ≤ at) × (at < s.table + TABLE_HEAD_BYTES + PRD_BYTES * length s.prds)) ⊎ InDataBlocks places at)
 
 -- The device may use the byte: it is of the header, the table or the places of a command in use, of the places of a
 -- taken one, or of the received FIS area.
@@ -130,11 +130,11 @@ abbrev pub DeviceOwns : Device → DevicePort → ℕ → ℕ → Type 0
 DeviceOwns d p slot at =
     (InUse p slot
     × (((p.bases.clb + HEADER_BYTES * slot ≤ at) × (at < p.bases.clb + HEADER_BYTES * slot + HEADER_BYTES))
-    ⊎ InCommand d p slot at))
+    ⊎ InTableOrPiece d p slot at))
     ⊎ ((t : FetchedCommand) × (p.taken slot ≡ Some t) × InDataBlocks t.places at)
     ⊎ ((p.fre ≡ true) × (p.bases.fb ≤ at) × (at < p.bases.fb + RECEIVED_FIS_BYTES))
 
 -- these bytes are inside the memory, and the device may use none of them
 pub record IsUnowned (at n : ℕ) (d : Device) : Type 0 where
-  pub inside : at + n ≤ d.size
+  pub inside : at + n ≤ d.memory_size
   pub is_not_owned : (port slot byte : ℕ) → at ≤ byte → byte < at + n → DeviceOwns d (d.port port) slot byte → ⊥

@@ -5,7 +5,7 @@ use Rattle.std.specs.declared.snapshot.Snapshot.{Snapshot}
 use Rattle.ata_types.specs.declared.memory.TheConstants.{HEADER_BYTES, RECEIVED_FIS_BYTES}
 use Rattle.adapter.specs.Memory.{patched, bytes_at, changed}
 use Rattle.adapter.specs.Commands.{Meaning, is_queued, is_ranged, reads_memory, direction_of}
-use Rattle.adapter.specs.Device.{Disk, HasKnownSectors, IsDisk, IsSector, FetchedCommand, Halt, Lasting, DevicePort, Device}
+use Rattle.adapter.specs.Device.{Disk, HasKnownSectors, HasValidSectors, IsValidSector, FetchedCommand, Halt, DurableState, DevicePort, Device}
 use Rattle.adapter.specs.Device.Halt.{NotHalted, HaltedPlain, HaltedQueued, LogOnly}
 use Rattle.adapter.specs.Decoding.{DecodesTo}
 use Rattle.adapter.specs.Trim.{trim_sectors, consecutive}
@@ -18,12 +18,12 @@ use Rattle.adapter.specs.declared.tape.Entry.TheVariants as entry
 pub data DeviceTransition : Type 0 where
   -- an issued command is taken; its bytes mean no command; a piece is moved; sectors of a trim are cleared
   Fetch : (port slot : ℕ) (meaning : Meaning) (places : List ℕ) → DeviceTransition
-  FetchFault : (port slot : ℕ) (queued : Bool) (kept_bits : ℕ) → DeviceTransition
+  FetchFault : (port slot : ℕ) (queued : Bool) (busy_bits : ℕ) → DeviceTransition
   Move : (port slot : ℕ) (t : FetchedCommand) (bytes : List ℕ) → DeviceTransition
   Clear : (port slot : ℕ) (t : FetchedCommand) (first count : ℕ) → DeviceTransition
   -- a taken command ends without error, or fails; the port meets a fatal error (27 IFS, 29 HBFS)
-  Done : (port slot flag : ℕ) (t : FetchedCommand) → DeviceTransition
-  Fault : (port slot error kept_bits : ℕ) (t : FetchedCommand) → DeviceTransition
+  Done : (port slot cause_bit : ℕ) (t : FetchedCommand) → DeviceTransition
+  Fault : (port slot error busy_bits : ℕ) (t : FetchedCommand) → DeviceTransition
   Fatal : (port place : ℕ) → DeviceTransition
   -- CR falls; FR falls; the link comes up
   Fall : (port : ℕ) → DeviceTransition
@@ -42,10 +42,10 @@ admits NotHalted operation = true
 admits LogOnly ReadLog = true
 admits _ operation = false
 
-abbrev pub halted : Halt → Bool → Halt
-halted HaltedQueued queued = HaltedQueued
-halted LogOnly queued = HaltedQueued
-halted _ queued = if queued then HaltedQueued else HaltedPlain
+abbrev pub halt_after_fault : Halt → Bool → Halt
+halt_after_fault HaltedQueued queued = HaltedQueued
+halt_after_fault LogOnly queued = HaltedQueued
+halt_after_fault _ queued = if queued then HaltedQueued else HaltedPlain
 
 abbrev pub halt_after_start : Halt → Halt
 halt_after_start HaltedQueued = LogOnly
@@ -56,11 +56,11 @@ halt_after_start _ = NotHalted
 
 -- the port works on commands of this kind
 pub record IsWorking (p : DevicePort) (operation : Operation) : Type 0 where
-  pub running : p.cr ≡ true
+  pub cr_is_set : p.cr ≡ true
   pub present : p.present ≡ true
   pub fresh : p.fresh ≡ true
   pub admitted : admits p.halt operation ≡ true
-  pub whole : p.broken ≡ false
+  pub is_not_broken : p.broken ≡ false
 
 -- the port works on this command, which it has taken in this slot
 pub record WorksOn (p : DevicePort) (slot : ℕ) (t : FetchedCommand) (operation : Operation) : Type 0 where
@@ -69,7 +69,7 @@ pub record WorksOn (p : DevicePort) (slot : ℕ) (t : FetchedCommand) (operation
 
 -- the slot's command is issued, and not taken yet
 pub record IsFetchable (p : DevicePort) (slot : ℕ) : Type 0 where
-  pub st : p.st ≡ true
+  pub st_is_set : p.st ≡ true
   pub issued : p.ci slot ≡ true
   pub free : p.taken slot ≡ None
 
@@ -99,13 +99,13 @@ pub record MayFetchFault (d : Device) (port slot kept_bits : ℕ) : Type 0 where
       → ⊥
   pub kept_bits_are_allowed : AreBsyDrqBits kept_bits
 
-abbrev pub begun : Meaning → List ℕ → FetchedCommand
-begun meaning places = record { meaning = meaning; places = places; moved = 0; block = []; cleared = 0 }
+abbrev pub newly_fetched : Meaning → List ℕ → FetchedCommand
+newly_fetched meaning places = record { meaning = meaning; places = places; moved = 0; block = []; cleared = 0 }
 
 abbrev pub port_after_fetch : DevicePort → ℕ → Meaning → List ℕ → DevicePort
 port_after_fetch p slot meaning places =
     record p {
-      taken = changed p.taken slot (Some (begun meaning places));
+      taken = changed p.taken slot (Some (newly_fetched meaning places));
       ci = if is_queued meaning.operation then changed p.ci slot false else p.ci;
       tfd = if is_queued meaning.operation then p.tfd else bit_or p.tfd 0x80;
     }
@@ -113,7 +113,7 @@ port_after_fetch p slot meaning places =
 -- status 41h (with BSY and DRQ left set or not), an error, TFES; the port is halted
 abbrev pub port_after_fault : DevicePort → Bool → ℕ → ℕ → DevicePort
 port_after_fault p queued error kept_bits =
-    record p { tfd = 0x41 + kept_bits + 256 * error; is = changed p.is 30 true; halt = halted p.halt queued }
+    record p { tfd = 0x41 + kept_bits + 256 * error; is = changed p.is 30 true; halt = halt_after_fault p.halt queued }
 
 -- ---- Move
 
@@ -127,12 +127,13 @@ next_sector t = if is_ranged t.meaning.operation then t.meaning.first + t.moved 
 -- The bytes that a move may bring: the disk's, where it tells them; memory's, for a command that reads memory; or any
 -- page, for IDENTIFY DEVICE and READ LOG EXT.
 abbrev pub MayBring : Disk → (ℕ → ℕ) → FetchedCommand → Operation → List ℕ → Type 0
-MayBring disk memory t Read bytes = (next_sector t < disk.size)
+MayBring disk memory t Read bytes = (next_sector t < disk.sector_count)
     × IfSome disk.sectors (λ told. bytes ≡ told (next_sector t))
-MayBring disk memory t ReadQueued bytes = (next_sector t < disk.size)
+MayBring disk memory t ReadQueued bytes = (next_sector t < disk.sector_count)
     × IfSome disk.sectors (λ told. bytes ≡ told (next_sector t))
-MayBring disk memory t Write bytes = (next_sector t < disk.size) × (bytes ≡ bytes_at memory (next_place t) 512)
-MayBring disk memory t WriteQueued bytes = (next_sector t < disk.size) × (bytes ≡ bytes_at memory (next_place t) 512)
+MayBring disk memory t Write bytes = (next_sector t < disk.sector_count) × (bytes ≡ bytes_at memory (next_place t) 512)
+MayBring disk memory t WriteQueued bytes = (next_sector t < disk.sector_count)
+    × (bytes ≡ bytes_at memory (next_place t) 512)
 MayBring disk memory t Trim bytes = bytes ≡ bytes_at memory (next_place t) 512
 MayBring disk memory t _ bytes = Unit {0}
 
@@ -140,7 +141,7 @@ MayBring disk memory t _ bytes = Unit {0}
 pub record MayMove (d : Device) (port slot : ℕ) (t : FetchedCommand) (bytes : List ℕ) : Type 0 where
   pub works : WorksOn (d.port port) slot t t.meaning.operation
   pub piece_is_left : t.moved < length t.places
-  pub bytes_are_sector : IsSector bytes
+  pub bytes_are_sector : IsValidSector bytes
   pub brings : MayBring (d.port port).disk d.memory t t.meaning.operation bytes
 
 -- a disk with one sector changed
@@ -180,7 +181,7 @@ pub record MayClear (d : Device) (port slot : ℕ) (t : FetchedCommand) (first c
   pub block_is_moved : t.moved ≡ length t.places
   pub first_is_next : take 1 (drop t.cleared (trim_sectors t.block)) ≡ first ∷ []
   pub sectors_follow : take count (drop t.cleared (trim_sectors t.block)) ≡ consecutive first count
-  pub inside : (count ≡ 0) ⊎ (first + count ≤ (d.port port).disk.size)
+  pub inside : (count ≡ 0) ⊎ (first + count ≤ (d.port port).disk.sector_count)
 
 abbrev pub disk_cleared : Disk → ℕ → ℕ → Disk
 disk_cleared disk first count =
@@ -210,7 +211,7 @@ pub record MayBeDone (d : Device) (port slot flag : ℕ) (t : FetchedCommand) : 
   pub cause_is_allowed : (flag ≡ 0) ⊎ (flag ≡ 1) ⊎ (flag ≡ 3)
 
 -- from the end of a flush on what the disk then holds is lasting (ACS-3, FLUSH CACHE EXT)
-abbrev pub lasting_after : Operation → Lasting → Disk → ℕ → Lasting
+abbrev pub lasting_after : Operation → DurableState → Disk → ℕ → DurableState
 lasting_after Flush lasting disk here = record { sectors = disk.sectors; tape_length = here }
 lasting_after _ lasting disk here = lasting
 
@@ -232,7 +233,7 @@ port_after_done p slot flag operation =
 
 pub record MayFault (p : DevicePort) (slot error kept_bits : ℕ) (t : FetchedCommand) : Type 0 where
   pub taken : p.taken slot ≡ Some t
-  pub running : p.cr ≡ true
+  pub cr_is_set : p.cr ≡ true
   pub is_byte : error < 256
   pub kept_bits_are_allowed : AreBsyDrqBits kept_bits
 
@@ -273,7 +274,7 @@ port_after_reset p =
       ci = λ _. false;
       sact = λ _. false;
       is = λ _. false;
-      ips = false;
+      ips_latched = false;
       other_causes = false;
       serr_n = false;
       serr_x = false;
@@ -292,7 +293,7 @@ port_after_reset p =
 
 -- a place where the device may write what it wants: the received FIS area, or the number in PRDBC of a taken slot
 pub record MayScribble (p : DevicePort) (slot at : ℕ) (bytes : List ℕ) : Type 0 where
-  pub fre : p.fre ≡ true
+  pub fre_is_set : p.fre ≡ true
   pub place : ((p.bases.fb ≤ at) × (at + length bytes ≤ p.bases.fb + RECEIVED_FIS_BYTES))
       ⊎ ((t : FetchedCommand) × (p.taken slot ≡ Some t) × (at ≡ p.bases.clb + HEADER_BYTES * slot + 4)
       × (length bytes ≡ 4))
@@ -312,20 +313,20 @@ bytes_put_into port k _ = None
 
 -- A disk of the port of which this is lasting held these bytes in its sector k when it last ended a flush, or, if it
 -- ended none, when it was first in; or they were put there since.
-abbrev pub WereHeld : List Entry → Lasting → (port k : ℕ) → List ℕ → Type 0
+abbrev pub WereHeld : List Entry → DurableState → (port k : ℕ) → List ℕ → Type 0
 WereHeld tape lasting port k bytes = (option_map (λ sectors. sectors k) lasting.sectors ≡ Some bytes)
     ⊎ ((entry : Entry) × Contains (drop lasting.tape_length tape) entry × (bytes_put_into port k entry ≡ Some bytes))
 
 -- A disk with the name of the one that was in last is that one. It has as many sectors, and each that both tell is as
 -- it was at some moment since a flush was last ended: what its cache held may be lost (FLUSH CACHE EXT, ACS-3).
 pub record IsReplugOf (d : Device) (port : ℕ) (disk : Disk) : Type 0 where
-  pub size : disk.size ≡ (d.port port).disk.size
+  pub size : disk.sector_count ≡ (d.port port).disk.sector_count
   pub holds : (last told : ℕ → List ℕ) → (d.port port).disk.sectors ≡ Some last → disk.sectors ≡ Some told
-      → (k : ℕ) → k < disk.size → (told k ≡ last k) ⊎ WereHeld d.tape (d.port port).lasting port k (told k)
+      → (k : ℕ) → k < disk.sector_count → (told k ≡ last k) ⊎ WereHeld d.tape (d.port port).lasting port k (told k)
 
 -- what is lasting stays so where that disk comes back; of another one it is what it comes with
-abbrev pub lasting_plugged : Lasting → (last disk : Disk) → ℕ → Lasting
-lasting_plugged lasting last disk here =
+abbrev pub lasting_after_plug : DurableState → (last disk : Disk) → ℕ → DurableState
+lasting_after_plug lasting last disk here =
     if nat_eq disk.name last.name then lasting else record { sectors = disk.sectors; tape_length = here }
 
 -- ---- all steps: when each is possible
@@ -342,7 +343,8 @@ Can (Fall port) d = ((d.port port).st ≡ false) × ((d.port port).cr ≡ true)
 Can (FrFall port) d = ((d.port port).fre ≡ false) × ((d.port port).cr ≡ false) × ((d.port port).fr ≡ true)
 Can (LinkUp port sig n) d = MayLinkUp (d.port port) sig
 Can (Unplug port) d = (d.port port).present ≡ true
-Can (Plug port disk) d = ((d.port port).present ≡ false) × IsDisk disk × (d.telling ≡ true → HasKnownSectors disk)
+Can (Plug port disk) d = ((d.port port).present ≡ false) × HasValidSectors disk
+    × (d.telling ≡ true → HasKnownSectors disk)
     × (disk.name ≡ (d.port port).disk.name → IsReplugOf d port disk)
 Can ResetEnds d = d.hr ≡ true
 Can (Scribble port slot at bytes) d = MayScribble (d.port port) slot at bytes
@@ -420,8 +422,8 @@ device_after (Plug port disk) d =
     with_port_and_entry d port
     (record (d.port port) {
       disk = disk;
-      plugged = (d.port port).plugged ++ disk ∷ [];
-      lasting = lasting_plugged (d.port port).lasting (d.port port).disk disk (length d.tape);
+      plug_history = (d.port port).plug_history ++ disk ∷ [];
+      lasting = lasting_after_plug (d.port port).lasting (d.port port).disk disk (length d.tape);
       ssts_det = 3;
       present = true;
       fresh = false;

@@ -1,11 +1,6 @@
 // The calls of an adapter, and of one whose device can be told what to do.
 ghost use Rattle.std.specs.Prelude.{ℕ, ◌+◌, ◌≡◌, length, true, false};
-ghost use Rattle.adapter.specs.Device.{Device};
-ghost use Rattle.adapter.specs.ToldSteps.{DoesOrFailsStep};
-ghost use Rattle.adapter.specs.Idle.{TellsDisks};
-ghost use Rattle.adapter.specs.Steps.{Steps};
-ghost use Rattle.adapter.specs.Access.{Reads, Writes, Loads, Stores};
-ghost use Rattle.adapter.specs.Rules.{MayRead, MayWrite, IsUnowned, IsStable};
+ghost use Rattle.adapter.specs.{Device.{Device}, AskedSteps.{DoesOrFailsStep}, Idle.{TellsDisks}, Steps.{Steps}, Access.{Reads, Writes, Loads, Stores}, Rules.{MayRead, MayWrite, IsUnowned, IsStable}};
 
 use ata_types::{Port, Slot};
 use hba_regs::Reg;

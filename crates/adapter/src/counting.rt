@@ -1,6 +1,5 @@
 // How many accesses were made: what an adapter keeps so that `access_count` is true of it.
-ghost use Rattle.std.specs.Prelude.{ℕ, ◌≡◌, ◌+◌, ◌-◌, ◌^◌, min};
-ghost use Rattle.std.specs.Borrow.{ftrue};
+ghost use Rattle.std.specs.{Prelude.{ℕ, ◌≡◌, ◌+◌, ◌-◌, ◌^◌, min}, Borrow.{ftrue}};
 
 use std::marker::{Model, PhantomData};
 
@@ -40,7 +39,7 @@ impl AccessCount {
 #[derive(Drop)]
 pub struct AccessCounter {
     /// Their number, as far as 64 bits have one: it stays at the greatest.
-    pub shown: u64,
+    pub saturating_count: u64,
     /// Their number.
     pub count: AccessCount,
 }
@@ -48,21 +47,21 @@ pub struct AccessCounter {
 impl AccessCounter {
     /// None was made.
     pub fn none() -> AccessCounter
-        ensures shown { result.shown ≡ 0 }
+        ensures shown { result.saturating_count ≡ 0 }
         ensures made { result.count.made ≡ 0 }
     {
         AccessCounter {
-            shown: 0,
+            saturating_count: 0,
             count: AccessCount::none(),
         }
     }
 
     /// Counts one more.
     pub fn add(&mut self)
-        ensures shown { self.new.shown ≡ min (self.old.shown + 1) (2 ^ 64 - 1) }
+        ensures shown { self.new.saturating_count ≡ min (self.old.saturating_count + 1) (2 ^ 64 - 1) }
         ensures made { self.new.count.made ≡ self.old.count.made + 1 }
     {
-        self.shown = self.shown.saturating_add(1);
+        self.saturating_count = self.saturating_count.saturating_add(1);
         self.count = self.count.more();
     }
 }

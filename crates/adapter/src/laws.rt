@@ -1,30 +1,11 @@
 // Laws of the definitions, for the crates above: the clause is the theorem. Nothing that runs calls these functions.
 ghost use Rattle.std.specs.Prelude.{◌<◌, ◌≡◌, ◌+◌, ◌*◌, ◌≤◌, ◌++◌, ℕ, Some, Bool, true, false, List, All, Contains, if◌then◌else◌, is_some, length, slice_index};
-ghost use Rattle.ata_types.specs.declared.Port.{Port};
-ghost use Rattle.ata_types.specs.declared.memory.TheConstants.{FRAME_BYTES, HEADER_BYTES, RECEIVED_FIS_BYTES};
-ghost use Rattle.hba_regs.specs.declared.reg.PortReg.{PortReg};
-ghost use Rattle.hba_regs.specs.declared.reg.Reg.{Reg};
-ghost use Rattle.hba_regs.specs.declared.reg.Reg.TheVariants.{Px};
+ghost use Rattle.ata_types.specs.{declared.Port.{Port}, declared.memory.TheConstants.{FRAME_BYTES, HEADER_BYTES, RECEIVED_FIS_BYTES}};
+ghost use Rattle.hba_regs.specs.{declared.reg.PortReg.{PortReg}, declared.reg.Reg.{Reg}, declared.reg.Reg.TheVariants.{Px}, Bits.{bit}};
+ghost use Rattle.adapter.specs.{declared.access.DeviceStep.{DeviceStep}, Access.{Access, ShowsPending, Does, DoesAll, IsDriven, Reads, Writes, is_named_cause, is_pending, named_causes_mask, raises_interrupt, shown_interrupt, device_after_write}, AskedSteps.{DoesOrFailsStep, IsScribbled, memory_filled}, Commands.{Meaning}, Device.{Device, DevicePort}, FirstRead.{first_read_device, first_disk_sector}};
+ghost use Rattle.adapter.specs.{Guarded.{PassesTest, MissesRange, IsGuarded, IsKeptOutsideTables}, Idle.{IsIdle, HoldsBytesAndTellsDisks}, KeptBySteps.{KeepsOverSteps, KeepsControlsFlagsRise}, Memory.{bytes_at, patched}, OneCommand.{NoneHasCommand, HasOneCommand, IsOutsideCommand, is_read_only, is_not_device_writable, layout_of}, ReadDone.{IsReadDone, IsReadFetchable, read_of}};
+ghost use Rattle.adapter.specs.{PendingInterrupts.{LeavesIe, KeepsIsBit, SetsCause, EnablesNamedCauses, interrupting_port, flush_cause_cleared, flushed, flushing, flush_taken}, Rules.{HasPort, IsOn, IsUnowned, IsStable}, Decoding.{DecodesTo, piece_addresses}, RegisterEffects.{PortRegisterWritten, PortRegisterRead}, Steps.{Can, DeviceTransition, Steps, device_after}, declared.tape.Entry.{Entry}};
 ghost use Rattle.hba_regs.specs.declared.reg.Reg.TheVariants as adapter;
-ghost use Rattle.hba_regs.specs.Bits.{bit};
-ghost use Rattle.adapter.specs.declared.access.DeviceStep.{DeviceStep};
-ghost use Rattle.adapter.specs.Access.{Access, ShowsPending, Does, DoesAll, IsDriven, Reads, Writes, is_cause, is_pending, named_causes, raises_interrupt, shown_interrupt, written};
-ghost use Rattle.adapter.specs.ToldSteps.{DoesOrFailsStep, IsScribbled, memory_filled};
-ghost use Rattle.adapter.specs.Commands.{Meaning};
-ghost use Rattle.adapter.specs.Device.{Device, DevicePort};
-ghost use Rattle.adapter.specs.FirstRead.{first_read_device, first_disk_sector};
-ghost use Rattle.adapter.specs.Guarded.{PassesTest, MissesRange, IsGuarded, IsApart};
-ghost use Rattle.adapter.specs.Idle.{IsIdle, HoldsBytesAndTellsDisks};
-ghost use Rattle.adapter.specs.KeptBySteps.{Keeps, KeepsControls};
-ghost use Rattle.adapter.specs.Memory.{bytes_at, patched};
-ghost use Rattle.adapter.specs.OneCommand.{NoneHasCommand, HasOneCommand, IsElsewhere, is_read_only, is_unwritten, layout_of};
-ghost use Rattle.adapter.specs.ReadDone.{IsReadDone, IsReadFetchable, read_of};
-ghost use Rattle.adapter.specs.PendingInterrupts.{LeavesIe, KeepsIsBit, SetsCause, EnablesAllCauses, interrupting_port, cleared, flushed, flushing, flush_taken};
-ghost use Rattle.adapter.specs.Rules.{HasPort, IsOn, IsUnowned, IsStable};
-ghost use Rattle.adapter.specs.Decoding.{DecodesTo, piece_addresses};
-ghost use Rattle.adapter.specs.RegisterEffects.{PortRegisterWritten, PortRegisterRead};
-ghost use Rattle.adapter.specs.Steps.{Can, DeviceTransition, Steps, device_after};
-ghost use Rattle.adapter.specs.declared.tape.Entry.{Entry};
 
 /// The device may do nothing, and what it does goes on.
 pub fn law_steps_compose()
@@ -33,7 +14,7 @@ pub fn law_steps_compose()
 {}
 
 /// What a device was told to do is some of its steps.
-pub fn law_told_steps_are_transitions()
+pub fn law_asked_steps_are_transitions()
     ensures { (s : DeviceStep) (old new : Device) → DoesOrFailsStep s old new → Steps old new }
 {}
 
@@ -65,7 +46,7 @@ pub fn law_scribble_slot_by_slot()
 
 /// What no step of the device changes, no list of steps changes.
 pub fn law_step_lists_keep_what_steps_keep()
-    ensures { (old new : Device) → Steps old new → Keeps old new }
+    ensures { (old new : Device) → Steps old new → KeepsOverSteps old new }
 {}
 
 /// By itself the device doesn't switch an adapter on that isn't: as its reset ends, AE falls.
@@ -89,7 +70,7 @@ pub fn law_kept_bytes_stay()
 /// Kept bytes that belong to no table and no header in use may be loaded and stored, whatever the device does first.
 pub fn law_apart_bytes_are_free()
     ensures { (tables kept : ℕ → Bool) (at n : ℕ) (d : Device) → IsGuarded (PassesTest tables) (PassesTest kept) d
-        → IsApart (PassesTest tables) (PassesTest kept) at n d → IsStable (IsUnowned at n) d }
+        → IsKeptOutsideTables (PassesTest tables) (PassesTest kept) at n d → IsStable (IsUnowned at n) d }
 {}
 
 /// A reading of any register leaves kept bytes and guards as the device's steps do.
@@ -123,22 +104,25 @@ pub fn law_port_register_accesses()
 
 /// What each of two fragments keeps of a port's controls, both keep; and so does nothing.
 pub fn law_kept_controls_compose()
-    ensures reflexive { (p : DevicePort) → KeepsControls p p }
-    ensures transitive { (old mid new : DevicePort) → KeepsControls old mid → KeepsControls mid new
-        → KeepsControls old new }
+    ensures reflexive { (p : DevicePort) → KeepsControlsFlagsRise p p }
+    ensures transitive { (old mid new : DevicePort) → KeepsControlsFlagsRise old mid → KeepsControlsFlagsRise mid new
+        → KeepsControlsFlagsRise old new }
 {}
 
 /// The port's interrupt is pending where PxIS shows a cause that PxIE enables; and so it is after each step of the
 /// device that raises such a cause: an end of a command, a fault, a fatal error, a disk that comes or goes (AHCI 1.3.1,
 /// 3.1.3 and 3.3.5). What steps raise is one of the causes that are named.
 pub fn law_an_enabled_cause_is_pending()
-    ensures named { (place : ℕ) → is_cause place ≡ true → bit named_causes place ≡ true }
-    ensures no_other_is_named { (place : ℕ) → place < 32 → bit named_causes place ≡ is_cause place }
-    ensures raises { (step : DeviceTransition) (port place : ℕ) (d : Device) → Can step d → SetsCause step port place
-        → is_cause place ≡ true }
-    ensures shown { (p : DevicePort) (place : ℕ) → is_cause place ≡ true → shown_interrupt p place ≡ true
+    ensures named { (place : ℕ) → is_named_cause place ≡ true → bit named_causes_mask place ≡ true }
+    ensures no_other_is_named { (place : ℕ) → place < 32 → bit named_causes_mask place ≡ is_named_cause place }
+    ensures steps_raise_causes { (step : DeviceTransition) (port place : ℕ) (d : Device) → Can step d
+        → SetsCause step port place
+        → is_named_cause place ≡ true }
+    ensures cause_shown_is_pending { (p : DevicePort) (place : ℕ) → is_named_cause place ≡ true
+        → shown_interrupt p place ≡ true
         → bit p.ie place ≡ true → is_pending p ≡ true }
-    ensures raised { (step : DeviceTransition) (port place : ℕ) (d : Device) → Can step d → SetsCause step port place
+    ensures cause_raised_is_pending { (step : DeviceTransition) (port place : ℕ) (d : Device) → Can step d
+        → SetsCause step port place
         → bit (d.port port).ie place ≡ true → is_pending ((device_after step d).port port) ≡ true }
 {}
 
@@ -150,9 +134,9 @@ pub fn law_a_pending_interrupt_stays()
     ensures accesses { (port : ℕ) (accesses : List Access) (old new : Device) → DoesAll accesses old new
         → All (KeepsIsBit port) accesses → old.hr ≡ false
         → is_pending (old.port port) ≡ true → is_pending (new.port port) ≡ true }
-    ensures shown { (port v : ℕ) (old new : Device) → Reads adapter.Is v old new → HasPort new port
+    ensures is_reading_shows_pending { (port v : ℕ) (old new : Device) → Reads adapter.Is v old new → HasPort new port
         → ShowsPending (bit v port) (new.port port) }
-    ensures cleared { (port v : ℕ) (old new : Device) → Writes adapter.Is v old new → bit v port ≡ true
+    ensures is_write_leaves_raised { (port v : ℕ) (old new : Device) → Writes adapter.Is v old new → bit v port ≡ true
         → is_pending (new.port port) ≡ raises_interrupt (new.port port) }
 {}
 
@@ -162,7 +146,7 @@ pub fn law_a_pending_interrupt_stays()
 pub fn law_what_the_tape_tells_is_pending()
     ensures { (port : ℕ) (e : Entry) (accesses : List Access) (gained : List Entry)
         (old new : Device) → interrupting_port e ≡ Some port → DoesAll accesses old new → All (KeepsIsBit port) accesses
-        → All (LeavesIe port) accesses → old.hr ≡ false → EnablesAllCauses (old.port port)
+        → All (LeavesIe port) accesses → old.hr ≡ false → EnablesNamedCauses (old.port port)
         → new.tape ≡ old.tape ++ gained → Contains gained e
         → is_pending (new.port port) ≡ true }
 {}
@@ -172,12 +156,12 @@ pub fn law_what_the_tape_tells_is_pending()
 /// PxIS was cleared; then a write of the bit clears it.
 pub fn law_an_interrupt_comes_and_goes()
     ensures none_is_pending { is_pending (flushing.port 0) ≡ false }
-    ensures causes_are_enabled { (flushing.hr ≡ false) × EnablesAllCauses (flushing.port 0) }
+    ensures causes_are_enabled { (flushing.hr ≡ false) × EnablesNamedCauses (flushing.port 0) }
     ensures flush_may_end { Can (DeviceTransition.Done 0 0 0 flush_taken) flushing }
     ensures end_is_pending { is_pending (flushed.port 0) ≡ true }
-    ensures stays_while_cause_shows { is_pending ((written adapter.Is 1 flushed).port 0) ≡ true }
-    ensures stays_without_cause { is_pending (cleared.port 0) ≡ true }
-    ensures goes_by_is_write { is_pending ((written adapter.Is 1 cleared).port 0) ≡ false }
+    ensures stays_while_cause_shows { is_pending ((device_after_write adapter.Is 1 flushed).port 0) ≡ true }
+    ensures stays_without_cause { is_pending (flush_cause_cleared.port 0) ≡ true }
+    ensures goes_by_is_write { is_pending ((device_after_write adapter.Is 1 flush_cause_cleared).port 0) ≡ false }
 {}
 
 /// Where no slot has a command, any bytes that are not of a received FIS area in use are guarded, and no table is
@@ -194,7 +178,8 @@ pub fn law_an_adapter_without_commands_is_guarded()
 pub fn law_an_idle_adapter_is_guarded()
     ensures guarded { (kept : ℕ → Bool) (d : Device) → IsIdle d
         → IsGuarded (PassesTest (λ _. false)) (PassesTest kept) d }
-    ensures free { (at n : ℕ) (d : Device) → IsIdle d → at + n ≤ d.size → IsStable (IsUnowned at n) d }
+    ensures bytes_are_unowned { (at n : ℕ) (d : Device) → IsIdle d → at + n ≤ d.memory_size
+        → IsStable (IsUnowned at n) d }
 {}
 
 /// An adapter with one command is guarded: what the device only reads for it are the tables, and what it doesn't write
@@ -202,9 +187,9 @@ pub fn law_an_idle_adapter_is_guarded()
 pub fn law_an_adapter_with_a_command_is_guarded()
     ensures guarded { (port slot : ℕ) (d : Device) (c : HasOneCommand d port slot)
         → IsGuarded (PassesTest (is_read_only (layout_of d port slot c.command)))
-        (PassesTest (is_unwritten (layout_of d port slot c.command))) d }
-    ensures free { (port slot at n : ℕ) (d : Device) (c : HasOneCommand d port slot)
-        → IsElsewhere (layout_of d port slot c.command) at n d → IsStable (IsUnowned at n) d }
+        (PassesTest (is_not_device_writable (layout_of d port slot c.command))) d }
+    ensures bytes_are_unowned { (port slot at n : ℕ) (d : Device) (c : HasOneCommand d port slot)
+        → IsOutsideCommand (layout_of d port slot c.command) at n d → IsStable (IsUnowned at n) d }
 {}
 
 /// A read that may be fetched can be done, on a disk that tells its sectors: some steps of its slot's command lead to

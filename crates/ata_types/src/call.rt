@@ -61,7 +61,7 @@ pub enum CallResult<R = Replies> {
     Stored(Result<(), MemFault>),
     Loaded(Result<ArrayVec<u8, MOST_CALL_BYTES>, MemFault>),
     /// What a service or a tick answered.
-    Served(R),
+    Replied(R),
     /// What a reset answered, if it ended.
     WasReset(Result<R, AdapterStuck>),
     /// What a revocation answered, if the grant was there.

@@ -11,19 +11,20 @@ pub const MOST_FRAMES: u16 = 1024;
 
 /// The driver's frames of each port. The first has the port's command list and its received FIS area, the next
 /// seventeen have its command tables, and the last is its scratch frame.
-pub const PORT_FRAMES: u16 = 19;
+pub const DRIVER_FRAMES_PER_PORT: u16 = 19;
 
-/// Bytes of the driver's frames of a port: those of port p begin at byte `PORT_BYTES` p, with its command list.
-pub const PORT_BYTES: u32 = FRAME_BYTES * PORT_FRAMES as u32;
+/// Bytes of the driver's frames of a port: those of port p begin at byte `DRIVER_BYTES_PER_PORT` p, with its command
+/// list.
+pub const DRIVER_BYTES_PER_PORT: u32 = FRAME_BYTES * DRIVER_FRAMES_PER_PORT as u32;
 
 /// The driver's frames of all four ports. The frames behind them are clients'.
-pub const DRIVER_FRAMES: u16 = PORTS as u16 * PORT_FRAMES;
+pub const DRIVER_FRAMES: u16 = PORTS as u16 * DRIVER_FRAMES_PER_PORT;
 
 /// Frames of the smallest memory that a server can use: the driver's, and one for a client.
 pub const FEWEST_FRAMES: u16 = DRIVER_FRAMES + 1;
 
 /// Bytes of the driver's frames of all four ports.
-pub const DRIVER_BYTES: u32 = PORTS as u32 * PORT_BYTES;
+pub const DRIVER_BYTES: u32 = PORTS as u32 * DRIVER_BYTES_PER_PORT;
 
 /// Bytes of a command list: 32 headers. Its address is a multiple of them (AHCI 1.3.1, 3.3.1 and 4.2.2).
 pub const LIST_BYTES: u32 = 1024;
@@ -47,16 +48,17 @@ pub const TABLES_OFFSET: u32 = FRAME_BYTES;
 pub const TABLE_BYTES: u32 = 2176;
 
 /// Bytes of a command table before its PRDs: the command FIS, and what isn't used (AHCI 1.3.1, 4.2.3).
-pub const TABLE_HEAD: u32 = 128;
+pub const TABLE_HEAD_BYTES: u32 = 128;
 
 /// Bytes of a PRD (AHCI 1.3.1, 4.2.3.3).
 pub const PRD_BYTES: u32 = 16;
 
 /// Bytes of a command table with as many PRDs as a request can have frames.
-pub const LONGEST_TABLE: usize = TABLE_HEAD as usize + PRD_BYTES as usize * MOST_REQUEST_FRAMES;
+pub const LONGEST_TABLE_BYTES: usize = TABLE_HEAD_BYTES as usize
+    + PRD_BYTES as usize * MOST_REQUEST_FRAMES;
 
 /// Which of a port's frames is its scratch frame.
-pub const SCRATCH_FRAME: u16 = PORT_FRAMES - 1;
+pub const SCRATCH_FRAME: u16 = DRIVER_FRAMES_PER_PORT - 1;
 
 /// Where a port's scratch frame begins, from its first frame on.
 pub const SCRATCH_OFFSET: u32 = FRAME_BYTES * SCRATCH_FRAME as u32;

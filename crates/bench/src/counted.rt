@@ -38,24 +38,24 @@ impl Counts {
 
 /// An adapter that counts its accesses.
 #[derive(Drop)]
-pub struct Counted<A> {
+pub struct CountingAdapter<A> {
     adapter: A,
     pub counts: Counts,
 }
 
-impl<A> Counted<A> {
+impl<A> CountingAdapter<A> {
     /// None were made yet.
-    pub fn new(adapter: A) -> Counted<A>
+    pub fn new(adapter: A) -> CountingAdapter<A>
         ensures { result.adapter ≡ adapter }
     {
-        Counted {
+        CountingAdapter {
             adapter,
             counts: Counts::NONE,
         }
     }
 }
 
-impl<A: Adapter> Adapter for Counted<A> {
+impl<A: Adapter> Adapter for CountingAdapter<A> {
     ghost device = { λ c. A.device c.adapter };
 
     ghost access_count = { λ c. A.access_count c.adapter };
@@ -83,7 +83,7 @@ impl<A: Adapter> Adapter for Counted<A> {
     ghost tells = { λ c. A.tells c.adapter };
 }
 
-impl<A: Stepped> Stepped for Counted<A> {
+impl<A: Stepped> Stepped for CountingAdapter<A> {
     fn step(&mut self, s: &DeviceStep) -> bool {
         self.adapter.step(s)
     }

@@ -1,5 +1,5 @@
 // The accesses that calls make, as a table.
-use crate::counted::{Counted, Counts};
+use crate::counted::{CountingAdapter, Counts};
 use adapter::DeviceStep;
 use arrayvec::ArrayVec;
 use ata_types::{ClientId, DRIVER_FRAMES, Frame, Op, Port, Request, Sector, Slot};
@@ -55,7 +55,7 @@ const TOGETHER: [(u8, &str); 6] = [
 ];
 
 /// A server whose accesses are counted.
-type Served = Server<Counted<Model<MemStore>>>;
+type Served = Server<CountingAdapter<Model<MemStore>>>;
 
 /// Reads or writes eight sectors from sector 0 on, for a client. `None` if it is refused.
 fn transfer(server: &mut Served, client: u8, op: Op, frame: u16) -> Option<()> {
@@ -178,7 +178,7 @@ pub fn print_counts<W: io::Write>(alloc: Global, out: &mut W) -> Option<()> {
     let Ok(model) = new_model(alloc, &config, image, blank) else {
         return None;
     };
-    let Ok(server) = Server::new(alloc, &config, Counted::new(model)) else {
+    let Ok(server) = Server::new(alloc, &config, CountingAdapter::new(model)) else {
         return None;
     };
     let mut server = server;

@@ -1,5 +1,5 @@
 // A script over a disk in memory.
-use play::{Ended, play};
+use play::{Ended, PlayInputs, play};
 use sector_store::MemStore;
 use std::fs::{File, Files};
 use std::io::{BufWriter, Write};
@@ -20,15 +20,14 @@ pub fn play_files(
     let image = MemStore::new(rt.alloc(), SECTORS).ok()?;
     let blank = MemStore::new(rt.alloc(), 0).ok()?;
     let mut out = BufWriter::new(rt.alloc(), io::writer(rt)).ok()?;
-    let finished = play(
-        rt.alloc(),
-        config.as_slice(),
-        script.as_slice(),
+    let inputs = PlayInputs {
+        config: config.as_slice(),
+        script: script.as_slice(),
         image,
         blank,
-        false,
-        &mut out,
-    );
+        trace: false,
+    };
+    let finished = play(rt.alloc(), inputs, &mut out);
     let written = out.flush();
     (finished.ended == Ended::Done && written.is_ok()).then_some(())
 }

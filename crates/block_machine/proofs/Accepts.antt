@@ -40,7 +40,7 @@ id_below start [] r w = absurd w
 id_below start (step ∷ past) r (inl c) = grown step r c
   where
     grown : (y : Step) (r : Accepted) → Comes (after start past) y r → r.id.0 < (after_step (after start past) y).next_id
-    grown (Accept new) r c = let e = c.1.id in omega (arith, e)
+    grown (Accept new) r c = let e = c.1.id_is_next in omega (arith, e)
     grown _ r c = absurd c.0
 id_below start (step ∷ past) r (inr w) = let g = next_grows (after start past) step in let b = id_below start past r w in omega (arith, g, b)
 
@@ -53,9 +53,9 @@ pub law_one_id_is_one_request : (start : Machine) (h : List Step) (a b : Accepte
 law_one_id_is_one_request start [] a b p q e = absurd p
 law_one_id_is_one_request start (step ∷ past) a b (inl p) (inl q) e = same_accept step a b p.0 q.0
 law_one_id_is_one_request start (step ∷ past) a b (inl p) (inr q) e =
-    let low = id_below start past b q in let new = p.1.id in let n : a.id.0 ≡ b.id.0 = ap (λ i. i.0) e in absurd (omega (arith, low, new, n))
+    let low = id_below start past b q in let new = p.1.id_is_next in let n : a.id.0 ≡ b.id.0 = ap (λ i. i.0) e in absurd (omega (arith, low, new, n))
 law_one_id_is_one_request start (step ∷ past) a b (inr p) (inl q) e =
-    let low = id_below start past a p in let new = q.1.id in let n : a.id.0 ≡ b.id.0 = ap (λ i. i.0) e in absurd (omega (arith, low, new, n))
+    let low = id_below start past a p in let new = q.1.id_is_next in let n : a.id.0 ≡ b.id.0 = ap (λ i. i.0) e in absurd (omega (arith, low, new, n))
 law_one_id_is_one_request start (step ∷ past) a b (inr p) (inr q) e = law_one_id_is_one_request start past a b p q e
 
 -- What an accepted request is.
@@ -97,25 +97,25 @@ law_accepted_is_granted m r new = ⊎_elim
     (λ (x : (row : GrantRow) × IsNamed m.rows r.asked row). record {
       row = x.0;
       is_named = x.1;
-      row_port_is = new.port x.0 x.1;
-      op_is_allowed = ⊎_elim (λ t. t) (λ f. absurd (new.unbroken NoRight (x.0, x.1, f))) (allows_cases x.0.rights r.asked.op);
+      row_port_is = new.port_is_of_its_row x.0 x.1;
+      op_is_allowed = ⊎_elim (λ t. t) (λ f. absurd (new.breaks_no_rule NoRight (x.0, x.1, f))) (allows_cases x.0.rights r.asked.op);
       sectors_are_covered = λ op. ⊎_elim
-          (λ (lt : r.asked.first.0 < x.0.first.0). absurd (new.unbroken OutsideGrant (op, (x.0, x.1, λ c. let le = c.0 in omega (arith, lt, le)))))
+          (λ (lt : r.asked.first.0 < x.0.first.0). absurd (new.breaks_no_rule OutsideGrant (op, (x.0, x.1, λ c. let le = c.0 in omega (arith, lt, le)))))
           (λ (from : x.0.first.0 ≤ r.asked.first.0). ⊎_elim
-          (λ (lt : x.0.first.0 + x.0.count < r.asked.first.0 + r.asked.count). absurd (new.unbroken OutsideGrant (op, (x.0, x.1, λ c. let le = c.1 in omega (arith, lt, le)))))
+          (λ (lt : x.0.first.0 + x.0.count < r.asked.first.0 + r.asked.count). absurd (new.breaks_no_rule OutsideGrant (op, (x.0, x.1, λ c. let le = c.1 in omega (arith, lt, le)))))
           (λ (to : r.asked.first.0 + r.asked.count ≤ x.0.first.0 + x.0.count). (from, to))
           (cases_lt (x.0.first.0 + x.0.count) (r.asked.first.0 + r.asked.count)))
           (cases_lt r.asked.first.0 x.0.first.0);
     })
-    (λ none. absurd (new.unbroken NoGrant none))
+    (λ none. absurd (new.breaks_no_rule NoGrant none))
     (row_of m.rows r.asked)
 
 -- the numbers of its frames and sectors fit
 frames_fit : (m : Machine) (r : Accepted) → MayAccept m r → length r.asked.frames.items ≡ frame_count_for r.asked.op r.asked.count
-frames_fit m r new = ⊎_elim (λ e. e) (λ ne. absurd (new.unbroken FrameCount ne)) (cases_eq (length r.asked.frames.items) (frame_count_for r.asked.op r.asked.count))
+frames_fit m r new = ⊎_elim (λ e. e) (λ ne. absurd (new.breaks_no_rule FrameCount ne)) (cases_eq (length r.asked.frames.items) (frame_count_for r.asked.op r.asked.count))
 
 pub flush_empty : (m : Machine) (r : Accepted) → MayAccept m r → r.asked.op ≡ Flush → r.asked.count ≡ 0
-flush_empty m r new op = ⊎_elim (λ e. e) (λ ne. absurd (new.unbroken BadCount (subst (λ (o : Op). IsAllowedCount o r.asked.count → ⊥) (sym op) ne))) (cases_eq r.asked.count 0)
+flush_empty m r new op = ⊎_elim (λ e. e) (λ ne. absurd (new.breaks_no_rule BadCount (subst (λ (o : Op). IsAllowedCount o r.asked.count → ⊥) (sym op) ne))) (cases_eq r.asked.count 0)
 
 framed : (op : Op) (count n i : ℕ) → n ≡ frame_count_for op count → MovesBytes op → i < count → i / 8 < n
 framed Read count n i e b lt = omega arith

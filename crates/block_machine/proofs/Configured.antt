@@ -39,7 +39,7 @@ rows_differ m (step ∷ past) differ = differ_step (after m past) step (rows_dif
 pub names_differ : (m : Machine) → IsReachable m → AllPairs DifferInName m.rows
 names_differ m reached =
     subst (λ (n : Machine). AllPairs DifferInName n.rows) (sym reached.leads_to_machine)
-    (rows_differ reached.initial_machine reached.steps_since reached.is_initial.rows)
+    (rows_differ reached.initial_machine reached.steps_since reached.is_initial.rows_differ_in_name)
 
 pub owner_step : (m : Machine) (step : Step) (f : Frame) → (after_step m step).owner f ≡ m.owner f
 owner_step m (Accept r) f = refl
@@ -66,9 +66,9 @@ was_granted start (step ∷ past) r (inr w) = was_granted start past r w
 accepted_client : (start : Machine) (h : List Step) (r : Accepted) → IsInitial start → WasAccepted start h r → (1 ≤ r.asked.client.0) × (r.asked.client.0 ≤ 8)
 accepted_client start h r s w =
     let g = was_granted start h r w in
-    let row = s.configured g.row g.is_named.0 in
-    let low = row.client.0 in
-    let high = row.client.1 in
+    let row = s.rows_are_valid g.row g.is_named.0 in
+    let low = row.client_is_valid.0 in
+    let high = row.client_is_valid.1 in
     let same : g.row.client.0 ≡ r.asked.client.0 = ap (λ (x : ClientId). x.0) g.is_named.1.0 in
     (omega (arith, low, same), omega (arith, high, same))
 

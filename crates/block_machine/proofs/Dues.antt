@@ -174,8 +174,8 @@ module _ (mode : QueueMode) (book : List Unanswered) (e : Unanswered) (order : O
       let is : ◌≡◌ {A = ℕ} (cond (new (mark_issued e.id e)) 1 0) 1 = ap (λ (b : Bool). cond {A = ℕ} b 1 0) (ap new becomes ∙ and_from _ _ (eq-eqb e.port.0 e.port.0 refl) refl) in
       omega (arith, changed, was, is)
 
-  slots_less : (x : Unanswered) → x.port ≡ e.port → free_slots mode (with_issued e.id book) x.port ≡ mode.usable - (issued_count book x.port + 1)
-  slots_less x port = ap (λ (n : ℕ). mode.usable - n)
+  slots_less : (x : Unanswered) → x.port ≡ e.port → free_slots mode (with_issued e.id book) x.port ≡ mode.usable_slots - (issued_count book x.port + 1)
+  slots_less x port = ap (λ (n : ℕ). mode.usable_slots - n)
       (ap (issued_count (with_issued e.id book)) port ∙ one_more ∙ ap (λ (p : Port). issued_count book p + 1) (sym port))
 
   earlier_one : (x : Unanswered) → x.port ≡ e.port → e.id.0 < x.id.0 → ◌≡◌ {A = ℕ} (cond (is_earlier_on_port e x) 1 0) 1

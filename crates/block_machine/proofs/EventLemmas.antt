@@ -8,15 +8,15 @@ use Rattle.ata_types.specs.declared.request.RequestId.{RequestId}
 use Rattle.ata_types.specs.declared.request.Op.TheVariants.{Read}
 use Rattle.ata_types.specs.declared.request.Outcome.TheVariants.{Ok, DeviceError, Aborted, Unplugged, PortDead, Revoked}
 use Rattle.block_machine.specs.State.{Block, Memory, Pending, Machine, frame_at, is_reader}
-use Rattle.block_machine.specs.Steps.{Step, Accept, Touch, WaitAgain, Answer, Release, Store, IsEnabled, after_step, is_kept_at_answer, unlend, is_lent_to, put_bytes, memory_after, AllTouched}
+use Rattle.block_machine.specs.Steps.{Step, Accept, Touch, WaitAgain, Answer, Release, Store, IsEnabled, after_step, is_kept_at_answer, unlend, is_lent_to, put_bytes, memory_after_touch, AllTouched}
 use Rattle.block_machine.specs.Expected.{after, IsLegal, IsInitial, AllStepsFaithful, HoldsExpected}
 use Rattle.block_machine.specs.Ports.{Ports, Evidence}
-use Rattle.block_machine.specs.Events.{AbstractState, AbstractCall, Submit, StoreAt, LoadAt, Service, Tick, Reset, RevokeOf, State, Device, CallRecord, AllEnabled, IsByDevice, IsByServer, AreStepsOfCall, AllAnswersLawful, abstract_after_all, IsRun, steps_of, EveryReadHolds}
+use Rattle.block_machine.specs.Events.{AbstractState, AbstractCall, Submit, StoreAt, LoadAt, Service, Tick, Reset, RevokeOf, State, StepDevice, CallRecord, AllEnabled, IsByDevice, IsByServer, AreStepsOfCall, AnswersAndWaitsLawful, abstract_after_all, IsRun, steps_of, EveryReadHoldsExpected}
 use Rattle.block_machine.proofs.Order.{In}
 use Rattle.block_machine.proofs.Sound.{Sound}
 use Rattle.block_machine.proofs.Trace.{runs_lives}
 use Rattle.block_machine.proofs.Reading.{put_other}
-use Rattle.block_machine.proofs.Runs.{traced, law_read_holds_expected}
+use Rattle.block_machine.proofs.Runs.{traced, law_touched_read_holds_expected}
 
 -- Steps one after the other.
 
@@ -54,7 +54,7 @@ abbrev pub AllWhole : List Step → Type 0
 AllWhole [] = Unit {0}
 AllWhole (step ∷ past) = AllWhole past × IsWhole step
 
-answer_whole : (old : AbstractState) (evidence : Evidence) (ports : Ports) (step : Step) (before : List Step) → AllAnswersLawful old evidence ports (step ∷ before) → AllAnswersLawful old evidence ports before × IsWhole step
+answer_whole : (old : AbstractState) (evidence : Evidence) (ports : Ports) (step : Step) (before : List Step) → AnswersAndWaitsLawful old evidence ports (step ∷ before) → AnswersAndWaitsLawful old evidence ports before × IsWhole step
 answer_whole old evidence ports (Answer e Ok) before l = (l.0, (l.1.2, l.1.3))
 answer_whole old evidence ports (Answer e (DeviceError status error)) before l = (l.0, tt)
 answer_whole old evidence ports (Answer e Aborted) before l = (l.0, tt)
@@ -64,7 +64,7 @@ answer_whole old evidence ports (Answer e Revoked) before l = (l.0, tt)
 answer_whole old evidence ports (WaitAgain e) before l = (l.0, tt)
 answer_whole old evidence ports _ before l = (l, tt)
 
-call_whole : (old : AbstractState) (evidence : Evidence) (ports : Ports) (steps past : List Step) → AllAnswersLawful old evidence ports steps → AllWhole past → AllWhole (steps ++ past)
+call_whole : (old : AbstractState) (evidence : Evidence) (ports : Ports) (steps past : List Step) → AnswersAndWaitsLawful old evidence ports steps → AllWhole past → AllWhole (steps ++ past)
 call_whole old evidence ports [] past l w = w
 call_whole old evidence ports (step ∷ before) past l w =
     let q = answer_whole old evidence ports step before l in (call_whole old evidence ports before past q.0 w, q.1)
@@ -151,9 +151,9 @@ quiet_or_silent {D} (State port) ports = inr go
     go : (step : Step) → IsByServer {D = D} (State port) ports step → IsSilent step
     go (Answer e outcome) h = absurd h
     go _ h = tt
-quiet_or_silent {D} (Device d) ports = inr go
+quiet_or_silent {D} (StepDevice d) ports = inr go
   where
-    go : (step : Step) → IsByServer {D = D} (Device d) ports step → IsSilent step
+    go : (step : Step) → IsByServer {D = D} (StepDevice d) ports step → IsSilent step
     go (Answer e outcome) h = absurd h
     go _ h = tt
 
@@ -174,7 +174,7 @@ unlent_none id lent f e = cond-false (is_lent_to id (lent f)) None (lent f) (ap 
 stays_touch : (m : Machine) → Sound m → (e : Pending) (i : ℕ) (block : Block) → IsEnabled m (Touch e i block) → (f : Frame) → m.lent f ≡ None → (b : ℕ) → (after_step m (Touch e i block)).memory f b ≡ m.memory f b
 stays_touch m s e i block may f none b = by (is_reader e.request.asked.op) refl
   where
-    by : (t : Bool) → is_reader e.request.asked.op ≡ t → memory_after e.request i block m.memory f b ≡ m.memory f b
+    by : (t : Bool) → is_reader e.request.asked.op ≡ t → memory_after_touch e.request i block m.memory f b ≡ m.memory f b
     by false t = ap (λ (x : Memory). x f b) (cond-false (is_reader e.request.asked.op) (put_bytes (frame_at e.request.asked.frames.items (i / 8)) (512 * (i % 8)) 512 block m.memory) m.memory t)
     by true t =
         let l = runs_lives m e may.0 in
@@ -200,15 +200,15 @@ answer_holds : (start : Machine) (memory : Memory) (past : List Step) (e : Pendi
 answer_holds start memory past e s l told w is_kept_at_answer op =
     let m = after start past in
     let sound = (traced start past s l.0).sound in
-    let holds = law_read_holds_expected start past e s l.0 told l.1.0 w.0 op in
+    let holds = law_touched_read_holds_expected start past e s l.0 told l.1.0 w.0 op in
     let room = sound.room e (inl l.1.0) (ap is_reader op) in
     let gone : (i : ℕ) → i < length e.request.asked.frames.items → unlend e.request.id m.lent (frame_at e.request.asked.frames.items i) ≡ None = λ i lt.
     cond-true (is_lent_to e.request.id (m.lent (frame_at e.request.asked.frames.items i))) None (m.lent (frame_at e.request.asked.frames.items i))
     (ap (is_lent_to e.request.id) (sound.lent e (inl l.1.0) i lt) ∙ eq-eqb e.request.id.0 e.request.id.0 refl) in
     record {
-      sectors = λ i lt. let q = holds.sectors i lt in
+      sectors_are_expected = λ i lt. let q = holds.sectors_are_expected i lt in
           (q.0, q.1, λ b lb. is_kept_at_answer (frame_at e.request.asked.frames.items (i / 8)) (gone (i / 8) (omega (arith, room, lt))) (512 * (i % 8) + b) ∙ q.2 b lb);
-      rest = λ i b beyond lt lb. is_kept_at_answer (frame_at e.request.asked.frames.items (i / 8)) (gone (i / 8) (omega (arith, lt))) (512 * (i % 8) + b) ∙ holds.rest i b beyond lt lb;
+      rest_is_as_accepted = λ i b beyond lt lb. is_kept_at_answer (frame_at e.request.asked.frames.items (i / 8)) (gone (i / 8) (omega (arith, lt))) (512 * (i % 8) + b) ∙ holds.rest_is_as_accepted i b beyond lt lb;
     }
 
 -- a call's steps in which the read is answered Ok
@@ -233,8 +233,8 @@ belongs ask ports (x ∷ xs) b step (inl e) = subst (λ (y : Step). IsByDevice y
 belongs ask ports (x ∷ xs) b step (inr i) = belongs ask ports xs b.0 step i
 
 -- each read of a run that was answered Ok has, at the end of its call, what is left
-pub law_every_read_holds : {D : Type 0} (first : AbstractState) (run : List (CallRecord D)) → IsRun first run → AllStepsFaithful first.machine (steps_of run) → EveryReadHolds first run
-law_every_read_holds {D} first run r told later earlier event rest before e is split op =
+pub law_answered_reads_hold_expected : {D : Type 0} (first : AbstractState) (run : List (CallRecord D)) → IsRun first run → AllStepsFaithful first.machine (steps_of run) → EveryReadHoldsExpected first run
+law_answered_reads_hold_expected {D} first run r told later earlier event rest before e is split op =
     in_run later (subst (IsRun first) is r) (subst (λ (l : List (CallRecord D)). AllStepsFaithful first.machine (steps_of l)) is told)
   where
     told_before : (late early : List Step) → AllStepsFaithful first.machine (late ++ early) → AllStepsFaithful first.machine early
@@ -246,7 +246,7 @@ law_every_read_holds {D} first run r told later earlier event rest before e is s
 
     in_call : IsRun first (event ∷ earlier) → AllStepsFaithful first.machine (steps_of (event ∷ earlier)) → Held
     in_call r told = ⊎_elim
-        (λ (q : Quiet event.ask event.ports). answers_hold first.machine (abstract_after_all first (event ∷ earlier)).machine.memory rest e before (steps_of earlier)
+        (λ (q : Quiet event.call event.ports). answers_hold first.machine (abstract_after_all first (event ∷ earlier)).machine.memory rest e before (steps_of earlier)
         (run_starts first earlier r.0)
         (subst (λ (steps : List Step). IsLegal first.machine (steps ++ steps_of earlier)) split (run_legal first (event ∷ earlier) r))
         (subst (λ (steps : List Step). AllStepsFaithful first.machine (steps ++ steps_of earlier)) split told)
@@ -255,11 +255,11 @@ law_every_read_holds {D} first run r told later earlier event rest before e is s
         (λ f none b. ap (λ (m : Machine). m.memory f b) (moment_is first (event ∷ earlier)
         ∙ ap (λ (steps : List Step). after first.machine (steps ++ steps_of earlier)) split))
         op)
-        (λ (q : Silent event.ask event.ports). absurd (⊎_elim (λ d. (devices_quiet (Answer e Ok) d).1) (λ h. q (Answer e Ok) h) (its (Answer e Ok) (answer_is_in rest e before))))
-        (quiet_or_silent event.ask event.ports)
+        (λ (q : Silent event.call event.ports). absurd (⊎_elim (λ d. (devices_quiet (Answer e Ok) d).1) (λ h. q (Answer e Ok) h) (its (Answer e Ok) (answer_is_in rest e before))))
+        (quiet_or_silent event.call event.ports)
       where
-        its : (step : Step) → In step (answering rest e before) → IsByDevice step ⊎ IsByServer event.ask event.ports step
-        its step i = belongs event.ask event.ports event.steps r.1.steps_are_of_call step (subst (In step) (sym split) i)
+        its : (step : Step) → In step (answering rest e before) → IsByDevice step ⊎ IsByServer event.call event.ports step
+        its step i = belongs event.call event.ports event.steps r.1.steps_are_of_call step (subst (In step) (sym split) i)
 
     in_run : (later : List (CallRecord D)) → IsRun first (later ++ event ∷ earlier) → AllStepsFaithful first.machine (steps_of (later ++ event ∷ earlier)) → Held
     in_run [] r told = in_call r told

@@ -30,7 +30,7 @@ pub record IsFitFor (row : GrantRow) (s : AdmissionContext) (r : Request) : Type
   pub ready : s.state row.port ≡ Ready
   pub on_disk : r.op ≢ Flush → r.first.0 + r.count ≤ s.sectors row.port
   pub no_trim : r.op ≢ Trim
-  pub few : s.unanswered r.client < 16
+  pub few : s.unanswered_count r.client < 16
   pub ids : s.next_id < 2 ^ 64
 
 pub fit_acceptable : (row : GrantRow) (s : AdmissionContext) (r : Request) → IsFitFor row s r → IsAcceptable s r

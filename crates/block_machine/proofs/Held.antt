@@ -37,7 +37,7 @@ held_step m (Replace port id size disk) may s o l h = h
 held_step m (Load client frame offset bytes) may s o l h = h
 
 new_held : (m : Machine) (step : Step) (r : Accepted) → Comes m step r → FramesAreAsAccepted (after_step m step) r
-new_held m (Accept new) r c = λ i b past room lb. ap (λ (f : ℕ → Block). f i b) (sym c.1.held)
+new_held m (Accept new) r c = λ i b past room lb. ap (λ (f : ℕ → Block). f i b) (sym c.1.blocks_are_in_memory)
 new_held m _ r c = absurd c.0
 
 pub all_held : (m : Machine) (step : Step) → IsEnabled m step → Sound m → AllHeld m → AllHeld (after_step m step)

@@ -17,7 +17,7 @@ use Rattle.block_machine.specs.declared.due.Unanswered.{Unanswered}
 use Rattle.block_machine.specs.State.{Accepted, Pending, Machine, frame_at, is_reader, unanswered, newly_unanswered}
 use Rattle.block_machine.specs.Rules.{frame_count_for}
 use Rattle.block_machine.specs.DueRequests.{IsDue, are_conflicting, waits_for, is_plain}
-use Rattle.block_machine.specs.Steps.{Step, Accept, Issue, Touch, End, Age, WaitAgain, Answer, Revoke, Release, Unplug, Replace, Store, Load, IsEnabled, MayAccept, NoneQuarantined, after_step, update_pending, without_pending, HoldsFrames, MayStillMove, newly_issued, touch, mark_ended, requeued, aged_pending, newly_accepted, lend, unlend, unlend_all, is_lent_to, is_kept_at_answer}
+use Rattle.block_machine.specs.Steps.{Step, Accept, Issue, Touch, End, Age, WaitAgain, Answer, Revoke, Release, Unplug, Replace, Store, Load, IsEnabled, MayAccept, NoneKept, after_step, update_pending, without_pending, HoldsFrames, MayStillMove, newly_issued, touch, mark_ended, requeued, aged_pending, newly_accepted, lend, unlend, unlend_all, is_lent_to, is_kept_at_answer}
 use Rattle.block_machine.proofs.Members.{contains_none, contains_here, contains_there, contains_cases, map_in, into_map, at_cases, without_in, append_in, none_of}
 use Rattle.block_machine.proofs.Sound.{Sound, Carries, IsChanged, KeepsRequest, IsLentAll, IsDistinct, lived, order_carried, carried}
 
@@ -81,7 +81,7 @@ issue_carries m mode e = record {
   lent = λ x. refl;
 }
 
-keeps_issue : (m : Machine) (mode : QueueMode) (e : Pending) → Sound m → Contains m.book e → IsDue mode (map unanswered m.book) (unanswered e) → NoneQuarantined m e.request.port → Sound (after_step m (Issue mode e))
+keeps_issue : (m : Machine) (mode : QueueMode) (e : Pending) → Sound m → Contains m.book e → IsDue mode (map unanswered m.book) (unanswered e) → NoneKept m e.request.port → Sound (after_step m (Issue mode e))
 keeps_issue m mode e s here due none = carried (update_pending e.request.id newly_issued) (λ x. x) m (after_step m (Issue mode e)) (issue_carries m mode e) order s
   where
     earlier : (a : Pending) → HoldsFrames m a → a.request.id.0 < e.request.id.0 → are_conflicting (newly_unanswered a.request) (newly_unanswered e.request) ≡ true → ⊥
@@ -260,7 +260,7 @@ enough Flush count n e r = absurd (false≢true r)
 
 keeps_accept : (m : Machine) (request : Accepted) → Sound m → MayAccept m request → Sound (after_step m (Accept request))
 keeps_accept m request s new = record {
-  below = λ x l. ⊎_elim (λ i. below x i) (λ p. subst (λ (y : Pending). y.request.id.0 < suc m.next_id) (sym p) (omega (arith, new.id))) (who x l);
+  below = λ x l. ⊎_elim (λ i. below x i) (λ p. subst (λ (y : Pending). y.request.id.0 < suc m.next_id) (sym p) (omega (arith, new.id_is_next))) (who x l);
   one = λ a b ha hb eq. one a b (append_in m.book (newly_accepted request) a ha) (append_in m.book (newly_accepted request) b hb) eq;
   kept_one = s.kept_one;
   apart = λ a b ha hb eq. apart a b (append_in m.book (newly_accepted request) a ha) hb eq;
@@ -278,7 +278,7 @@ keeps_accept m request s new = record {
     below x i = let b = s.below x i in omega (arith, b)
 
     is_new : (x : Pending) → x ≡ newly_accepted request → x.request.id.0 ≡ m.next_id
-    is_new x p = ap (λ (y : Pending). y.request.id.0) p ∙ new.id
+    is_new x p = ap (λ (y : Pending). y.request.id.0) p ∙ new.id_is_next
 
     clash : (a b : Pending) → HoldsFrames m a → b ≡ newly_accepted request → a.request.id.0 ≡ b.request.id.0 → ⊥
     clash a b l p eq = let below = s.below a l in let id = is_new b p in omega (arith, below, id, eq)
@@ -295,7 +295,7 @@ keeps_accept m request s new = record {
 
     unlent : (x : Frame) → IsSome (m.lent x) → list_any (λ g. g.0 == x.0) request.asked.frames.items ≡ false
     unlent x h = false_from_ne_true _ (λ t. let r = place_of x request.asked.frames.items t in
-        new.unbroken (Frames (FrameLent r.0)) (frame_at request.asked.frames.items r.0, get_frame request.asked.frames.items r.0 r.1, subst (λ (y : Frame). IsSome (m.lent y)) (sym r.2) h))
+        new.breaks_no_rule (Frames (FrameLent r.0)) (frame_at request.asked.frames.items r.0, get_frame request.asked.frames.items r.0 r.1, subst (λ (y : Frame). IsSome (m.lent y)) (sym r.2) h))
 
     lent : (x : Pending) → HoldsFrames m x ⊎ (x ≡ newly_accepted request) → IsLentAll (lend request m.lent) x.request
     lent x (inl l) k lt =
@@ -308,11 +308,11 @@ keeps_accept m request s new = record {
         own j below = cond-true (list_any (λ g. g.0 == (frame_at request.asked.frames.items j).0) request.asked.frames.items) (Some request.id) (m.lent (frame_at request.asked.frames.items j)) (has_place request.asked.frames.items j below)
 
     apart_frames : IsDistinct request.asked.frames.items
-    apart_frames i j lt below eq = new.unbroken (Frames (FrameTwice i))
+    apart_frames i j lt below eq = new.breaks_no_rule (Frames (FrameTwice i))
         (frame_at request.asked.frames.items i, j, lt, get_frame request.asked.frames.items j (omega (arith, lt, below)) ∙ ap Some eq, get_frame request.asked.frames.items i below)
 
     room : is_reader request.asked.op ≡ true → request.asked.count ≤ 8 * length request.asked.frames.items
-    room r = ⊎_elim (λ e. enough request.asked.op request.asked.count (length request.asked.frames.items) e r) (λ ne. absurd (new.unbroken FrameCount ne)) (cases_eq (length request.asked.frames.items) (frame_count_for request.asked.op request.asked.count))
+    room r = ⊎_elim (λ e. enough request.asked.op request.asked.count (length request.asked.frames.items) e r) (λ ne. absurd (new.breaks_no_rule FrameCount ne)) (cases_eq (length request.asked.frames.items) (frame_count_for request.asked.op request.asked.count))
 
     order : (e a : Pending) → MayStillMove (after_step m (Accept request)) e → HoldsFrames m a ⊎ (a ≡ newly_accepted request) → a.request.id.0 < e.request.id.0 → are_conflicting (newly_unanswered a.request) (newly_unanswered e.request) ≡ true → ⊥
     order e a (inr i) (inl l) lt con = s.order e a (inr i) l lt con

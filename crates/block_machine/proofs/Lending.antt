@@ -49,12 +49,12 @@ lent_before m Release f id may h = inl (as_was (list_any (λ e. is_lent_to e.req
 lent_before m _ f id may h = inl h
 
 lent_at : (start : Machine) (past : List Step) (f : Frame) (id : RequestId) → IsInitial start → IsLegal start past → (after start past).lent f ≡ Some id → DRIVER_FRAMES ≤ f.0
-lent_at start [] f id s legal h = some-none h (s.lent f)
+lent_at start [] f id s legal h = some-none h (s.no_frame_is_lent f)
 lent_at start (step ∷ past) f id s legal h = ⊎_elim
     (λ (l : (after start past).lent f ≡ Some id). lent_at start past f id s legal.0 l)
     (λ (o : (r : Accepted) × Comes (after start past) step r × (r.id ≡ id) × HasFrame r f).
-    (s.owned f o.0.asked.client (sym (owners_stay start past f) ∙ ap (after start past).owner (sym o.3.2)
-    ∙ owned _ o.0.asked.client (λ ne. o.1.1.unbroken (Frames (FrameForeign o.3.0)) (frame_at o.0.asked.frames.items o.3.0, get_frame o.0.asked.frames.items o.3.0 o.3.1, ne)))).2)
+    (s.owned_frames_are_clients f o.0.asked.client (sym (owners_stay start past f) ∙ ap (after start past).owner (sym o.3.2)
+    ∙ owned _ o.0.asked.client (λ ne. o.1.1.breaks_no_rule (Frames (FrameForeign o.3.0)) (frame_at o.0.asked.frames.items o.3.0, get_frame o.0.asked.frames.items o.3.0 o.3.1, ne)))).2)
     (lent_before (after start past) step f id legal.1 h)
 
 pub lent_clients : (m : Machine) (f : Frame) (id : RequestId) → IsReachable m → m.lent f ≡ Some id → DRIVER_FRAMES ≤ f.0
@@ -63,7 +63,7 @@ lent_clients m f id r h = lent_at r.initial_machine r.steps_since f id r.is_init
 -- what is lent, is lent to an accepted request that has it
 pub lent_accepted : (start : Machine) (past : List Step) (f : Frame) (id : RequestId) → IsInitial start → IsLegal start past → (after start past).lent f ≡ Some id →
     (r : Accepted) × WasAccepted start past r × (r.id ≡ id) × HasFrame r f
-lent_accepted start [] f id s legal h = some-none h (s.lent f)
+lent_accepted start [] f id s legal h = some-none h (s.no_frame_is_lent f)
 lent_accepted start (step ∷ past) f id s legal h = ⊎_elim
     (λ (l : (after start past).lent f ≡ Some id). let x = lent_accepted start past f id s legal.0 l in (x.0, inr x.1, x.2, x.3))
     (λ (o : (r : Accepted) × Comes (after start past) step r × (r.id ≡ id) × HasFrame r f). (o.0, inl o.1, o.2, o.3))

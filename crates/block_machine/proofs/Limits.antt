@@ -64,7 +64,7 @@ order_append (y ∷ ys) x o less = (
 )
 
 order_step : (m : Machine) (step : Step) → IsEnabled m step → Sound m → Ordered (map unanswered m.book) → Ordered (map unanswered (after_step m step).book)
-order_step m (Accept r) may s o = order_append m.book (newly_accepted r) o (λ e i. let b = s.below e (inl i) in let q = may.id in omega (arith, b, q))
+order_step m (Accept r) may s o = order_append m.book (newly_accepted r) o (λ e i. let b = s.below e (inl i) in let q = may.id_is_next in omega (arith, b, q))
 order_step m (Issue mode e) may s o = order_map (update_pending e.request.id newly_issued) m.book (at_keeps e.request.id newly_issued (λ x. refl)) o
 order_step m (Touch e i block) may s o = order_map (update_pending e.request.id (touch i)) m.book (at_keeps e.request.id (touch i) (λ x. refl)) o
 order_step m (End e) may s o = order_map (update_pending e.request.id mark_ended) m.book (at_keeps e.request.id mark_ended (λ x. refl)) o
@@ -74,7 +74,7 @@ order_step m (Answer e outcome) may s o = order_without e.request.id m.book o
 order_step m _ may s o = o
 
 ordered : (start : Machine) (h : List Step) → IsInitial start → IsLegal start h → Ordered (map unanswered (after start h).book)
-ordered start [] s legal = subst (λ (es : List Pending). Ordered (map unanswered es)) (sym s.book) tt
+ordered start [] s legal = subst (λ (es : List Pending). Ordered (map unanswered es)) (sym s.book_is_empty) tt
 ordered start (step ∷ past) s legal = order_step (after start past) step legal.1 (traced start past s legal.0).sound (ordered start past s legal.0)
 
 pub law_book_in_order : (start : Machine) (h : List Step) → IsInitial start → IsLegal start h → IsInOrder (map unanswered (after start h).book)
@@ -82,14 +82,14 @@ law_book_in_order start h s legal = from_ordered (map unanswered (after start h)
 
 -- Issues.
 
-pub older_issues : (ready : Port → Bool) (e : Pending) → (aged_pending ready e).issues ≡ e.issues
-older_issues ready e = elim (e.issued && ready e.request.port) as (λ b. (cond b (record e { age = suc e.age }) e).issues ≡ e.issues) [ true ↦ refl | false ↦ refl ]
+pub older_issues : (ready : Port → Bool) (e : Pending) → (aged_pending ready e).issue_count ≡ e.issue_count
+older_issues ready e = elim (e.issued && ready e.request.port) as (λ b. (cond b (record e { age = suc e.age }) e).issue_count ≡ e.issue_count) [ true ↦ refl | false ↦ refl ]
 
 -- a request that is issued was issued one to four times; one that waits may still be issued
 record IsCounted (e : Pending) : Type 0 where
-  some : e.issued ≡ true → 1 ≤ e.issues
-  most : e.issues ≤ 4
-  left : e.issued ≡ false → e.issues < 4
+  some : e.issued ≡ true → 1 ≤ e.issue_count
+  most : e.issue_count ≤ 4
+  left : e.issued ≡ false → e.issue_count < 4
 
 abbrev AllCounted : Machine → Type 0
 AllCounted m = (e : Pending) → HoldsFrames m e → IsCounted e
@@ -122,7 +122,7 @@ counted_step m (End e) may s c x (inr h) = counted_at e.request.id mark_ended m.
 counted_step m (Age ready) may s c x (inl h) =
     let r = map_in (aged_pending ready) m.book x h in
     let q = c r.0 (inl r.1) in
-    let n : x.issues ≡ r.0.issues = ap (λ (y : Pending). y.issues) r.2 ∙ older_issues ready r.0 in
+    let n : x.issue_count ≡ r.0.issue_count = ap (λ (y : Pending). y.issue_count) r.2 ∙ older_issues ready r.0 in
     let t : x.issued ≡ r.0.issued = ap (λ (y : Pending). y.issued) r.2 ∙ older_issued ready r.0 in
     record {
       some = λ i. let a = q.some (sym t ∙ i) in omega (arith, a, n);
@@ -132,7 +132,7 @@ counted_step m (Age ready) may s c x (inl h) =
 counted_step m (Age ready) may s c x (inr h) = c x (inr h)
 counted_step m (WaitAgain e) may s c x (inl h) = counted_at e.request.id requeued m.book (λ o k. c o (inl k))
     (λ o k id.
-    let few : o.issues < 4 = subst (λ (y : Pending). y.issues < 4) (s.one e o may.0 k (sym id)) may.2 in
+    let few : o.issue_count < 4 = subst (λ (y : Pending). y.issue_count < 4) (s.one e o may.0 k (sym id)) may.2 in
     record { some = λ t. absurd (false≢true t); most = omega (arith, few); left = λ _. few }) x h
 counted_step m (WaitAgain e) may s c x (inr h) = c x (inr h)
 counted_step m (Answer e outcome) may s c x (inl h) = c x (inl (without_in e.request.id m.book x h).0)
@@ -174,7 +174,7 @@ few_step m (Accept r) may c le =
     (λ (t : (r.asked.client.0 == c.0) ≡ true).
     let one : ◌≡◌ {A = ℕ} (cond (r.asked.client.0 == c.0) 1 0) 1 = ap (λ (b : Bool). cond {A = ℕ} b 1 0) t in
     let same : r.asked.client ≡ c = ap (λ n. record { 0 = n }) (eqb-true r.asked.client.0 c.0 t) in
-    let few : unanswered_count m.book c < 16 = subst (λ (x : ClientId). unanswered_count m.book x < 16) same may.few in
+    let few : unanswered_count m.book c < 16 = subst (λ (x : ClientId). unanswered_count m.book x < 16) same may.client_has_room in
     omega (arith, more, last, one, few))
     (λ (f : (r.asked.client.0 == c.0) ≡ false).
     let none : ◌≡◌ {A = ℕ} (cond (r.asked.client.0 == c.0) 1 0) 0 = ap (λ (b : Bool). cond {A = ℕ} b 1 0) f in
@@ -189,7 +189,7 @@ few_step m (Answer e outcome) may c le = let a = fewer_without c e.request.id m.
 few_step m _ may c le = le
 
 few : (start : Machine) (h : List Step) → IsInitial start → IsLegal start h → (c : ClientId) → unanswered_count (after start h).book c ≤ 16
-few start [] s legal c = subst (λ (es : List Pending). unanswered_count es c ≤ 16) (sym s.book) (omega arith)
+few start [] s legal c = subst (λ (es : List Pending). unanswered_count es c ≤ 16) (sym s.book_is_empty) (omega arith)
 few start (step ∷ past) s legal c = few_step (after start past) step legal.1 c (few start past s legal.0 c)
 
 -- Owners.
@@ -211,23 +211,23 @@ owned (Some d) c h = ⊎_elim
 accepted_owned : (start : Machine) (h : List Step) (r : Accepted) → WasAccepted start h r → (i : ℕ) → i < length r.asked.frames.items → (after start h).owner (frame_at r.asked.frames.items i) ≡ Some r.asked.client
 accepted_owned start [] r w i lt = absurd w
 accepted_owned start (step ∷ past) r (inl c) i lt = owner_step (after start past) step (frame_at r.asked.frames.items i)
-    ∙ owned _ r.asked.client (λ ne. c.1.unbroken (Frames (FrameForeign i)) (frame_at r.asked.frames.items i, get_frame r.asked.frames.items i lt, ne))
+    ∙ owned _ r.asked.client (λ ne. c.1.breaks_no_rule (Frames (FrameForeign i)) (frame_at r.asked.frames.items i, get_frame r.asked.frames.items i lt, ne))
 accepted_owned start (step ∷ past) r (inr w) i lt = owner_step (after start past) step (frame_at r.asked.frames.items i) ∙ accepted_owned start past r w i lt
 
 -- all of these together
 pub law_limits_hold : (start : Machine) (h : List Step) → IsInitial start → IsLegal start h → WithinLimits (after start h)
 law_limits_hold start h s legal = record {
-  clients_have_few = few start h s legal;
+  clients_are_within_limit = few start h s legal;
   book_is_bounded = all_few start h s legal (few start h s legal);
-  issues = λ e l. (all_counted start h s legal e l).most;
-  issued = λ e l t. (all_counted start h s legal e l).some t;
+  issued_four_times_at_most = λ e l. (all_counted start h s legal e l).most;
+  issued_have_an_issue = λ e l t. (all_counted start h s legal e l).some t;
   frames_are_lent = λ e l i lt. (traced start h s legal).sound.lent e l i lt;
   frames_are_owned = λ e l i lt. accepted_owned start h e.request (living_accepted start h s legal e l) i lt;
 }
 
 -- a request that is due finds a free slot, a plain one a port with nothing issued
 pub finds_slot : (mode : QueueMode) (book : List Unanswered) (r : Unanswered) → IsDue mode book r
-    → (is_plain mode r.op ≡ true → issued_count book r.port ≡ 0) × (is_plain mode r.op ≡ false → issued_count book r.port < mode.usable)
+    → (is_plain mode r.op ≡ true → issued_count book r.port ≡ 0) × (is_plain mode r.op ≡ false → issued_count book r.port < mode.usable_slots)
 finds_slot mode book r due = (
   (λ plain. count_none _ book (λ y k. false_from_ne_true _ (λ t.
       let p = and_parts (y.port.0 == r.port.0) y.issued t in

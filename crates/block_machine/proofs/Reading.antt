@@ -11,8 +11,8 @@ use Rattle.ata_types.specs.declared.refusal.MemFault.TheVariants as fault
 use Rattle.block_machine.specs.Refusals.{MayAccessFrame}
 use Rattle.block_machine.specs.DueRequests.{changes_sectors}
 use Rattle.block_machine.specs.State.{Block, Memory, Accepted, Pending, Machine, block_of, frame_at, sector_of, is_reader}
-use Rattle.block_machine.specs.Steps.{Step, Accept, Issue, Touch, End, Age, WaitAgain, Answer, Revoke, Release, Unplug, Replace, Store, Load, IsEnabled, after_step, update_pending, HoldsFrames, MayStillMove, newly_issued, touch, mark_ended, requeued, aged_pending, newly_accepted, put_bytes, memory_after}
-use Rattle.block_machine.specs.Expected.{plug_count, IsTouch, touches_sector, disk_number_read, Wrote, IsLastWritten, IsExpectedBlock, StepIsFaithful}
+use Rattle.block_machine.specs.Steps.{Step, Accept, Issue, Touch, End, Age, WaitAgain, Answer, Revoke, Release, Unplug, Replace, Store, Load, IsEnabled, after_step, update_pending, HoldsFrames, MayStillMove, newly_issued, touch, mark_ended, requeued, aged_pending, newly_accepted, put_bytes, memory_after_touch}
+use Rattle.block_machine.specs.Expected.{plug_count, IsTouch, touches_sector, disk_number_read, ChangedSector, IsLastWritten, IsExpectedBlock, StepIsFaithful}
 use Rattle.block_machine.proofs.Members.{map_in, at_cases, without_in, append_in}
 use Rattle.block_machine.proofs.Sound.{Sound, KeepsRequest}
 use Rattle.block_machine.proofs.Keeps.{older_keeps, older_issued, older_touched, same_frame}
@@ -47,15 +47,15 @@ good_more start h m n step request i same own others good =
 
 -- a sector that is touched now is good
 good_now : (start : Machine) (h : List Step) (m n : Machine) (e : Pending) (i : ℕ) (block : Block) → Sound m → AllSeen m h → Holds start h m → MayStillMove m e → i < e.request.asked.count → is_reader e.request.asked.op ≡ true
-    → ((b : ℕ) → b < 512 → block_of n.memory e.request.asked.frames.items i b ≡ m.disks e.request.port (e.request.asked.first.0 + i) b)
+    → ((b : ℕ) → b < 512 → block_of n.memory e.request.asked.frames.items i b ≡ m.disk_bytes e.request.port (e.request.asked.first.0 + i) b)
     → IsGood start (Touch e i block ∷ h) n e.request i
 good_now start h m n e i block s seen holds r lt reads now =
     let k : ℕ = e.request.asked.first.0 + i in
     let mine : touches_sector e.request.id k (Touch e i block) ≡ true = and_from _ _ (eq-eqb e.request.id.0 e.request.id.0 refl) (eq-eqb k k refl) in
     let found : disk_number_read e.request k (Touch e i block ∷ h) ≡ plug_count e.request.port h = cond-true (touches_sector e.request.id k (Touch e i block)) (plug_count e.request.port h) (disk_number_read e.request k h) mine in (
-      m.disks e.request.port k,
-      subst (λ (x : ℕ). IsLastWritten start e.request.port k x e.request.id.0 (Touch e i block ∷ h) (m.disks e.request.port k)) (sym found)
-          (last_from start e.request.port k (plug_count e.request.port h) m.next_id e.request.id.0 (Touch e i block) h (m.disks e.request.port k) (le_refl _)
+      m.disk_bytes e.request.port k,
+      subst (λ (x : ℕ). IsLastWritten start e.request.port k x e.request.id.0 (Touch e i block ∷ h) (m.disk_bytes e.request.port k)) (sym found)
+          (last_from start e.request.port k (plug_count e.request.port h) m.next_id e.request.id.0 (Touch e i block) h (m.disk_bytes e.request.port k) (le_refl _)
           (λ w writes _ _ t. reader_is_no_writer e.request.asked.op reads (subst (λ (j : Accepted). changes_sectors j.asked.op ≡ true) (sym t.0) writes))
           earlier
           (λ w o. (seen w k (plug_count e.request.port h) o.touched).below)
@@ -69,7 +69,7 @@ good_now start h m n e i block s seen holds r lt reads now =
     reader_is_no_writer Trim a b = false≢true a
     reader_is_no_writer Flush a b = false≢true a
 
-    earlier : (w : Accepted) → Wrote e.request.port (e.request.asked.first.0 + i) (plug_count e.request.port h) m.next_id h w → w.id.0 < e.request.id.0
+    earlier : (w : Accepted) → ChangedSector e.request.port (e.request.asked.first.0 + i) (plug_count e.request.port h) m.next_id h w → w.id.0 < e.request.id.0
     earlier w o =
         let q = seen w (e.request.asked.first.0 + i) (plug_count e.request.port h) o.touched in
         ⊎_elim
@@ -122,10 +122,10 @@ place_apart m s e o le lo i k b li lk lb differ frame low high =
 -- a touch leaves the places of other sectors alone
 pub memory_touch : (m : Machine) → Sound m → (e o : Pending) → MayStillMove m e → HoldsFrames m o → (i : ℕ) (block : Block) (k b : ℕ) → i < e.request.asked.count → k < 8 * length o.request.asked.frames.items → b < 512
     → (is_reader e.request.asked.op ≡ true → e.request.id.0 ≡ o.request.id.0 → i ≡ k → ⊥)
-    → block_of (memory_after e.request i block m.memory) o.request.asked.frames.items k b ≡ block_of m.memory o.request.asked.frames.items k b
+    → block_of (memory_after_touch e.request i block m.memory) o.request.asked.frames.items k b ≡ block_of m.memory o.request.asked.frames.items k b
 memory_touch m s e o r lo i block k b li lk lb differ = by_op (is_reader e.request.asked.op) refl
   where
-    by_op : (t : Bool) → is_reader e.request.asked.op ≡ t → block_of (memory_after e.request i block m.memory) o.request.asked.frames.items k b ≡ block_of m.memory o.request.asked.frames.items k b
+    by_op : (t : Bool) → is_reader e.request.asked.op ≡ t → block_of (memory_after_touch e.request i block m.memory) o.request.asked.frames.items k b ≡ block_of m.memory o.request.asked.frames.items k b
     by_op false t = ap (λ (x : Memory). block_of x o.request.asked.frames.items k b)
         (cond-false (is_reader e.request.asked.op) (put_bytes (frame_at e.request.asked.frames.items (i / 8)) (512 * (i % 8)) 512 block m.memory) m.memory t)
     by_op true t =
@@ -137,7 +137,7 @@ memory_touch m s e o r lo i block k b li lk lb differ = by_op (is_reader e.reque
         (λ same low high. place_apart m s e o (runs_lives m e r) lo i k b li' lk lb (differ t) same low high)
 
 memory_own : (m : Machine) (e : Pending) (i : ℕ) (block : Block) (b : ℕ) → is_reader e.request.asked.op ≡ true → b < 512
-    → block_of (memory_after e.request i block m.memory) e.request.asked.frames.items i b ≡ block b
+    → block_of (memory_after_touch e.request i block m.memory) e.request.asked.frames.items i b ≡ block b
 memory_own m e i block b t lb =
     ap (λ (x : Memory). block_of x e.request.asked.frames.items i b)
     (cond-true (is_reader e.request.asked.op) (put_bytes (frame_at e.request.asked.frames.items (i / 8)) (512 * (i % 8)) 512 block m.memory) m.memory t)

@@ -10,7 +10,7 @@ use Rattle.block_machine.specs.Rules.{Breaks, HasRow, IsNamed}
 use Rattle.block_machine.specs.State.{Accepted, Pending, Machine}
 use Rattle.block_machine.specs.Steps.{Step, Issue, IsEnabled, MayAccept}
 use Rattle.block_machine.specs.Expected.{after, IsLegal, IsInitial}
-use Rattle.block_machine.specs.Confinement.{IsGranted, IsNotOnFrames, KeepsRules, WasAccepted}
+use Rattle.block_machine.specs.Confinement.{IsGranted, IsNotOnFrames, KeepsRulesNotOnFrames, WasAccepted}
 use Rattle.block_machine.proofs.Accepts.{living_accepted, was_new}
 use Rattle.block_machine.proofs.Configured.{rows_shrink, was_granted}
 use Rattle.block_machine.proofs.RuleLemmas.{one_row}
@@ -19,23 +19,23 @@ use Rattle.block_machine.proofs.Runs.{traced}
 module _ (start m : Machine) (r : Accepted) (s : IsInitial start) (granted : IsGranted start.rows r) (new : (then : Machine) × MayAccept then r) (shrunk : (row : GrantRow) → Contains m.rows row → Contains start.rows row) where
   -- the row that it names now is the one that granted it
   its_row : (row : GrantRow) → IsNamed m.rows r.asked row → row ≡ granted.row
-  its_row row named = one_row start.rows s.rows r.asked.client r.asked.grant row granted.row (shrunk row named.0) named.1 granted.is_named.0 granted.is_named.1
+  its_row row named = one_row start.rows s.rows_differ_in_name r.asked.client r.asked.grant row granted.row (shrunk row named.0) named.1 granted.is_named.0 granted.is_named.1
 
   pub unbroken : HasRow r.asked.client r.asked.grant m.rows → (rule : Rule) → IsNotOnFrames rule → Breaks m.rows m.owner m.lent r.asked rule → ⊥
   unbroken has NoGrant is breaks = breaks has.0 (has.1, has.2)
   unbroken has NoRight is (row, named, denied) = denied (subst (λ (x : GrantRow). AllowsOp x.rights r.asked.op) (sym (its_row row named)) granted.op_is_allowed)
-  unbroken has BadCount is breaks = new.1.unbroken BadCount breaks
+  unbroken has BadCount is breaks = new.1.breaks_no_rule BadCount breaks
   unbroken has OutsideGrant is (op, (row, named, outside)) = outside (subst (λ (x : GrantRow). CoversSectors x r.asked.first.0 r.asked.count) (sym (its_row row named)) (granted.sectors_are_covered op))
-  unbroken has FrameCount is breaks = new.1.unbroken FrameCount breaks
+  unbroken has FrameCount is breaks = new.1.breaks_no_rule FrameCount breaks
   unbroken has (Frames fault) is breaks = is
 
-pub law_issues_keep_the_rules : (start : Machine) (h : List Step) (mode : QueueMode) (e : Pending) → IsInitial start → IsLegal start h → IsEnabled (after start h) (Issue mode e)
-    → WasAccepted start h e.request × KeepsRules (after start h) e.request
-law_issues_keep_the_rules start h mode e s legal may =
+pub law_issues_keep_rules_but_frames : (start : Machine) (h : List Step) (mode : QueueMode) (e : Pending) → IsInitial start → IsLegal start h → IsEnabled (after start h) (Issue mode e)
+    → WasAccepted start h e.request × KeepsRulesNotOnFrames (after start h) e.request
+law_issues_keep_rules_but_frames start h mode e s legal may =
     let was = living_accepted start h s legal e (inl may.0) in (
       was,
       record {
-        breaks_none = unbroken start (after start h) e.request s (was_granted start h e.request was) (was_new start h e.request was) (rows_shrink start h) may.3;
+        breaks_none_not_on_frames = unbroken start (after start h) e.request s (was_granted start h e.request was) (was_new start h e.request was) (rows_shrink start h) may.3;
         frames_are_lent = (traced start h s legal).sound.lent e (inl may.0);
       },
     )

@@ -22,8 +22,8 @@ pub record Traced (start : Machine) (h : List Step) : Type 0 where
   pub held : AllHeld (after start h)
 
 pub nobody : (m : Machine) → IsInitial m → (e : Pending) → HoldsFrames m e → ⊥
-nobody m s e (inl i) = contains_none e (subst (λ (es : List Pending). Contains es e) s.book i)
-nobody m s e (inr i) = contains_none e (subst (λ (es : List Pending). Contains es e) s.kept i)
+nobody m s e (inl i) = contains_none e (subst (λ (es : List Pending). Contains es e) s.book_is_empty i)
+nobody m s e (inr i) = contains_none e (subst (λ (es : List Pending). Contains es e) s.none_is_kept i)
 
 sound_start : (m : Machine) → IsInitial m → Sound m
 sound_start m s = record {
@@ -67,9 +67,9 @@ reads : (op : Op) → op ≡ Read → is_reader op ≡ true
 reads op e = ap is_reader e
 
 -- a read with all its sectors touched holds what was left
-pub law_read_holds_expected : (start : Machine) (h : List Step) (e : Pending) → IsInitial start → IsLegal start h → AllStepsFaithful start h
+pub law_touched_read_holds_expected : (start : Machine) (h : List Step) (e : Pending) → IsInitial start → IsLegal start h → AllStepsFaithful start h
     → Contains (after start h).book e → AllTouched e → e.request.asked.op ≡ Read → HoldsExpected start h (after start h).memory e.request
-law_read_holds_expected start h e s legal told here whole op = record {
-  sectors = λ i lt. (good_all start h s legal told e here (reads e.request.asked.op op) i lt (whole i lt)).1;
-  rest = λ i b past room lb. (traced start h s legal).held e (inl here) i b (λ _. past) room lb;
+law_touched_read_holds_expected start h e s legal told here whole op = record {
+  sectors_are_expected = λ i lt. (good_all start h s legal told e here (reads e.request.asked.op op) i lt (whole i lt)).1;
+  rest_is_as_accepted = λ i b past room lb. (traced start h s legal).held e (inl here) i b (λ _. past) room lb;
 }

@@ -55,8 +55,8 @@ empty = record {
   present = λ p. true;
   disk_ids = λ p. 0;
   sizes = λ p. 200;
-  disks = λ p k b. 0;
-  blocks_since_flush = λ p k. [];
+  disk_bytes = λ p k b. 0;
+  overwritten_since_flush = λ p k. [];
   book = [];
   kept = [];
   lent = λ f. None;
@@ -79,7 +79,7 @@ its_row r h = ⊎_elim
 
 -- each may be given by a configuration, and they differ in name
 fits_row : (n : ℕ) → n ≤ 1 → IsValidRow (row n)
-fits_row n few = record { client = (omega arith, omega arith); number = omega (arith, few); port = omega (arith, few); count_is_positive = omega arith; below = omega arith }
+fits_row n few = record { client_is_valid = (omega arith, omega arith); number_is_at_most_63 = omega (arith, few); port_is_at_most_3 = omega (arith, few); count_is_positive = omega arith; sectors_are_below_2_48 = omega arith }
 
 differ : AllPairs DifferInName two_rows
 differ = AllPairs-cons DifferInName (row 0) (row 1 ∷ [])
@@ -92,14 +92,14 @@ differ = AllPairs-cons DifferInName (row 0) (row 1 ∷ [])
 -- it is a start, whatever its frames hold
 pub filled_starts : (memory : Memory) → IsInitial (record empty { memory = memory })
 filled_starts memory = record {
-  book = refl;
-  kept = refl;
-  lent = λ f. refl;
-  next = refl;
-  few = omega arith;
-  rows = differ;
-  configured = λ r h. ⊎_elim (λ p. subst IsValidRow (sym p) (fits_row 0 (omega arith))) (λ p. subst IsValidRow (sym p) (fits_row 1 (omega arith))) (row_cases r h);
-  owned = λ f c e. within f (nat_le DRIVER_FRAMES f.0) (nat_lt f.0 (DRIVER_FRAMES + 100)) refl refl c e;
+  book_is_empty = refl;
+  none_is_kept = refl;
+  no_frame_is_lent = λ f. refl;
+  next_id_is_1 = refl;
+  rows_are_at_most_64 = omega arith;
+  rows_differ_in_name = differ;
+  rows_are_valid = λ r h. ⊎_elim (λ p. subst IsValidRow (sym p) (fits_row 0 (omega arith))) (λ p. subst IsValidRow (sym p) (fits_row 1 (omega arith))) (row_cases r h);
+  owned_frames_are_clients = λ f c e. within f (nat_le DRIVER_FRAMES f.0) (nat_lt f.0 (DRIVER_FRAMES + 100)) refl refl c e;
 }
   where
     within : (f : Frame) (a b : Bool) → nat_le DRIVER_FRAMES f.0 ≡ a → nat_lt f.0 (DRIVER_FRAMES + 100) ≡ b → (c : ClientId) → cond (a && b) (Some client) None ≡ Some c → (1 ≤ c.0) × (c.0 ≤ 8) × (DRIVER_FRAMES ≤ f.0) × (f.0 < 1024)
@@ -141,7 +141,7 @@ pub record IsFit (n : ℕ) (s : AdmissionContext) (r : Request) : Type 0 where
   pub ready : s.state (on n) ≡ Ready
   pub on_disk : r.op ≢ Flush → r.first.0 + r.count ≤ s.sectors (on n)
   pub no_trim : r.op ≢ Trim
-  pub few : s.unanswered client < 16
+  pub few : s.unanswered_count client < 16
   pub ids : s.next_id < 2 ^ 64
 
 pub acceptable : (n : ℕ) (s : AdmissionContext) (r : Request) → IsFit n s r → IsAcceptable s r
@@ -158,6 +158,6 @@ acceptable n s r fit = fit_acceptable (row n) s r (record {
   ready = fit.ready;
   on_disk = fit.on_disk;
   no_trim = fit.no_trim;
-  few = subst (λ (c : ClientId). s.unanswered c < 16) (sym fit.client_is) fit.few;
+  few = subst (λ (c : ClientId). s.unanswered_count c < 16) (sym fit.client_is) fit.few;
   ids = fit.ids;
 })

@@ -6,7 +6,7 @@ use Rattle.ata_types.specs.declared.Port.{Port}
 use Rattle.block_machine.specs.State.{Block, DiskBytes, Accepted, Pending, Machine, newly_unanswered, sector_of}
 use Rattle.block_machine.specs.DueRequests.{are_conflicting, changes_sectors}
 use Rattle.block_machine.specs.Steps.{Step, Accept, Issue, Touch, End, Age, WaitAgain, Answer, Revoke, Release, Unplug, Replace, Store, Load, IsEnabled, MayAccept, after_step, update_pending, HoldsFrames, MayStillMove, newly_issued, touch, mark_ended, requeued, aged_pending, newly_accepted}
-use Rattle.block_machine.specs.Expected.{IsAccept, plugs_disk, plugged_disk, plug_count, bytes_when_plugged, IsTouch, touches_sector, HasTouched, disk_number_read, Wrote, IsLastWritten}
+use Rattle.block_machine.specs.Expected.{IsAccept, plugs_disk, plugged_disk, plug_count, bytes_when_plugged, IsTouch, touches_sector, HasTouched, disk_number_read, ChangedSector, IsLastWritten}
 use Rattle.block_machine.proofs.Members.{contains_none, contains_cases, map_in, without_in, append_in}
 use Rattle.block_machine.proofs.Sound.{Sound, KeepsRequest}
 use Rattle.block_machine.proofs.Keeps.{at_keeps, older_keeps}
@@ -101,11 +101,11 @@ seen_step m step may w k s = record {
   to = s.to;
   one = λ a l eq. ⊎_elim
       (λ r. r.2 ∙ s.one r.0 r.1 (ap (λ (j : Accepted). j.id.0) (sym r.2) ∙ eq))
-      (λ (p : Comes m step a.request). let b = s.below in let q = p.1.id in absurd (omega (arith, b, q, eq)))
+      (λ (p : Comes m step a.request). let b = s.below in let q = p.1.id_is_next in absurd (omega (arith, b, q, eq)))
       (lives_before m step may a l);
   order = λ a l lt con. ⊎_elim
       (λ r. s.order r.0 r.1 (subst (λ (j : Accepted). j.id.0 < w.id.0) r.2 lt) (subst (λ (j : Accepted). are_conflicting (newly_unanswered j) (newly_unanswered w) ≡ true) r.2 con))
-      (λ (p : Comes m step a.request). let b = s.below in let q = p.1.id in omega (arith, b, q, lt))
+      (λ (p : Comes m step a.request). let b = s.below in let q = p.1.id_is_next in omega (arith, b, q, lt))
       (lives_before m step may a l);
 }
 
@@ -150,18 +150,18 @@ plugged_more start port n step past le =
 pub last_from : (start : Machine) (port : Port) (k n limit limit' : ℕ) (step : Step) (past : List Step) (block : Block)
     → n ≤ plug_count port past
     → ((w : Accepted) → changes_sectors w.asked.op ≡ true → w.port ≡ port → w.id.0 < limit' → IsTouch step w k → ⊥)
-    → ((w : Accepted) → Wrote port k n limit past w → w.id.0 < limit')
-    → ((w : Accepted) → Wrote port k n limit' past w → w.id.0 < limit)
+    → ((w : Accepted) → ChangedSector port k n limit past w → w.id.0 < limit')
+    → ((w : Accepted) → ChangedSector port k n limit' past w → w.id.0 < limit)
     → IsLastWritten start port k n limit past block → IsLastWritten start port k n limit' (step ∷ past) block
 last_from start port k n limit limit' step past block le untouched up down last = go last
   where
-    older : (w : Accepted) → Wrote port k n limit' (step ∷ past) w → HasTouched w k n past
+    older : (w : Accepted) → ChangedSector port k n limit' (step ∷ past) w → HasTouched w k n past
     older w o = ⊎_elim (λ t. absurd (untouched w o.op_changes_sectors o.port_is o.earlier t.0)) (λ t. t) o.touched
 
-    past_too : (w : Accepted) → Wrote port k n limit' (step ∷ past) w → Wrote port k n limit past w
+    past_too : (w : Accepted) → ChangedSector port k n limit' (step ∷ past) w → ChangedSector port k n limit past w
     past_too w o = record { op_changes_sectors = o.op_changes_sectors; port_is = o.port_is; earlier = down w (record { op_changes_sectors = o.op_changes_sectors; port_is = o.port_is; earlier = o.earlier; touched = older w o }); touched = older w o }
 
-    now_too : (w : Accepted) → Wrote port k n limit past w → Wrote port k n limit' (step ∷ past) w
+    now_too : (w : Accepted) → ChangedSector port k n limit past w → ChangedSector port k n limit' (step ∷ past) w
     now_too w o = record { op_changes_sectors = o.op_changes_sectors; port_is = o.port_is; earlier = up w o; touched = inr o.touched }
 
     go : IsLastWritten start port k n limit past block → IsLastWritten start port k n limit' (step ∷ past) block

@@ -249,7 +249,7 @@ module _ (mode : QueueMode) (port : Port) (book : List Unanswered) where
   due_is_own : (r : Unanswered) → r.port ≡ port → is_due mode book r ≡ is_due mode (requests_of_port port book) r
   due_is_own r its =
       let free : free_slots mode book r.port ≡ free_slots mode (requests_of_port port book) r.port =
-      ap (λ (p : Port). free_slots mode book p) its ∙ (ap (λ (n : ℕ). mode.usable - n) issued_own ∙ ap (λ (p : Port). free_slots mode (requests_of_port port book) p) (sym its)) in
+      ap (λ (p : Port). free_slots mode book p) its ∙ (ap (λ (n : ℕ). mode.usable_slots - n) issued_own ∙ ap (λ (p : Port). free_slots mode (requests_of_port port book) p) (sym its)) in
       ap (λ (b : Bool). b && (is_plain mode r.op || nat_lt (unblocked_ahead_count mode book r) (free_slots mode book r.port))) (clear_own r its)
       ∙ (ap (λ (n : ℕ). is_unblocked mode (requests_of_port port book) r && (is_plain mode r.op || nat_lt n (free_slots mode book r.port))) (ahead_own r its)
       ∙ ap (λ (n : ℕ). is_unblocked mode (requests_of_port port book) r && (is_plain mode r.op || nat_lt (unblocked_ahead_count mode (requests_of_port port book) r) n)) free)

@@ -25,8 +25,8 @@ pub record IsGranted (rows : List GrantRow) (r : Accepted) : Type 0 where
   pub sectors_are_covered : r.asked.op ≢ Flush → CoversSectors row r.asked.first.0 r.asked.count
 
 -- the row lets its client neither write nor trim
-abbrev pub GrantsNoWrites : GrantRow → Type 0
-GrantsNoWrites row = (row.rights.write ≡ false) × (row.rights.trim ≡ false)
+abbrev pub GrantsNoWriteOrTrim : GrantRow → Type 0
+GrantsNoWriteOrTrim row = (row.rights.write ≡ false) × (row.rights.trim ≡ false)
 
 -- the request was accepted in the history: it broke no rule then, and had its row's port and its frames' bytes
 abbrev pub WasAccepted : Machine → List Step → Accepted → Type 0
@@ -39,8 +39,8 @@ IsNotOnFrames (Frames fault) = ⊥
 IsNotOnFrames _ = Unit {0}
 
 -- A request that is issued breaks none of these rules, by the rows as they are then; and its frames are lent to it.
-pub record KeepsRules (m : Machine) (r : Accepted) : Type 0 where
-  pub breaks_none : (rule : Rule) → IsNotOnFrames rule → Breaks m.rows m.owner m.lent r.asked rule → ⊥
+pub record KeepsRulesNotOnFrames (m : Machine) (r : Accepted) : Type 0 where
+  pub breaks_none_not_on_frames : (rule : Rule) → IsNotOnFrames rule → Breaks m.rows m.owner m.lent r.asked rule → ⊥
   pub frames_are_lent : (i : ℕ) → i < length r.asked.frames.items → m.lent (frame_at r.asked.frames.items i) ≡ Some r.id
 
 -- the operation moves bytes between disk and frames
@@ -66,16 +66,16 @@ HasFrame r frame = (i : ℕ) × (i < length r.asked.frames.items) × (frame_at r
 abbrev pub FramesAreAsAccepted : Machine → Accepted → Type 0
 FramesAreAsAccepted m r = (i b : ℕ) → (is_reader r.asked.op ≡ true → r.asked.count ≤ i)
     → i < 8 * length r.asked.frames.items
-    → b < 512 → block_of m.memory r.asked.frames.items i b ≡ r.held_blocks i b
+    → b < 512 → block_of m.memory r.asked.frames.items i b ≡ r.blocks_at_acceptance i b
 
 -- A client has at most 16 unanswered requests, and all have 128. A request that is unanswered or kept was issued at
 -- most four times, and once at least where it is issued; its frames are its client's, and lent to it: so no frame is
 -- lent to two.
 pub record WithinLimits (m : Machine) : Type 0 where
-  pub clients_have_few : (client : ClientId) → unanswered_count m.book client ≤ 16
+  pub clients_are_within_limit : (client : ClientId) → unanswered_count m.book client ≤ 16
   pub book_is_bounded : length m.book ≤ MOST_UNANSWERED
-  pub issues : (e : Pending) → HoldsFrames m e → e.issues ≤ 4
-  pub issued : (e : Pending) → HoldsFrames m e → e.issued ≡ true → 1 ≤ e.issues
+  pub issued_four_times_at_most : (e : Pending) → HoldsFrames m e → e.issue_count ≤ 4
+  pub issued_have_an_issue : (e : Pending) → HoldsFrames m e → e.issued ≡ true → 1 ≤ e.issue_count
   pub frames_are_lent : (e : Pending) → HoldsFrames m e → (i : ℕ) → i < length e.request.asked.frames.items
       → m.lent (frame_at e.request.asked.frames.items i) ≡ Some e.request.id
   pub frames_are_owned : (e : Pending) → HoldsFrames m e → (i : ℕ) → i < length e.request.asked.frames.items

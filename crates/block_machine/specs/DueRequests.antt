@@ -65,7 +65,7 @@ issued_count book port = count_by (λ other. other.port.0 == port.0 && other.iss
 
 -- how many usable slots of the port are free
 abbrev pub free_slots : QueueMode → List Unanswered → Port → ℕ
-free_slots mode book port = mode.usable - issued_count book port
+free_slots mode book port = mode.usable_slots - issued_count book port
 
 -- The request is due: it is clear to go, and a slot is left for it after the earlier ones that go.
 -- (A plain one goes alone, so its slot is free.)

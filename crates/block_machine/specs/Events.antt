@@ -18,7 +18,7 @@ use Rattle.ata_types.specs.declared.refusal.MemFault.{MemFault}
 use Rattle.block_machine.specs.Rules.{HasRow, IsSameGrantName, without_row}
 use Rattle.block_machine.specs.Refusals.{AdmissionContext, IsAcceptable, IsFirstRefusal, MayAccessFrame, IsFirstMemFault}
 use Rattle.block_machine.specs.DueRequests.{NoneDue}
-use Rattle.block_machine.specs.Ports.{Ports, PortsWellFormed, SamePort, SamePorts, SameDisk, Evidence, IsStoppedOrStuck, MayBecome, IsServiced, IsAfterStuckReset}
+use Rattle.block_machine.specs.Ports.{Ports, PortsWellFormed, SamePort, SamePorts, SameSerialAndSize, Evidence, IsStoppedOrStuck, MayBecome, IsServiced, IsAfterStuckReset}
 use Rattle.block_machine.specs.State.{Accepted, Pending, Machine, unanswered}
 use Rattle.block_machine.specs.Steps.{Step, Accept, Issue, Touch, End, Age, WaitAgain, Answer, Revoke, Release, Unplug, Replace, Store, Load, IsEnabled, AllTouched, unanswered_count}
 use Rattle.block_machine.specs.Expected.{after, IsInitial, HoldsExpected}
@@ -39,27 +39,27 @@ pub data AbstractCall (D : Type 0) : Type 0 where
   RevokeOf : ClientId → ℕ → AbstractCall D
   State : Port → AbstractCall D
   -- the device is told to do this step of its own
-  Device : D → AbstractCall D
+  StepDevice : D → AbstractCall D
 
 -- what it says
-pub data CallResult : Type 0 where
-  Submitted : Result RequestId Refusal → CallResult
+pub data AbstractCallResult : Type 0 where
+  Submitted : Result RequestId Refusal → AbstractCallResult
   -- none: it was stored
-  Stored : Option MemFault → CallResult
-  Loaded : Result (List ℕ) MemFault → CallResult
+  Stored : Option MemFault → AbstractCallResult
+  Loaded : Result (List ℕ) MemFault → AbstractCallResult
   -- of `Service` and `Tick`
-  Served : List Reply → CallResult
+  Replied : List Reply → AbstractCallResult
   -- none: the adapter didn't end its reset
-  WasReset : Option (List Reply) → CallResult
+  WasReset : Option (List Reply) → AbstractCallResult
   -- none: there is no such grant
-  WasRevoked : Option (List Reply) → CallResult
-  Shown : PortState → CallResult
-  Stepped : Bool → CallResult
+  WasRevoked : Option (List Reply) → AbstractCallResult
+  PortStateShown : PortState → AbstractCallResult
+  Stepped : Bool → AbstractCallResult
 
 -- a call: what it asked, what it said, the evidence, its steps, and what the ports are at its end
 pub record CallRecord (D : Type 0) : Type 0 where
-  pub ask : AbstractCall D
-  pub said : CallResult
+  pub call : AbstractCall D
+  pub result : AbstractCallResult
   pub evidence : Evidence
   pub steps : List Step
   pub ports : Ports
@@ -78,12 +78,12 @@ IsByDevice (Replace port id size disk) = Unit {0}
 IsByDevice _ = ⊥
 
 -- what a restart, or a reset, tells of a request that isn't done
-abbrev pub EndsUndone : Outcome → Type 0
-EndsUndone outcome.Aborted = Unit {0}
-EndsUndone outcome.Unplugged = Unit {0}
-EndsUndone outcome.PortDead = Unit {0}
-EndsUndone outcome.Revoked = Unit {0}
-EndsUndone _ = ⊥
+abbrev pub IsOfUndoneRequest : Outcome → Type 0
+IsOfUndoneRequest outcome.Aborted = Unit {0}
+IsOfUndoneRequest outcome.Unplugged = Unit {0}
+IsOfUndoneRequest outcome.PortDead = Unit {0}
+IsOfUndoneRequest outcome.Revoked = Unit {0}
+IsOfUndoneRequest _ = ⊥
 
 -- The step is one that the server makes in a call that asks this. Requests are issued, or wait again, on ports that are
 -- ready at its end, and are issued in the mode that the port has then. A tick tells no fault, a reset tells neither
@@ -99,11 +99,11 @@ IsByServer Service ports (Answer e o) = Unit {0}
 IsByServer Tick ports (Age ready) = Unit {0}
 IsByServer Tick ports (Issue mode e) = (ports.state e.request.port ≡ Ready) × (ports.mode e.request.port ≡ mode)
 IsByServer Tick ports (WaitAgain e) = ports.state e.request.port ≡ Ready
-IsByServer Tick ports (Answer e o) = EndsUndone o ⊎ (o ≡ outcome.Ok)
+IsByServer Tick ports (Answer e o) = IsOfUndoneRequest o ⊎ (o ≡ outcome.Ok)
 IsByServer Reset ports Release = Unit {0}
 IsByServer Reset ports (Issue mode e) = (ports.state e.request.port ≡ Ready) × (ports.mode e.request.port ≡ mode)
 IsByServer Reset ports (WaitAgain e) = ports.state e.request.port ≡ Ready
-IsByServer Reset ports (Answer e o) = EndsUndone o
+IsByServer Reset ports (Answer e o) = IsOfUndoneRequest o
 IsByServer (RevokeOf client number) ports (Revoke c n) = (c ≡ client) × (n ≡ number)
 IsByServer (RevokeOf client number) ports (Answer e o) = o ≡ outcome.Revoked
 IsByServer (RevokeOf client number) ports (Issue mode e) = (ports.state e.request.port ≡ Ready)
@@ -178,13 +178,13 @@ IsIssuedIn id steps = list_any (issues_id id) steps ≡ true
 
 -- A call does nothing more with a request that it issued: so it issues a request once at most, and answers none that it
 -- issued.
-abbrev pub IssuesLast : List Step → Type 0
-IssuesLast [] = Unit {0}
-IssuesLast (step ∷ before) =
-    IssuesLast before × ((id : RequestId) → handles_id id step ≡ true → IsIssuedIn id before → ⊥)
+abbrev pub IssueIsLastOfRequest : List Step → Type 0
+IssueIsLastOfRequest [] = Unit {0}
+IssueIsLastOfRequest (step ∷ before) =
+    IssueIsLastOfRequest before × ((id : RequestId) → handles_id id step ≡ true → IsIssuedIn id before → ⊥)
 
 -- an unanswered request of that id was issued
-pub record WasIssued (m : Machine) (id : RequestId) : Type 0 where
+pub record IsIssuedInBook (m : Machine) (id : RequestId) : Type 0 where
   pub pending : Pending
   pub is_in_book : Contains m.book pending
   pub id_is : pending.request.id ≡ id
@@ -194,7 +194,7 @@ pub record WasIssued (m : Machine) (id : RequestId) : Type 0 where
 -- again
 abbrev pub IsReadyAgain : AbstractState → Evidence → Ports → Port → Type 0
 IsReadyAgain old evidence ports port = (ports.state port ≡ Ready) × Contains evidence.stopped port
-    × SameDisk old.ports ports port
+    × SameSerialAndSize old.ports ports port
 
 -- What stands behind each outcome. An Ok, a fault and an abort are of a request that was issued when the call began;
 -- Unplugged is of one on a port that was lost. Of an Ok each sector was touched since the last issue, and it was ended.
@@ -205,12 +205,13 @@ IsReadyAgain old evidence ports port = (ports.state port ≡ Ready) × Contains 
 -- `law_dead_ports_were_stuck`. That a request is told Revoked only once its grant was revoked, `GrantAllowsOutcome`
 -- says.)
 abbrev pub IsLawfulAnswer : AbstractState → Evidence → Ports → Pending → Outcome → Type 0
-IsLawfulAnswer old evidence ports e outcome.Ok = WasIssued old.machine e.request.id × (e.issued ≡ true) × AllTouched e
+IsLawfulAnswer old evidence ports e outcome.Ok = IsIssuedInBook old.machine e.request.id × (e.issued ≡ true)
+    × AllTouched e
     × (e.ended ≡ true)
-IsLawfulAnswer old evidence ports e (outcome.DeviceError status error) = WasIssued old.machine e.request.id
+IsLawfulAnswer old evidence ports e (outcome.DeviceError status error) = IsIssuedInBook old.machine e.request.id
     × (e.issued ≡ true) × Contains evidence.faults (record { id = e.request.id; status = status; error = error })
     × Contains evidence.stopped e.request.port
-IsLawfulAnswer old evidence ports e outcome.Aborted = WasIssued old.machine e.request.id × (e.issues ≡ 4)
+IsLawfulAnswer old evidence ports e outcome.Aborted = IsIssuedInBook old.machine e.request.id × (e.issue_count ≡ 4)
     × IsReadyAgain old evidence ports e.request.port
 IsLawfulAnswer old evidence ports e outcome.Unplugged = Contains evidence.lost e.request.port
     × Contains evidence.stopped e.request.port
@@ -220,13 +221,13 @@ IsLawfulAnswer old evidence ports e outcome.Revoked = (e.issued ≡ false) ⊎ I
 
 -- Each answer of the call is lawful, with these ports at its end. And a request waits again only where its port
 -- stopped: else its command may still move.
-abbrev pub AllAnswersLawful : AbstractState → Evidence → Ports → List Step → Type 0
-AllAnswersLawful old evidence ports [] = Unit {0}
-AllAnswersLawful old evidence ports (Answer e o ∷ rest) = AllAnswersLawful old evidence ports rest
+abbrev pub AnswersAndWaitsLawful : AbstractState → Evidence → Ports → List Step → Type 0
+AnswersAndWaitsLawful old evidence ports [] = Unit {0}
+AnswersAndWaitsLawful old evidence ports (Answer e o ∷ rest) = AnswersAndWaitsLawful old evidence ports rest
     × IsLawfulAnswer old evidence ports e o
-AllAnswersLawful old evidence ports (WaitAgain e ∷ rest) = AllAnswersLawful old evidence ports rest
+AnswersAndWaitsLawful old evidence ports (WaitAgain e ∷ rest) = AnswersAndWaitsLawful old evidence ports rest
     × Contains evidence.stopped e.request.port
-AllAnswersLawful old evidence ports (step ∷ rest) = AllAnswersLawful old evidence ports rest
+AnswersAndWaitsLawful old evidence ports (step ∷ rest) = AnswersAndWaitsLawful old evidence ports rest
 
 -- the answers of a call, as they are told: by port, and then by id
 abbrev pub IsToldBefore : Pending × Outcome → Pending × Outcome → Type 0
@@ -242,7 +243,7 @@ pub record RepliesMatch (steps : List Step) (replies : List Reply) : Type 0 wher
   pub answers : List (Pending × Outcome)
   pub is_permutation : IsPermutation answers (answers_of steps)
   pub ordered : AllPairs IsToldBefore answers
-  pub replies_are : replies ≡ map reply_of answers
+  pub replies_are_of_answers : replies ≡ map reply_of answers
 
 -- what a request meets at a moment
 abbrev pub admission_context_of : AbstractState → AdmissionContext
@@ -252,8 +253,8 @@ admission_context_of m = record {
   lent = m.machine.lent;
   state = m.ports.state;
   sectors = m.ports.sectors;
-  trims = m.ports.trims;
-  unanswered = unanswered_count m.machine.book;
+  zeroes_after_trim = m.ports.zeroes_after_trim;
+  unanswered_count = unanswered_count m.machine.book;
   next_id = m.machine.next_id;
 }
 
@@ -267,12 +268,12 @@ EmptyUnlessReady m port = m.ports.state port ≢ Ready → (e : Pending) → Con
 
 -- a request that was unanswered when the call began, and still is, is on a port that shows serial and size as it did
 -- then
-abbrev pub UnansweredKeepDisk : AbstractState → AbstractState → Type 0
-UnansweredKeepDisk old new = (e o : Pending) → Contains new.machine.book e → Contains old.machine.book o
-    → o.request.id ≡ e.request.id → SameDisk old.ports new.ports e.request.port
+abbrev pub UnansweredKeepSerialAndSize : AbstractState → AbstractState → Type 0
+UnansweredKeepSerialAndSize old new = (e o : Pending) → Contains new.machine.book e → Contains old.machine.book o
+    → o.request.id ≡ e.request.id → SameSerialAndSize old.ports new.ports e.request.port
 
 -- a tick brings the age of an issued request of this ready port to three
-pub record HasTimedOut (old : AbstractState) (port : Port) : Type 0 where
+pub record TimesOutAtTick (old : AbstractState) (port : Port) : Type 0 where
   pub ready : old.ports.state port ≡ Ready
   pub pending : Pending
   pub is_in_book : Contains old.machine.book pending
@@ -298,7 +299,7 @@ AnswersEnded old steps port = (e : Pending) → Contains old.book e → e.reques
     → (done : Pending) × (done.request ≡ e.request) × Contains steps (Answer done outcome.Ok)
 
 -- Where a request is answered Unplugged, no request of its port is left unanswered, and none is answered PortDead.
-pub record AnswersAllUnplugged (steps : List Step) (new : Machine) : Type 0 where
+pub record UnpluggedEmptiesPort (steps : List Step) (new : Machine) : Type 0 where
   pub none_is_left : (e other : Pending) → Contains steps (Answer e outcome.Unplugged) → Contains new.book other
       → other.request.port ≢ e.request.port
   pub none_is_told_dead : (e other : Pending) → Contains steps (Answer e outcome.Unplugged)
@@ -308,7 +309,8 @@ pub record AnswersAllUnplugged (steps : List Step) (new : Machine) : Type 0 wher
 -- reset, lets requests go again where it finds the same disk.
 abbrev pub UnpluggedLostDisk : List Step → Ports → Ports → Type 0
 UnpluggedLostDisk steps old new = (e : Pending) → Contains steps (Answer e outcome.Unplugged)
-    → (new.state e.request.port ≢ Dead) × (new.state e.request.port ≡ Ready → SameDisk old new e.request.port → ⊥)
+    → (new.state e.request.port ≢ Dead) × (new.state e.request.port ≡ Ready → SameSerialAndSize old new e.request.port
+    → ⊥)
 
 -- the state is one of a port in which a boot found a disk
 abbrev pub ShowsDisk : PortState → Type 0
@@ -334,28 +336,30 @@ pub record AgesOnce (ports : Ports) (steps : List Step) : Type 0 where
 -- issue, and it shows a disk only where one was in. Other ports stay what they are, and nothing is answered there.
 pub record RestartsTimedOut (old : AbstractState) (evidence : Evidence) (steps : List Step)
     (new : AbstractState) : Type 0 where
-  pub ports : (port : Port) → ((HasTimedOut old port → ⊥) × SamePort old.ports new.ports port)
-      ⊎ (HasTimedOut old port × MayBecome old.ports evidence new.ports port)
-  pub only_timed_out_wait_again : (e : Pending) → Contains steps (WaitAgain e) → HasTimedOut old e.request.port
+  pub each_port_is_same_or_restarts : (port : Port)
+      → ((TimesOutAtTick old port → ⊥) × SamePort old.ports new.ports port)
+      ⊎ (TimesOutAtTick old port × MayBecome old.ports evidence new.ports port)
+  pub only_timed_out_wait_again : (e : Pending) → Contains steps (WaitAgain e) → TimesOutAtTick old e.request.port
   pub only_timed_out_are_answered : (e : Pending) (o : Outcome) → Contains steps (Answer e o)
-      → HasTimedOut old e.request.port
-  pub answers_ended : (port : Port) → HasTimedOut old port → AnswersEnded old.machine steps port
-  pub none_stays_issued : (port : Port) → HasTimedOut old port → NoneStaysIssued steps new.machine port
-  pub is_interrupted : (port : Port) → HasTimedOut old port ↔ IsStoppedOrStuck evidence port
+      → TimesOutAtTick old e.request.port
+  pub answers_ended : (port : Port) → TimesOutAtTick old port → AnswersEnded old.machine steps port
+  pub none_stays_issued : (port : Port) → TimesOutAtTick old port → NoneStaysIssued steps new.machine port
+  pub timed_out_iff_interrupted : (port : Port) → TimesOutAtTick old port ↔ IsStoppedOrStuck evidence port
   pub unplugged_lost_disk : UnpluggedLostDisk steps old.ports new.ports
-  pub shown_disk_was_in_or_came : (port : Port) → HasTimedOut old port → ShownDiskWasInOrCame old steps new port
+  pub shown_disk_was_in_or_came : (port : Port) → TimesOutAtTick old port → ShownDiskWasInOrCame old steps new port
 
 -- The kept requests' frames are given back once, before the server does anything else.
 pub record ReleasesOnce (steps : List Step) : Type 0 where
   pub later : List Step
   pub earlier : List Step
-  pub split : steps ≡ later ++ Release ∷ earlier
-  pub before : AllByDevice earlier
-  pub once : count_by is_release later ≡ 0
+  pub release_splits_steps : steps ≡ later ++ Release ∷ earlier
+  pub earlier_are_by_device : AllByDevice earlier
+  pub no_other_release : count_by is_release later ≡ 0
 
 -- a service answers the requests of a dead port PortDead
-abbrev pub TellsDead : AbstractState → List Step → Type 0
-TellsDead old steps = (e : Pending) (o : Outcome) → Contains steps (Answer e o) → old.ports.state e.request.port ≡ Dead
+abbrev pub DeadPortsTellOnlyPortDead : AbstractState → List Step → Type 0
+DeadPortsTellOnlyPortDead old steps = (e : Pending) (o : Outcome) → Contains steps (Answer e o)
+    → old.ports.state e.request.port ≡ Dead
     → o ≡ outcome.PortDead
 
 -- What a service says and does. It tells dead ports; where it tells one of a port's requests Unplugged, it leaves none
@@ -365,8 +369,8 @@ TellsDead old steps = (e : Pending) (o : Outcome) → Contains steps (Answer e o
 pub record AnswersService (old : AbstractState) (evidence : Evidence) (steps : List Step) (replies : List Reply)
     (new : AbstractState) : Type 0 where
   pub replies_match : RepliesMatch steps replies
-  pub tells_dead : TellsDead old steps
-  pub answers_all_unplugged : AnswersAllUnplugged steps new.machine
+  pub dead_ports_tell_only_port_dead : DeadPortsTellOnlyPortDead old steps
+  pub unplugged_empties_port : UnpluggedEmptiesPort steps new.machine
   pub none_is_due : NoneDueWhereReady new
   pub empty_unless_ready : (port : Port) → EmptyUnlessReady new port
   pub answers_ended : (port : Port) → old.ports.state port ≡ Ready → AnswersEnded old.machine steps port
@@ -380,9 +384,9 @@ pub record AnswersTick (old : AbstractState) (evidence : Evidence) (steps : List
   pub replies_match : RepliesMatch steps replies
   pub ages_once : AgesOnce old.ports steps
   pub restarts_timed_out : RestartsTimedOut old evidence steps new
-  pub answers_all_unplugged : AnswersAllUnplugged steps new.machine
+  pub unplugged_empties_port : UnpluggedEmptiesPort steps new.machine
   pub none_is_due : NoneDueWhereReady new
-  pub empty_unless_ready : (port : Port) → old.ports.state port ≡ Ready → EmptyUnlessReady new port
+  pub was_ready_empty_unless_ready : (port : Port) → old.ports.state port ≡ Ready → EmptyUnlessReady new port
 
 -- What a reset that ends says and does. Kept frames are given back first. Of each port no request keeps its issue, none
 -- is unanswered where it isn't ready then, one that is served has stopped, and one that shows a disk had it, or got it.
@@ -390,7 +394,7 @@ pub record AnswersReset (old : AbstractState) (evidence : Evidence) (steps : Lis
     (new : AbstractState) : Type 0 where
   pub replies_match : RepliesMatch steps replies
   pub releases_once : ReleasesOnce steps
-  pub answers_all_unplugged : AnswersAllUnplugged steps new.machine
+  pub unplugged_empties_port : UnpluggedEmptiesPort steps new.machine
   pub unplugged_lost_disk : UnpluggedLostDisk steps old.ports new.ports
   pub none_is_due : NoneDueWhereReady new
   pub empty_unless_ready : (port : Port) → EmptyUnlessReady new port
@@ -405,7 +409,7 @@ pub record AnswersReset (old : AbstractState) (evidence : Evidence) (steps : Lis
 pub record AnswersRevoke (client : ClientId) (number : ℕ) (old : AbstractState) (steps : List Step)
     (replies : List Reply) (new : AbstractState) : Type 0 where
   pub has_row : HasRow client number old.machine.rows
-  pub rows : new.machine.rows ≡ without_row client number old.machine.rows
+  pub row_is_removed : new.machine.rows ≡ without_row client number old.machine.rows
   pub replies_match : RepliesMatch steps replies
   pub waiting_are_revoked : (e : Pending) → Contains steps (Answer e outcome.Revoked) ↔ (Contains old.machine.book e
       × (e.issued ≡ false) × IsSameGrantName client number e.request.asked.client e.request.asked.grant)
@@ -413,38 +417,44 @@ pub record AnswersRevoke (client : ClientId) (number : ℕ) (old : AbstractState
   pub none_is_due : NoneDueWhereReady new
 
 -- What is said of a call agrees with its steps, and the call did what was asked.
-abbrev pub IsAnswered : {D : Type 0} → AbstractCall D → CallResult → AbstractState → Evidence → List Step
+abbrev pub ResultMatchesSteps : {D : Type 0} → AbstractCall D → AbstractCallResult → AbstractState → Evidence
+    → List Step
     → AbstractState
     → Type 0
-IsAnswered (Submit r) (Submitted (Ok id)) old evidence steps new = IsAcceptable (admission_context_of old) r
+ResultMatchesSteps (Submit r) (Submitted (Ok id)) old evidence steps new = IsAcceptable (admission_context_of old) r
     × ((a : Accepted) × (accepts_of steps ≡ a ∷ []) × (a.id ≡ id)) × SamePorts old.ports new.ports
     × NoneDueWhereReady new
-IsAnswered (Submit r) (Submitted (Err refusal)) old evidence steps new =
+ResultMatchesSteps (Submit r) (Submitted (Err refusal)) old evidence steps new =
     IsFirstRefusal (admission_context_of old) r refusal
     × (steps ≡ []) × SamePorts old.ports new.ports
-IsAnswered (StoreAt client frame at bytes) (Stored None) old evidence steps new = SamePorts old.ports new.ports
+ResultMatchesSteps (StoreAt client frame at bytes) (Stored None) old evidence steps new = SamePorts old.ports new.ports
     × MayAccessFrame old.machine.owner old.machine.lent client frame at (length bytes)
     × (client_bytes_of steps ≡ bytes ∷ [])
-IsAnswered (StoreAt client frame at bytes) (Stored (Some fault)) old evidence steps new = SamePorts old.ports new.ports
+ResultMatchesSteps (StoreAt client frame at bytes) (Stored (Some fault)) old evidence steps new = SamePorts old.ports
+    new.ports
     × IsFirstMemFault old.machine.owner old.machine.lent client frame at (length bytes) fault × (steps ≡ [])
-IsAnswered (LoadAt client frame at n) (Loaded (Ok bytes)) old evidence steps new = SamePorts old.ports new.ports
+ResultMatchesSteps (LoadAt client frame at n) (Loaded (Ok bytes)) old evidence steps new = SamePorts old.ports new.ports
     × MayAccessFrame old.machine.owner old.machine.lent client frame at n × (client_bytes_of steps ≡ bytes ∷ [])
-IsAnswered (LoadAt client frame at n) (Loaded (Err fault)) old evidence steps new = SamePorts old.ports new.ports
+ResultMatchesSteps (LoadAt client frame at n) (Loaded (Err fault)) old evidence steps new = SamePorts old.ports
+    new.ports
     × IsFirstMemFault old.machine.owner old.machine.lent client frame at n fault × (steps ≡ [])
-IsAnswered Service (Served replies) old evidence steps new = AnswersService old evidence steps replies new
-IsAnswered Tick (Served replies) old evidence steps new = AnswersTick old evidence steps replies new
-IsAnswered Reset (WasReset (Some replies)) old evidence steps new = AnswersReset old evidence steps replies new
-IsAnswered Reset (WasReset None) old evidence steps new = AllByDevice steps
+ResultMatchesSteps Service (Replied replies) old evidence steps new = AnswersService old evidence steps replies new
+ResultMatchesSteps Tick (Replied replies) old evidence steps new = AnswersTick old evidence steps replies new
+ResultMatchesSteps Reset (WasReset (Some replies)) old evidence steps new = AnswersReset old evidence steps replies new
+ResultMatchesSteps Reset (WasReset None) old evidence steps new = AllByDevice steps
     × ((port : Port) → IsAfterStuckReset old.ports evidence new.ports port)
-IsAnswered (RevokeOf client number) (WasRevoked (Some replies)) old evidence steps new =
+ResultMatchesSteps (RevokeOf client number) (WasRevoked (Some replies)) old evidence steps new =
     AnswersRevoke client number old steps replies new
-IsAnswered (RevokeOf client number) (WasRevoked None) old evidence steps new =
+ResultMatchesSteps (RevokeOf client number) (WasRevoked None) old evidence steps new =
     (HasRow client number old.machine.rows → ⊥) × (steps ≡ []) × SamePorts old.ports new.ports
-IsAnswered (State port) (Shown state) old evidence steps new = (state ≡ old.ports.state port) × (steps ≡ [])
+ResultMatchesSteps (State port) (PortStateShown state) old evidence steps new = (state ≡ old.ports.state port)
+    × (steps ≡ [])
     × SamePorts old.ports new.ports
-IsAnswered (Device step) (Stepped true) old evidence steps new = AllByDevice steps × SamePorts old.ports new.ports
-IsAnswered (Device step) (Stepped false) old evidence steps new = (steps ≡ []) × SamePorts old.ports new.ports
-IsAnswered ask said old evidence steps new = ⊥
+ResultMatchesSteps (StepDevice step) (Stepped true) old evidence steps new = AllByDevice steps
+    × SamePorts old.ports new.ports
+ResultMatchesSteps (StepDevice step) (Stepped false) old evidence steps new = (steps ≡ [])
+    × SamePorts old.ports new.ports
+ResultMatchesSteps ask said old evidence steps new = ⊥
 
 -- ---- events, and runs of them
 
@@ -455,12 +465,13 @@ abstract_after old event = record { machine = after old.machine event.steps; por
 -- The event may happen at the old moment.
 pub record Happens {D : Type 0} (old : AbstractState) (event : CallRecord D) : Type 0 where
   pub steps_are_enabled : AllEnabled old.machine event.steps
-  pub steps_are_of_call : AreStepsOfCall event.ask event.ports event.steps
-  pub issues_are_last : IssuesLast event.steps
-  pub answers_are_lawful : AllAnswersLawful old event.evidence event.ports event.steps
+  pub steps_are_of_call : AreStepsOfCall event.call event.ports event.steps
+  pub issue_is_last_of_request : IssueIsLastOfRequest event.steps
+  pub answers_are_lawful : AnswersAndWaitsLawful old event.evidence event.ports event.steps
   pub ports_are_well_formed : PortsWellFormed event.ports
-  pub unanswered_keep_disk : UnansweredKeepDisk old (abstract_after old event)
-  pub is_answered : IsAnswered event.ask event.said old event.evidence event.steps (abstract_after old event)
+  pub unanswered_keep_disk : UnansweredKeepSerialAndSize old (abstract_after old event)
+  pub result_matches_steps : ResultMatchesSteps event.call event.result old event.evidence event.steps
+      (abstract_after old event)
 
 -- the moment after a run of events
 abbrev pub abstract_after_all : {D : Type 0} → AbstractState → List (CallRecord D) → AbstractState
@@ -475,16 +486,16 @@ IsRun first (event ∷ past) = IsRun first past × Happens (abstract_after_all f
 -- ---- what a run gives
 
 -- what a call makes of it that the adapter didn't end a reset: this is so until a service, or a reset that ends
-abbrev pub StaysStuck : {D : Type 0} → AbstractCall D → CallResult → Type 0 → Type 0
-StaysStuck Reset (WasReset None) was = Unit {0}
-StaysStuck Reset said was = ⊥
-StaysStuck Service said was = ⊥
-StaysStuck ask said was = was
+abbrev pub IsStuckAfterCall : {D : Type 0} → AbstractCall D → AbstractCallResult → Type 0 → Type 0
+IsStuckAfterCall Reset (WasReset None) was = Unit {0}
+IsStuckAfterCall Reset said was = ⊥
+IsStuckAfterCall Service said was = ⊥
+IsStuckAfterCall ask said was = was
 
 -- a reset of the run was stuck, and no service and no reset that ends came since
 abbrev pub IsStillStuck : {D : Type 0} → List (CallRecord D) → Type 0
 IsStillStuck [] = ⊥
-IsStillStuck (event ∷ past) = StaysStuck event.ask event.said (IsStillStuck past)
+IsStillStuck (event ∷ past) = IsStuckAfterCall event.call event.result (IsStillStuck past)
 
 -- the steps of a run
 abbrev pub steps_of : {D : Type 0} → List (CallRecord D) → List Step
@@ -492,8 +503,8 @@ steps_of [] = []
 steps_of (event ∷ past) = event.steps ++ steps_of past
 
 -- the replies that a call gives
-abbrev pub replies_of : CallResult → List Reply
-replies_of (Served replies) = replies
+abbrev pub replies_of : AbstractCallResult → List Reply
+replies_of (Replied replies) = replies
 replies_of (WasReset (Some replies)) = replies
 replies_of (WasRevoked (Some replies)) = replies
 replies_of said = []
@@ -501,10 +512,10 @@ replies_of said = []
 -- the replies of a run
 abbrev pub all_replies : {D : Type 0} → List (CallRecord D) → List Reply
 all_replies [] = []
-all_replies (event ∷ past) = replies_of event.said ++ all_replies past
+all_replies (event ∷ past) = replies_of event.result ++ all_replies past
 
 -- the call accepts a request under this id
-abbrev pub gives_id : RequestId → CallResult → Bool
+abbrev pub gives_id : RequestId → AbstractCallResult → Bool
 gives_id id (Submitted (Ok given)) = given.0 == id.0
 gives_id id said = false
 
@@ -512,13 +523,13 @@ gives_id id said = false
 abbrev pub WasGivenId : {D : Type 0} → RequestId → ClientId → List (CallRecord D) → Type 0
 WasGivenId id client [] = ⊥
 WasGivenId id client (event ∷ past) =
-    ((r : Request) × (event.ask ≡ Submit r) × (event.said ≡ Submitted (Ok id)) × (r.client ≡ client))
+    ((r : Request) × (event.call ≡ Submit r) × (event.result ≡ Submitted (Ok id)) × (r.client ≡ client))
     ⊎ WasGivenId id client past
 
 -- Each read that a call of the run answers Ok has at the end of that call what is left: by the calls before it, and by
 -- the call's own steps before the answer.
-abbrev pub EveryReadHolds : {D : Type 0} → AbstractState → List (CallRecord D) → Type 0
-EveryReadHolds {D} first run = (later earlier : List (CallRecord D)) (event : CallRecord D)
+abbrev pub EveryReadHoldsExpected : {D : Type 0} → AbstractState → List (CallRecord D) → Type 0
+EveryReadHoldsExpected {D} first run = (later earlier : List (CallRecord D)) (event : CallRecord D)
     (late early : List Step) (read : Pending) → run ≡ later ++ event ∷ earlier
     → event.steps ≡ late ++ Answer read outcome.Ok ∷ early → read.request.asked.op ≡ Read → HoldsExpected first.machine
     (early ++ steps_of earlier) (abstract_after_all first (event ∷ earlier)).machine.memory read.request

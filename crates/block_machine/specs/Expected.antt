@@ -26,24 +26,24 @@ IsLegal start (step ∷ past) = IsLegal start past × IsEnabled (after start pas
 -- A grant as a configuration may give it: to a client from 1 to 8, under a number from 0 to 63, on a port from 0 to 3,
 -- of one sector at least, all of them below 2^48.
 pub record IsValidRow (row : GrantRow) : Type 0 where
-  pub client : (1 ≤ row.client.0) × (row.client.0 ≤ 8)
-  pub number : row.number ≤ 63
-  pub port : row.port.0 ≤ 3
+  pub client_is_valid : (1 ≤ row.client.0) × (row.client.0 ≤ 8)
+  pub number_is_at_most_63 : row.number ≤ 63
+  pub port_is_at_most_3 : row.port.0 ≤ 3
   pub count_is_positive : 1 ≤ row.count
-  pub below : row.first.0 + row.count ≤ 2 ^ 48
+  pub sectors_are_below_2_48 : row.first.0 + row.count ≤ 2 ^ 48
 
 -- A machine to begin with: no request is there, no frame is lent, and no id was handed out. There are at most 64 rows,
 -- which differ in name, and each is one that a configuration may give. The clients, 1 to 8, own frames behind the
 -- driver's, which are nobody's.
 pub record IsInitial (m : Machine) : Type 0 where
-  pub book : m.book ≡ []
-  pub kept : m.kept ≡ []
-  pub lent : (frame : Frame) → m.lent frame ≡ None
-  pub next : m.next_id ≡ 1
-  pub few : length m.rows ≤ 64
-  pub rows : AllPairs DifferInName m.rows
-  pub configured : (row : GrantRow) → Contains m.rows row → IsValidRow row
-  pub owned : (frame : Frame) (client : ClientId) → m.owner frame ≡ Some client
+  pub book_is_empty : m.book ≡ []
+  pub none_is_kept : m.kept ≡ []
+  pub no_frame_is_lent : (frame : Frame) → m.lent frame ≡ None
+  pub next_id_is_1 : m.next_id ≡ 1
+  pub rows_are_at_most_64 : length m.rows ≤ 64
+  pub rows_differ_in_name : AllPairs DifferInName m.rows
+  pub rows_are_valid : (row : GrantRow) → Contains m.rows row → IsValidRow row
+  pub owned_frames_are_clients : (frame : Frame) (client : ClientId) → m.owner frame ≡ Some client
       → (1 ≤ client.0) × (client.0 ≤ 8) × (DRIVER_FRAMES ≤ frame.0) × (frame.0 < MOST_FRAMES)
 
 -- the step puts a disk in at this port
@@ -64,7 +64,7 @@ plug_count port (step ∷ past) = if plugs_disk port step then suc (plug_count p
 
 -- what disk number n of the port held when it was put in
 abbrev pub bytes_when_plugged : Machine → Port → ℕ → List Step → DiskBytes
-bytes_when_plugged start p n [] = start.disks p
+bytes_when_plugged start p n [] = start.disk_bytes p
 bytes_when_plugged start p n (step ∷ past) =
     if plugs_disk p step && suc (plug_count p past) == n then plugged_disk step else bytes_when_plugged start p n past
 
@@ -118,18 +118,18 @@ disk_number_read r k (step ∷ past) =
     if touches_sector r.id k step then plug_count r.port past else disk_number_read r k past
 
 -- a write or trim of the port, accepted before this id, touched sector k while disk number n was in
-pub record Wrote (port : Port) (k n before : ℕ) (history : List Step) (writer : Accepted) : Type 0 where
+pub record ChangedSector (port : Port) (k n before_id : ℕ) (history : List Step) (writer : Accepted) : Type 0 where
   pub op_changes_sectors : changes_sectors writer.asked.op ≡ true
   pub port_is : writer.port ≡ port
-  pub earlier : writer.id.0 < before
+  pub earlier : writer.id.0 < before_id
   pub touched : HasTouched writer k n history
 
 -- The last of these in order of acceptance put the block there. If there is none, disk number n came with it.
 abbrev pub IsLastWritten : Machine → Port → ℕ → ℕ → ℕ → List Step → Block → Type 0
-IsLastWritten start port k n before history block = ((writer : Accepted) × Wrote port k n before history writer
-    × ((other : Accepted) → Wrote port k n before history other → other.id.0 ≤ writer.id.0)
-    × (block ≡ block_written writer.asked.op writer.held_blocks (k - writer.asked.first.0)))
-    ⊎ (((writer : Accepted) → Wrote port k n before history writer → ⊥)
+IsLastWritten start port k n before history block = ((writer : Accepted) × ChangedSector port k n before history writer
+    × ((other : Accepted) → ChangedSector port k n before history other → other.id.0 ≤ writer.id.0)
+    × (block ≡ block_written writer.asked.op writer.blocks_at_acceptance (k - writer.asked.first.0)))
+    ⊎ (((writer : Accepted) → ChangedSector port k n before history writer → ⊥)
     × (block ≡ bytes_when_plugged start port n history k))
 
 -- what the writes and trims accepted before this read left on sector k, on the disk that the read last found there
@@ -139,11 +139,11 @@ IsExpectedBlock start history read k block = IsLastWritten start read.port k
 
 -- The read has in this memory, sector by sector, what is left; the rest of its frames is as it was at acceptance.
 pub record HoldsExpected (start : Machine) (history : List Step) (memory : Memory) (read : Accepted) : Type 0 where
-  pub sectors : (i : ℕ) → i < read.asked.count → (block : Block)
+  pub sectors_are_expected : (i : ℕ) → i < read.asked.count → (block : Block)
       × IsExpectedBlock start history read (sector_of read i) block
       × ((b : ℕ) → b < 512 → block_of memory read.asked.frames.items i b ≡ block b)
-  pub rest : (i b : ℕ) → read.asked.count ≤ i → i < 8 * length read.asked.frames.items → b < 512
-      → block_of memory read.asked.frames.items i b ≡ read.held_blocks i b
+  pub rest_is_as_accepted : (i b : ℕ) → read.asked.count ≤ i → i < 8 * length read.asked.frames.items → b < 512
+      → block_of memory read.asked.frames.items i b ≡ read.blocks_at_acceptance i b
 
 -- The bytes that a read moved are those of its disk. A disk that comes back has in each sector what it held there at
 -- some moment since a flush was last ended on it, or, if none was, since it was first in: what its cache held may be
@@ -151,7 +151,7 @@ pub record HoldsExpected (start : Machine) (history : List Step) (memory : Memor
 -- with any.)
 abbrev pub StepIsFaithful : Machine → Step → Type 0
 StepIsFaithful old (Touch e i block) = e.request.asked.op ≡ Read
-    → (b : ℕ) → b < 512 → block b ≡ old.disks e.request.port (sector_of e.request i) b
+    → (b : ℕ) → b < 512 → block b ≡ old.disk_bytes e.request.port (sector_of e.request i) b
 StepIsFaithful old (Replace port id size disk) = id ≡ old.disk_ids port → (k : ℕ) → k < size
     → HoldsOrHeldSinceFlush old port k (disk k)
 StepIsFaithful old _ = Unit {0}

@@ -43,10 +43,10 @@ IsHistory Begins Relation first (h ∷ past) =
 -- The history leads to a server's state: `Stands` says when a state is at an instant. What a call adds is said of every
 -- history that leads to the server, and that there is one is said where a server is made: so none of it is empty.
 pub record LeadsTo {D E S : Type 0} (Begins : JointState D → Type 0) (Relation : JointState D → JointEvent D E → Type 0)
-    (Stands : JointState D → S → Type 0) (first : JointState D) (past : List (JointEvent D E)) (state : S) : Type 0
+    (IsStateAt : JointState D → S → Type 0) (first : JointState D) (past : List (JointEvent D E)) (state : S) : Type 0
   where
     pub history : IsHistory Begins Relation first past
-    pub stands : Stands (joint_state_after first past) state
+    pub state_is_at_history_end : IsStateAt (joint_state_after first past) state
 
 -- a history of steps leads to the machine
 pub record IsReachable (m : Machine) : Type 0 where
@@ -58,7 +58,8 @@ pub record IsReachable (m : Machine) : Type 0 where
 
 -- What a part of a call does: from each machine that is reached and fits the old state, steps that may come lead to one
 -- that fits the new state. `Tells` says what steps they are.
-pub record IsSimulatedBySteps {S : Type 0} (Fits : Machine → S → Type 0) (old new : S) (Tells : Machine → List Step
+pub record IsSimulatedBySteps {S : Type 0} (Fits : Machine → S → Type 0) (old new : S) (SatisfiesSteps : Machine
+    → List Step
     → Type 0) : Type 0 where
   pub simulates : (m : Machine) → IsReachable m → Fits m old
-      → (steps : List Step) × AllEnabled m steps × Fits (after m steps) new × Tells m steps
+      → (steps : List Step) × AllEnabled m steps × Fits (after m steps) new × SatisfiesSteps m steps

@@ -16,17 +16,17 @@ pub record Ports : Type 0 where
   pub serial : Port → List ℕ
   pub sectors : Port → ℕ
   -- whether it promises zeros after a trim, and how the port takes commands with it
-  pub trims : Port → Bool
+  pub zeroes_after_trim : Port → Bool
   pub mode : Port → QueueMode
 
 -- a port has 1 to 32 usable slots, and one where commands aren't queued
 abbrev pub IsValidMode : QueueMode → Type 0
-IsValidMode mode = (1 ≤ mode.usable) × (mode.usable ≤ 32) × (mode.queued ≡ false → mode.usable ≡ 1)
+IsValidMode mode = (1 ≤ mode.usable_slots) × (mode.usable_slots ≤ 32) × (mode.queued ≡ false → mode.usable_slots ≡ 1)
 
 -- What ports are between any two calls: at most four are served, and there are nine causes to be unfit. (A mode is
 -- known of a ready port alone: the disk's own page tells it.)
 pub record PortsWellFormed (ports : Ports) : Type 0 where
-  pub few_are_served : (port : Port) → ports.served port ≡ true → port.0 < 4
+  pub served_are_ports_0_to_3 : (port : Port) → ports.served port ≡ true → port.0 < 4
   pub unserved_are_absent : (port : Port) → ports.served port ≡ false → ports.state port ≡ Absent
   pub modes_are_valid : (port : Port) → ports.state port ≡ Ready → IsValidMode (ports.mode port)
   pub causes_are_valid : (port : Port) (cause : ℕ) → ports.state port ≡ Unfit cause → (1 ≤ cause) × (cause ≤ 9)
@@ -34,7 +34,8 @@ pub record PortsWellFormed (ports : Ports) : Type 0 where
 -- the port is what it was
 abbrev pub SamePort : Ports → Ports → Port → Type 0
 SamePort old new port = (new.served port ≡ old.served port) × (new.state port ≡ old.state port)
-    × (new.serial port ≡ old.serial port) × (new.sectors port ≡ old.sectors port) × (new.trims port ≡ old.trims port)
+    × (new.serial port ≡ old.serial port) × (new.sectors port ≡ old.sectors port)
+    × (new.zeroes_after_trim port ≡ old.zeroes_after_trim port)
     × (new.mode port ≡ old.mode port)
 
 -- all ports are what they were
@@ -42,8 +43,8 @@ abbrev pub SamePorts : Ports → Ports → Type 0
 SamePorts old new = (port : Port) → SamePort old new port
 
 -- the disk of the port has the serial and the size that it had: a restart takes it for the same
-abbrev pub SameDisk : Ports → Ports → Port → Type 0
-SameDisk old new port = (new.serial port ≡ old.serial port) × (new.sectors port ≡ old.sectors port)
+abbrev pub SameSerialAndSize : Ports → Ports → Port → Type 0
+SameSerialAndSize old new port = (new.serial port ≡ old.serial port) × (new.sectors port ≡ old.sectors port)
 
 -- a fault that the device told of a request: the two bytes of the task file
 pub record RequestFault : Type 0 where
@@ -54,22 +55,22 @@ pub record RequestFault : Type 0 where
 -- What the device vouches for in a call. `faults`: of requests, each with its bytes as the device told them: in the
 -- task file, or in the log page that was read in the call. `lost`: ports that had N or X of PxSERR set, or a DET other
 -- than 3, when the call began; ports of which a disk went or came in it; and ports that end it neither dead nor ready
--- with serial and size as when they were last ready before it. `gone`: ports that were ready when the call began, all
--- of those that had N or X set then, or a DET other than 3 where no disk was put in in the call; and others only of
--- which a disk went or came in it, or DET was other than 3. `failed`: ports that were ready when the call began, all of
--- those that had TFES, HBDS, HBFS or IFS in PxIS then; and others only that came to have one in it. `fatal`: so for
--- HBDS, HBFS and IFS. `stopped`: ports whose CR was read 0 in the call after ST was cleared; and the served ports,
--- where the call is a reset that ended. `stuck`: ports of which a wait of the call read CR, or FR, as 1 at each of its
--- 64 readings; and the served ports, where the call is a reset that the adapter didn't end. A port may be in both of
--- these: stopped first, and stuck later. The layer that knows the device backs each port and fault that is named.
--- `faults` and `lost` may leave some out; the others name each port that the layer claims to heed, where they apply to
--- it.
+-- with serial and size as when they were last ready before it. `link_changed`: ports that were ready when the call
+-- began, all of those that had N or X set then, or a DET other than 3 where no disk was put in in the call; and others
+-- only of which a disk went or came in it, or DET was other than 3. `showing_error`: ports that were ready when the
+-- call began, all of those that had TFES, HBDS, HBFS or IFS in PxIS then; and others only that came to have one in it.
+-- `showing_fatal_error`: so for HBDS, HBFS and IFS. `stopped`: ports whose CR was read 0 in the call after ST was
+-- cleared; and the served ports, where the call is a reset that ended. `stuck`: ports of which a wait of the call read
+-- CR, or FR, as 1 at each of its 64 readings; and the served ports, where the call is a reset that the adapter didn't
+-- end. A port may be in both of these: stopped first, and stuck later. The layer that knows the device backs each port
+-- and fault that is named. `faults` and `lost` may leave some out; the others name each port that the layer claims to
+-- heed, where they apply to it.
 pub record Evidence : Type 0 where
   pub faults : List RequestFault
   pub lost : List Port
   pub link_changed : List Port
-  pub failed : List Port
-  pub fatal : List Port
+  pub showing_error : List Port
+  pub showing_fatal_error : List Port
   pub stopped : List Port
   pub stuck : List Port
 
@@ -80,9 +81,9 @@ IsStoppedOrStuck evidence port = Contains evidence.stopped port ⊎ Contains evi
 -- What a call that looks at the port, or boots it, may make of it: a port is served as it was; it is dead after the
 -- call exactly where it got stuck in it; and one that isn't ready remembers the disk that it was last ready with.
 pub record MayBecome (old : Ports) (evidence : Evidence) (new : Ports) (port : Port) : Type 0 where
-  pub served_is_kept : new.served port ≡ old.served port
+  pub served_is_unchanged : new.served port ≡ old.served port
   pub dead_is_stuck : (new.state port ≡ Dead) ↔ Contains evidence.stuck port
-  pub disk_is_kept : new.state port ≢ Ready → SameDisk old new port
+  pub disk_is_remembered : new.state port ≢ Ready → SameSerialAndSize old new port
 
 -- What a service may make of it: a dead port stays what it is, since a reset alone ends that;
 -- another becomes what a call that looks at it may make of it, and is what it was unless it was stopped, or got stuck.
@@ -94,4 +95,4 @@ IsServiced old evidence new port = (old.state port ≡ Dead → SamePort old new
 -- What a reset that was stuck makes of it: a served port is dead, for which there is evidence, and remembers its disk.
 abbrev pub IsAfterStuckReset : Ports → Evidence → Ports → Port → Type 0
 IsAfterStuckReset old evidence new port = (new.served port ≡ old.served port)
-    × (old.served port ≡ true → (new.state port ≡ Dead) × Contains evidence.stuck port) × SameDisk old new port
+    × (old.served port ≡ true → (new.state port ≡ Dead) × Contains evidence.stuck port) × SameSerialAndSize old new port

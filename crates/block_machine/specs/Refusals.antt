@@ -24,9 +24,9 @@ pub record AdmissionContext : Type 0 where
   -- by port: its state, the size of its disk in sectors, and whether the disk promises zeros after a trim
   pub state : Port → PortState
   pub sectors : Port → ℕ
-  pub trims : Port → Bool
+  pub zeroes_after_trim : Port → Bool
   -- how many unanswered requests a client has
-  pub unanswered : ClientId → ℕ
+  pub unanswered_count : ClientId → ℕ
   -- The id that the next accepted request gets: one more than the last that was handed out, and 1 at the start. Ids
   -- are 1 to 2^64 - 1, so it is 2^64 once the last of them was handed out. (Code that keeps the last id handed out,
   -- 0 at the start, keeps it in 64 bits.)
@@ -40,8 +40,8 @@ RefusalApplies s r (refused.PortNotReady state) = (state ≢ Ready)
 RefusalApplies s r refused.OutsideDisk = (r.op ≢ Flush)
     × ((row : GrantRow) × IsNamed s.rows r row × (s.sectors row.port < r.first.0 + r.count))
 RefusalApplies s r refused.TrimUnsupported = (r.op ≡ Trim)
-    × ((row : GrantRow) × IsNamed s.rows r row × (IsTrue (s.trims row.port) → ⊥))
-RefusalApplies s r refused.ClientFull = 16 ≤ s.unanswered r.client
+    × ((row : GrantRow) × IsNamed s.rows r row × (IsTrue (s.zeroes_after_trim row.port) → ⊥))
+RefusalApplies s r refused.ClientFull = 16 ≤ s.unanswered_count r.client
 RefusalApplies s r refused.IdsSpent = 2 ^ 64 ≤ s.next_id
 
 -- no cause applies

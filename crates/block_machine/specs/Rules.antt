@@ -63,8 +63,8 @@ abbrev pub IsForeignAt : (Frame → Option ClientId) → ClientId → List Frame
 IsForeignAt owner client frames i = (f : Frame) × (slice_get frames i ≡ Some f) × (owner f ≢ Some client)
 
 -- the frame at place i stands at an earlier place too
-abbrev pub IsTwiceAt : List Frame → ℕ → Type 0
-IsTwiceAt frames i = (f : Frame) × (j : ℕ) × (j < i) × (slice_get frames j ≡ Some f) × (slice_get frames i ≡ Some f)
+abbrev pub IsRepeatAt : List Frame → ℕ → Type 0
+IsRepeatAt frames i = (f : Frame) × (j : ℕ) × (j < i) × (slice_get frames j ≡ Some f) × (slice_get frames i ≡ Some f)
 
 -- the frame at place i is lent to a request
 abbrev pub IsLentAt : (Frame → Option RequestId) → List Frame → ℕ → Type 0
@@ -74,7 +74,7 @@ IsLentAt lent frames i = (f : Frame) × (slice_get frames i ≡ Some f) × IsSom
 abbrev pub HasFault : (Frame → Option ClientId) → (Frame → Option RequestId) → ClientId → List Frame → FrameFault
     → Type 0
 HasFault owner lent client frames (FrameForeign i) = IsForeignAt owner client frames i
-HasFault owner lent client frames (FrameTwice i) = IsTwiceAt frames i
+HasFault owner lent client frames (FrameTwice i) = IsRepeatAt frames i
 HasFault owner lent client frames (FrameLent i) = IsLentAt lent frames i
 
 -- the request breaks the rule

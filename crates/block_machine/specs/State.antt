@@ -39,7 +39,7 @@ pub record Accepted : Type 0 where
   -- what the client asked
   pub asked : Request
   -- what its frames held then, by number of its sector. For a write these are its bytes.
-  pub held_blocks : ℕ → Block
+  pub blocks_at_acceptance : ℕ → Block
 
 -- the sector of the disk that is number i of the request's
 abbrev pub sector_of : Accepted → ℕ → ℕ
@@ -49,7 +49,7 @@ sector_of r i = r.asked.first.0 + i
 pub record Pending : Type 0 where
   pub request : Accepted
   -- how often it was issued, and how many ticks ago it was issued last
-  pub issues : ℕ
+  pub issue_count : ℕ
   pub age : ℕ
   pub issued : Bool
   -- by number of its sector, whether it was touched since the last issue
@@ -70,7 +70,7 @@ unanswered e = record {
 -- and the same of a request that was just accepted
 abbrev pub newly_unanswered : Accepted → Unanswered
 newly_unanswered r =
-    unanswered (record { request = r; issues = 0; age = 0; issued = false; touched = λ _. false; ended = false })
+    unanswered (record { request = r; issue_count = 0; age = 0; issued = false; touched = λ _. false; ended = false })
 
 -- What the machine holds.
 pub record Machine : Type 0 where
@@ -79,10 +79,10 @@ pub record Machine : Type 0 where
   pub present : Port → Bool
   pub disk_ids : Port → ℕ
   pub sizes : Port → ℕ
-  pub disks : Port → DiskBytes
+  pub disk_bytes : Port → DiskBytes
   -- by port and sector, what that disk held there before, since a flush was last ended on it, or, if none was, since it
   -- was first in
-  pub blocks_since_flush : Port → ℕ → List Block
+  pub overwritten_since_flush : Port → ℕ → List Block
   -- the unanswered requests, in order of acceptance
   pub book : List Pending
   -- the requests that were answered PortDead with their frames still lent

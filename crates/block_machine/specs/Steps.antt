@@ -52,11 +52,17 @@ without_pending id pending = filter (λ e. not (e.request.id.0 == id.0)) pending
 
 -- a request that was just accepted
 abbrev pub newly_accepted : Accepted → Pending
-newly_accepted r = record { request = r; issues = 0; age = 0; issued = false; touched = λ _. false; ended = false }
+newly_accepted r = record { request = r; issue_count = 0; age = 0; issued = false; touched = λ _. false; ended = false }
 
 -- the request issued once more: nothing touched, not ended, of age 0
 abbrev pub newly_issued : Pending → Pending
-newly_issued e = record e { issues = suc e.issues; age = 0; issued = true; touched = λ _. false; ended = false }
+newly_issued e = record e {
+  issue_count = suc e.issue_count;
+  age = 0;
+  issued = true;
+  touched = λ _. false;
+  ended = false;
+}
 
 -- sector number i touched too
 abbrev pub touch : ℕ → Pending → Pending
@@ -101,20 +107,21 @@ put_bytes frame offset n bytes memory f b =
     if f.0 == frame.0 && (nat_le offset b && nat_lt b (offset + n)) then bytes (b - offset) else memory f b
 
 -- what a touch of sector number i leaves on the disks: a writer's own bytes, or zeros
-abbrev pub disks_after : Accepted → ℕ → (Port → DiskBytes) → Port → DiskBytes
-disks_after r i disks =
-    if changes_sectors r.asked.op then put_sector r.port (sector_of r i) (block_written r.asked.op r.held_blocks i)
+abbrev pub disks_after_touch : Accepted → ℕ → (Port → DiskBytes) → Port → DiskBytes
+disks_after_touch r i disks =
+    if changes_sectors r.asked.op then put_sector r.port (sector_of r i)
+    (block_written r.asked.op r.blocks_at_acceptance i)
     disks
     else disks
 
 -- and what it overwrites is put aside, the newest first: a disk may lose what its cache holds
-abbrev pub put_aside : Accepted → ℕ → (Port → DiskBytes) → (Port → ℕ → List Block) → Port → ℕ → List Block
-put_aside r i disks aside p k =
+abbrev pub with_overwritten_block : Accepted → ℕ → (Port → DiskBytes) → (Port → ℕ → List Block) → Port → ℕ → List Block
+with_overwritten_block r i disks aside p k =
     if changes_sectors r.asked.op && (p.0 == r.port.0 && k == sector_of r i) then disks p k ∷ aside p k else aside p k
 
 -- and in memory: for a read, the bytes that were moved
-abbrev pub memory_after : Accepted → ℕ → Block → Memory → Memory
-memory_after r i block memory =
+abbrev pub memory_after_touch : Accepted → ℕ → Block → Memory → Memory
+memory_after_touch r i block memory =
     if is_reader r.asked.op then put_bytes (frame_at r.asked.frames.items (i / 8)) (512 * (i % 8)) 512 block memory
     else memory
 
@@ -129,15 +136,15 @@ after_step m (Accept r) =
     record m { book = m.book ++ newly_accepted r ∷ []; lent = lend r m.lent; next_id = suc m.next_id }
 after_step m (Issue mode e) = record m { book = map (update_pending e.request.id newly_issued) m.book }
 after_step m (Touch e i block) = record m {
-  disks = disks_after e.request i m.disks;
-  blocks_since_flush = put_aside e.request i m.disks m.blocks_since_flush;
-  memory = memory_after e.request i block m.memory;
+  disk_bytes = disks_after_touch e.request i m.disk_bytes;
+  overwritten_since_flush = with_overwritten_block e.request i m.disk_bytes m.overwritten_since_flush;
+  memory = memory_after_touch e.request i block m.memory;
   book = map (update_pending e.request.id (touch i)) m.book;
   kept = map (update_pending e.request.id (touch i)) m.kept;
 }
 after_step m (End e) = record m {
-  blocks_since_flush =
-      λ p k. if e.request.port.0 == p.0 && is_flush e.request.asked.op then [] else m.blocks_since_flush p k;
+  overwritten_since_flush =
+      λ p k. if e.request.port.0 == p.0 && is_flush e.request.asked.op then [] else m.overwritten_since_flush p k;
   book = map (update_pending e.request.id mark_ended) m.book;
   kept = map (update_pending e.request.id mark_ended) m.kept;
 }
@@ -155,9 +162,9 @@ after_step m (Replace port id size disk) = record m {
   present = λ p. if p.0 == port.0 then true else m.present p;
   disk_ids = λ p. if p.0 == port.0 then id else m.disk_ids p;
   sizes = λ p. if p.0 == port.0 then size else m.sizes p;
-  disks = λ p. if p.0 == port.0 then disk else m.disks p;
-  blocks_since_flush = λ p k. if p.0 == port.0 then (if id == m.disk_ids p then m.disks p k
-      ∷ m.blocks_since_flush p k else []) else m.blocks_since_flush p k;
+  disk_bytes = λ p. if p.0 == port.0 then disk else m.disk_bytes p;
+  overwritten_since_flush = λ p k. if p.0 == port.0 then (if id == m.disk_ids p then m.disk_bytes p k
+      ∷ m.overwritten_since_flush p k else []) else m.overwritten_since_flush p k;
 }
 after_step m (Store client frame offset bytes) =
     record m { memory = put_bytes frame offset (length bytes) (slice_index bytes) m.memory }
@@ -182,16 +189,16 @@ unanswered_count book client = count_by (λ e. e.request.asked.client.0 == clien
 -- A request that is accepted has the next id, breaks no rule, goes to its row's port, and has what its frames hold.
 -- A client has at most 16 unanswered requests, and ids fit 64 bits.
 pub record MayAccept (m : Machine) (r : Accepted) : Type 0 where
-  pub id : r.id.0 ≡ m.next_id
-  pub id_left : m.next_id < 2 ^ 64
-  pub unbroken : (rule : Rule) → Breaks m.rows m.owner m.lent r.asked rule → ⊥
-  pub port : (row : GrantRow) → IsNamed m.rows r.asked row → r.port ≡ row.port
-  pub few : unanswered_count m.book r.asked.client < 16
-  pub held : r.held_blocks ≡ block_of m.memory r.asked.frames.items
+  pub id_is_next : r.id.0 ≡ m.next_id
+  pub an_id_is_left : m.next_id < 2 ^ 64
+  pub breaks_no_rule : (rule : Rule) → Breaks m.rows m.owner m.lent r.asked rule → ⊥
+  pub port_is_of_its_row : (row : GrantRow) → IsNamed m.rows r.asked row → r.port ≡ row.port
+  pub client_has_room : unanswered_count m.book r.asked.client < 16
+  pub blocks_are_in_memory : r.blocks_at_acceptance ≡ block_of m.memory r.asked.frames.items
 
 -- no kept request is left on the port: one may still touch sectors out of turn
-abbrev pub NoneQuarantined : Machine → Port → Type 0
-NoneQuarantined m port = (e : Pending) → Contains m.kept e → e.request.port ≢ port
+abbrev pub NoneKept : Machine → Port → Type 0
+NoneKept m port = (e : Pending) → Contains m.kept e → e.request.port ≢ port
 
 -- the grant under which the request was accepted wasn't revoked
 abbrev pub HasGrant : Machine → Pending → Type 0
@@ -206,7 +213,7 @@ GrantAllowsOutcome m e _ = Unit {0}
 
 -- the bytes that are moved for a write are its own; a read's may be any, and a trim's and a flush's mean nothing
 abbrev pub MovesOwnBytes : Accepted → ℕ → Block → Type 0
-MovesOwnBytes r i block = r.asked.op ≡ Write → (b : ℕ) → b < 512 → block b ≡ r.held_blocks i b
+MovesOwnBytes r i block = r.asked.op ≡ Write → (b : ℕ) → b < 512 → block b ≡ r.blocks_at_acceptance i b
 
 -- the bytes of a sector are the same
 abbrev pub SameBytes : Block → Block → Type 0
@@ -216,7 +223,7 @@ SameBytes one other = (b : ℕ) → b < 512 → one b ≡ other b
 -- since it was first in
 abbrev pub HoldsOrHeldSinceFlush : Machine → Port → ℕ → Block → Type 0
 HoldsOrHeldSinceFlush m port k block =
-    SameBytes block (m.disks port k) ⊎ ((old : Block) × Contains (m.blocks_since_flush port k) old
+    SameBytes block (m.disk_bytes port k) ⊎ ((old : Block) × Contains (m.overwritten_since_flush port k) old
     × SameBytes block old)
 
 -- The step may come. A request is issued, or waits again, only while its grant is there. (That an answer is lawful is
@@ -224,13 +231,13 @@ HoldsOrHeldSinceFlush m port k block =
 abbrev pub IsEnabled : Machine → Step → Type 0
 IsEnabled m (Accept r) = MayAccept m r
 IsEnabled m (Issue mode e) = Contains m.book e × IsDue mode (map unanswered m.book) (unanswered e)
-    × NoneQuarantined m e.request.port
+    × NoneKept m e.request.port
     × HasGrant m e
 IsEnabled m (Touch e i block) = MayStillMove m e × (i < e.request.asked.count) × (m.present e.request.port ≡ true)
     × (sector_of e.request i < m.sizes e.request.port) × MovesOwnBytes e.request i block
 IsEnabled m (End e) = MayStillMove m e × AllTouched e × (m.present e.request.port ≡ true)
 IsEnabled m (Age ready) = Unit {0}
-IsEnabled m (WaitAgain e) = Contains m.book e × (e.issued ≡ true) × (e.issues < 4) × HasGrant m e
+IsEnabled m (WaitAgain e) = Contains m.book e × (e.issued ≡ true) × (e.issue_count < 4) × HasGrant m e
 IsEnabled m (Answer e outcome) = Contains m.book e × GrantAllowsOutcome m e outcome
 IsEnabled m (Revoke client number) = HasRow client number m.rows
 IsEnabled m Release = Unit {0}

@@ -10,7 +10,7 @@ pub struct QueueMode {
     /// Whether reads and writes are queued (native command queuing).
     pub queued: bool,
     /// How many slots are usable: 1 to 32.
-    pub usable: u8,
+    pub usable_slots: u8,
 }
 
 /// An unanswered request, as far as it says which requests are due.

@@ -2,39 +2,22 @@
 //! calls them. `D` are the steps that a device can be told to do: a law on runs holds for any device.
 
 ghost use Rattle.std.specs.Prelude.{◌≡◌, ◌≢◌, ◌↔◌, ◌<◌, ℕ, Bool, IsTrue, true, false, List, [], ◌∷◌, ◌++◌, ◌≤◌, ◌&&◌, nat_lt, Option, Some, All, length, map, count_by, Contains};
-ghost use Rattle.ata_types.specs.declared.Port.{Port};
-ghost use Rattle.ata_types.specs.declared.PortState.TheVariants.{Ready};
-ghost use Rattle.ata_types.specs.declared.request.ClientId.{ClientId};
-ghost use Rattle.ata_types.specs.declared.request.Frame.{Frame};
-ghost use Rattle.ata_types.specs.declared.request.Request.{Request};
-ghost use Rattle.ata_types.specs.declared.request.RequestId.{RequestId};
-ghost use Rattle.ata_types.specs.declared.grant.GrantRow.{GrantRow};
-ghost use Rattle.ata_types.specs.declared.request.Outcome.{Outcome};
-ghost use Rattle.ata_types.specs.declared.request.Op.TheVariants.{Read};
-ghost use Rattle.block_machine.specs.declared.due.QueueMode.{QueueMode};
-ghost use Rattle.block_machine.specs.declared.due.Unanswered.{Unanswered};
-ghost use Rattle.block_machine.specs.DueRequests.{IsDue, IsInOrder, is_plain, issued_count, is_due, unblocked_ahead_count, due_ahead_count, free_slots, with_issued, with_waiting, without_request, requests_of_port, due_of, AreAllDueInOrder};
-ghost use Rattle.block_machine.specs.Ports.{Ports, PortsWellFormed};
-ghost use Rattle.block_machine.specs.Refusals.{AdmissionContext, IsAcceptable, MayAccessFrame};
-ghost use Rattle.block_machine.specs.Rules.{HasGrantName};
-ghost use Rattle.block_machine.specs.State.{Block, Accepted, Pending, Machine, unanswered};
-ghost use Rattle.block_machine.specs.Steps.{Step, Touch, End, Issue, WaitAgain, Answer, Age, after_step, IsEnabled, MayAccept, HoldsFrames, AllTouched};
-ghost use Rattle.block_machine.specs.Expected.{IsInitial, IsLegal, AllStepsFaithful, HoldsExpected, after};
-ghost use Rattle.block_machine.specs.Confinement.{IsGranted, IsConfined, FramesAreAsAccepted, HasFrame, KeepsRules, WasAccepted, WithinLimits};
-ghost use Rattle.block_machine.specs.Events.{AbstractState, CallRecord, AllEnabled, IsRun, EveryReadHolds, abstract_after_all, steps_of};
-ghost use Rattle.block_machine.specs.Histories.{IsReachable};
+ghost use Rattle.ata_types.specs.{declared.Port.{Port}, declared.PortState.TheVariants.{Ready}, declared.request.ClientId.{ClientId}, declared.request.Frame.{Frame}, declared.request.Request.{Request}, declared.request.RequestId.{RequestId}, declared.grant.GrantRow.{GrantRow}, declared.request.Outcome.{Outcome}, declared.request.Op.TheVariants.{Read}};
+ghost use Rattle.block_machine.specs.{declared.due.QueueMode.{QueueMode}, declared.due.Unanswered.{Unanswered}, DueRequests.{IsDue, IsInOrder, is_plain, issued_count, is_due, unblocked_ahead_count, due_ahead_count, free_slots, with_issued, with_waiting, without_request, requests_of_port, due_of, AreAllDueInOrder}, Ports.{Ports, PortsWellFormed}, Refusals.{AdmissionContext, IsAcceptable, MayAccessFrame}, Rules.{HasGrantName}};
+ghost use Rattle.block_machine.specs.{State.{Block, Accepted, Pending, Machine, unanswered}, Steps.{Step, Touch, End, Issue, WaitAgain, Answer, Age, after_step, IsEnabled, MayAccept, HoldsFrames, AllTouched}, Expected.{IsInitial, IsLegal, AllStepsFaithful, HoldsExpected, after}, Confinement.{IsGranted, IsConfined, FramesAreAsAccepted, HasFrame, KeepsRulesNotOnFrames, WasAccepted, WithinLimits}};
+ghost use Rattle.block_machine.specs.{Events.{AbstractState, CallRecord, AllEnabled, IsRun, EveryReadHoldsExpected, abstract_after_all, steps_of}, Histories.{IsReachable}};
 
 /// Over every run of calls whose reads moved their disks' bytes: each read that is answered Ok has, at the end of the
 /// call that answers it, sector by sector what the writes and trims accepted before it left, and the rest of its frames
 /// is as it was when it was accepted.
-pub fn law_every_read_holds<D>()
+pub fn law_answered_reads_hold_expected<D>()
     ensures { (first : AbstractState) (run : List (CallRecord D)) → IsRun first run
         → AllStepsFaithful first.machine (steps_of run)
-        → EveryReadHolds first run }
+        → EveryReadHoldsExpected first run }
 {}
 
 /// After every history, a read with all its sectors touched since its last issue has what is left.
-pub fn law_read_holds_expected()
+pub fn law_touched_read_holds_expected()
     ensures { (start : Machine) (history : List Step) (read : Pending) → IsInitial start
         → IsLegal start history
         → AllStepsFaithful start history → Contains (after start history).book read → AllTouched read
@@ -64,7 +47,7 @@ pub fn law_runs_are_legal<D>()
     ensures issues { (first : AbstractState) (run : List (CallRecord D)) (late early : List Step) (mode : QueueMode)
         (e : Pending)
         → IsRun first run → steps_of run ≡ late ++ Issue mode e ∷ early
-        → WasAccepted first.machine early e.request × KeepsRules (after first.machine early) e.request }
+        → WasAccepted first.machine early e.request × KeepsRulesNotOnFrames (after first.machine early) e.request }
 {}
 
 /// Steps go on from what earlier ones left: after some, and then others, the machine is as after them all, which may
@@ -86,7 +69,7 @@ pub fn law_one_id_is_in_the_book_once()
 {}
 
 /// A request that is kept was answered: none of the book has its id.
-pub fn law_what_is_kept_was_answered()
+pub fn law_kept_is_not_in_book()
     ensures { (m : Machine) (a b : Pending) → IsReachable m → Contains m.book a → Contains m.kept b
         → a.request.id.0 ≢ b.request.id.0 }
 {}
@@ -113,10 +96,10 @@ pub fn law_touch_is_confined()
 
 /// Each request that is issued was accepted, when it broke no rule. By the rows as they are when it is issued it breaks
 /// none on its grant, nor on how many sectors and frames it has; and its frames are lent to it.
-pub fn law_issues_keep_the_rules()
+pub fn law_issues_keep_rules_but_frames()
     ensures { (start : Machine) (history : List Step) (mode : QueueMode) (e : Pending) → IsInitial start
         → IsLegal start history → IsEnabled (after start history) (Issue mode e)
-        → WasAccepted start history e.request × KeepsRules (after start history) e.request }
+        → WasAccepted start history e.request × KeepsRulesNotOnFrames (after start history) e.request }
 {}
 
 /// A request that is accepted is within a row of its client.
@@ -163,7 +146,7 @@ pub fn law_a_name_is_of_one_row()
 pub fn law_frames_are_their_clients()
     ensures acceptable { (s : AdmissionContext) (r : Request) → IsAcceptable s r
         → All (λ frame. s.owner frame ≡ Some r.client) r.frames.items }
-    ensures open { (owner : Frame → Option ClientId) (lent : Frame → Option RequestId) (client : ClientId)
+    ensures accessible { (owner : Frame → Option ClientId) (lent : Frame → Option RequestId) (client : ClientId)
         (frame : Frame) (offset count : ℕ) → MayAccessFrame owner lent client frame offset count
         → owner frame ≡ Some client }
 {}
@@ -190,7 +173,7 @@ pub fn law_book_in_order()
 pub fn law_due_finds_slot()
     ensures { (mode : QueueMode) (book : List Unanswered) (r : Unanswered) → IsDue mode book r
         → (is_plain mode r.op ≡ true → issued_count book r.port ≡ 0)
-        × (is_plain mode r.op ≡ false → issued_count book r.port < mode.usable) }
+        × (is_plain mode r.op ≡ false → issued_count book r.port < mode.usable_slots) }
 {}
 
 /// Once a due request is issued, another request of its port is due exactly where it was due before.
@@ -290,7 +273,7 @@ pub fn law_other_ports_requests_stay()
 pub fn law_steps_change_what_is_due()
     ensures issue { (m : Machine) (mode : QueueMode) (e : Pending)
         → map unanswered (after_step m (Issue mode e)).book ≡ with_issued e.request.id (map unanswered m.book) }
-    ensures again { (m : Machine) (e : Pending)
+    ensures wait_again { (m : Machine) (e : Pending)
         → map unanswered (after_step m (WaitAgain e)).book ≡ with_waiting e.request.id (map unanswered m.book) }
     ensures answer { (m : Machine) (e : Pending) (outcome : Outcome)
         → map unanswered (after_step m (Answer e outcome)).book ≡ without_request e.request.id (map unanswered m.book) }

@@ -1,7 +1,7 @@
 //! The block machine: what a server means to its clients, with no register in it.
 //!
 //! A `Machine` has disks, unanswered and kept requests, frames, loans and the next id. `Steps` has
-//! what may change it, `Rules` and `Refusals` what is refused in which order, `Due` what is issued
+//! what may change it, `Rules` and `Refusals` what is refused in which order, `DueRequests` what is issued
 //! when, `Expected` what a read has to hold, `Events` what a call may make of it, and what a run is.
 //! The laws are for every history of steps, or run of calls. All crates above wait for its proof,
 //! so it has those laws alone that they build on; `machine_runs` has the others.

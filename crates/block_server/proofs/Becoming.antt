@@ -14,12 +14,12 @@ use Rattle.host_boot.specs.declared.ProbeResult.{ProbeResult}
 use Rattle.host_boot.specs.declared.ProbeResult.TheVariants.{Unserved}
 use Rattle.identify.specs.declared.wanted.Wanted.{Wanted}
 use Rattle.slots.specs.SlotUses.{PortSlots, use_at}
-use Rattle.server_history.specs.KeptLoans.{IsKeptIn, TakesBack}
+use Rattle.server_history.specs.KeptLoans.{IsKeptIn, GivesBackLoans}
 use Rattle.server_history.specs.Resets.{IsReinitialized}
 use Rattle.server_history.specs.ServerState.{ServerState, quarantined_at, last_disk_of, mode_at, probed_mode, plain_mode, remembered_at, slots_at, used_for}
 use Rattle.server_history.specs.StuckServer.{ResetGetsStuck, found_after_stuck_reset}
-use Rattle.block_server.specs.FourPorts.{EachBecomes, BeginsAsHostFound, by_port, port_in, without_loans}
-use Rattle.block_server.specs.FieldView.{with_ports}
+use Rattle.block_server.specs.FourPorts.{EachBecomes, IsAsHostProbed, by_port, port_in, without_loans}
+use Rattle.block_server.specs.ServerFieldsView.{with_ports}
 use Rattle.port_driver.specs.PortAndShared.{NotesProbeResult, no_port}
 use Rattle.port_driver.specs.declared.served_port.ServedPort.{ServedPort}
 use Rattle.port_driver.specs.declared.served_port.Shared.{Shared}
@@ -71,34 +71,34 @@ same_field field old new four_old four each =
 
 module _ (found : ℕ → ProbeResult) (mode : ℕ → QueueMode) (old new : List ServedPort) (four_old : length old ≡ 4) (four : length new ≡ 4)
     (each : (number : ℕ) → number < 4 → NotesProbeResult (found number) (mode number) (port_in old number) (port_in new number)) where
-  pub its_found : (number : ℕ) → number < 4 → probe_result_of (by_port (λ p. p.found) new) number ≡ found number
-  its_found number low = get_or-map (λ (p : ServedPort). p.found) new number no_port ∙ ap (λ (p : ServedPort). p.found) (each number low).only_these_change
+  pub its_found : (number : ℕ) → number < 4 → probe_result_of (by_port (λ p. p.probe_result) new) number ≡ found number
+  its_found number low = get_or-map (λ (p : ServedPort). p.probe_result) new number no_port ∙ ap (λ (p : ServedPort). p.probe_result) (each number low).only_these_change
 
-  pub its_last_disk : (number : ℕ) → remembered_at (by_port (λ p. p.remembered) new) number ≡ last_disk_of (probe_result_of (by_port (λ p. p.found) old) number) (remembered_at (by_port (λ p. p.remembered) old) number)
+  pub its_last_disk : (number : ℕ) → remembered_at (by_port (λ p. p.remembered) new) number ≡ last_disk_of (probe_result_of (by_port (λ p. p.probe_result) old) number) (remembered_at (by_port (λ p. p.remembered) old) number)
   its_last_disk number =
       get_or-map (λ (p : ServedPort). p.remembered) new number no_port
       ∙ ⊎_elim
       (λ (low : number < 4). ap (λ (p : ServedPort). p.remembered) (each number low).only_these_change)
-      (λ (more : 4 ≤ number). ap (λ (p : ServedPort). p.remembered) (beyond new four number more) ∙ sym (ap (λ (p : ServedPort). last_disk_of p.found p.remembered) (beyond old four_old number more)))
+      (λ (more : 4 ≤ number). ap (λ (p : ServedPort). p.remembered) (beyond new four number more) ∙ sym (ap (λ (p : ServedPort). last_disk_of p.probe_result p.remembered) (beyond old four_old number more)))
       (cases_lt number 4)
-      ∙ (λ i. last_disk_of (sym (get_or-map (λ (p : ServedPort). p.found) old number no_port) i) (sym (get_or-map (λ (p : ServedPort). p.remembered) old number no_port) i))
+      ∙ (λ i. last_disk_of (sym (get_or-map (λ (p : ServedPort). p.probe_result) old number no_port) i) (sym (get_or-map (λ (p : ServedPort). p.remembered) old number no_port) i))
 
   pub its_mode : (number : ℕ) → number < 4 → mode_at (by_port (λ p. p.mode) new) number ≡ mode number
   its_mode number low = get_or-map (λ (p : ServedPort). p.mode) new number no_port ∙ ap (λ (p : ServedPort). p.mode) (each number low).only_these_change
 
-  pub its_places : (number : ℕ) → number < 4 → length (slots_at (by_port (λ p. p.slots) new) number).places ≡ 32
-  its_places number low = ap (λ (u : PortSlots). length u.places) (get_or-map (λ (p : ServedPort). p.slots) new number no_port) ∙ (each number low).has_no_used_slot.places
+  pub its_places : (number : ℕ) → number < 4 → length (slots_at (by_port (λ p. p.slots) new) number).slot_uses ≡ 32
+  its_places number low = ap (λ (u : PortSlots). length u.slot_uses) (get_or-map (λ (p : ServedPort). p.slots) new number no_port) ∙ (each number low).has_no_used_slot.has_32_slots
 
-  pub its_usable : (number : ℕ) → number < 4 → (slots_at (by_port (λ p. p.slots) new) number).usable ≡ (mode_at (by_port (λ p. p.mode) new) number).usable
+  pub its_usable : (number : ℕ) → number < 4 → (slots_at (by_port (λ p. p.slots) new) number).usable_count ≡ (mode_at (by_port (λ p. p.mode) new) number).usable_slots
   its_usable number low =
-      ap (λ (u : PortSlots). u.usable) (get_or-map (λ (p : ServedPort). p.slots) new number no_port) ∙ (each number low).has_no_used_slot.usable
-      ∙ sym (ap (λ (m : QueueMode). m.usable) (its_mode number low))
+      ap (λ (u : PortSlots). u.usable_count) (get_or-map (λ (p : ServedPort). p.slots) new number no_port) ∙ (each number low).has_no_used_slot.usable_count_is_of_mode
+      ∙ sym (ap (λ (m : QueueMode). m.usable_slots) (its_mode number low))
 
   pub none_used : (number slot : ℕ) → used_for (by_port (λ p. p.slots) new) number slot ≡ None
   none_used number slot =
       ap (λ (u : PortSlots). use_at u slot) (get_or-map (λ (p : ServedPort). p.slots) new number no_port)
       ∙ ⊎_elim
-      (λ (low : number < 4). (each number low).has_no_used_slot.free slot)
+      (λ (low : number < 4). (each number low).has_no_used_slot.all_slots_are_free slot)
       (λ (more : 4 ≤ number). ap (λ (p : ServedPort). use_at p.slots slot) (beyond new four number more))
       (cases_lt number 4)
 
@@ -111,36 +111,36 @@ module _ (found : ℕ → ProbeResult) (mode : ℕ → QueueMode) (old new : Lis
 -- ---- the adapter didn't end its reset
 
 module _ (s : ServerState) (before device : Device) (shared : Shared) (old new : List ServedPort) (four_old : length old ≡ 4)
-    (stuck : EachBecomes (λ number was now. NotesProbeResult (found_after_stuck_reset was.found) plain_mode was now) old new) where
+    (stuck : EachBecomes (λ number was now. NotesProbeResult (found_after_stuck_reset was.probe_result) plain_mode was now) old new) where
   abbrev found : ℕ → ProbeResult
-  found number = found_after_stuck_reset (port_in old number).found
+  found number = found_after_stuck_reset (port_in old number).probe_result
 
   abbrev mode : ℕ → QueueMode
   mode number = plain_mode
 
   pub gets_stuck : ResetStaysPending before device → ResetGetsStuck (with_ports s before shared old) (with_ports s device shared new)
   gets_stuck stays = record {
-    stays = stays;
-    found = λ number. ⊎_elim
-        (λ (low : number < 4). its_found found mode old new four_old stuck.four_ports stuck.each_becomes number low ∙ sym (ap found_after_stuck_reset (get_or-map (λ (p : ServedPort). p.found) old number no_port)))
+    reset_stays_pending = stays;
+    served_ports_become_dead = λ number. ⊎_elim
+        (λ (low : number < 4). its_found found mode old new four_old stuck.four_ports stuck.each_becomes number low ∙ sym (ap found_after_stuck_reset (get_or-map (λ (p : ServedPort). p.probe_result) old number no_port)))
         (λ (more : 4 ≤ number).
-        get_or-map (λ (p : ServedPort). p.found) new number no_port ∙ ap (λ (p : ServedPort). p.found) (beyond new stuck.four_ports number more)
-        ∙ sym (ap (λ (p : ServedPort). found_after_stuck_reset p.found) (beyond old four_old number more)) ∙ sym (ap found_after_stuck_reset (get_or-map (λ (p : ServedPort). p.found) old number no_port)))
+        get_or-map (λ (p : ServedPort). p.probe_result) new number no_port ∙ ap (λ (p : ServedPort). p.probe_result) (beyond new stuck.four_ports number more)
+        ∙ sym (ap (λ (p : ServedPort). found_after_stuck_reset p.probe_result) (beyond old four_old number more)) ∙ sym (ap found_after_stuck_reset (get_or-map (λ (p : ServedPort). p.probe_result) old number no_port)))
         (cases_lt number 4);
-    remembered = its_last_disk found mode old new four_old stuck.four_ports stuck.each_becomes;
-    four = length-map new (λ (p : ServedPort). p.remembered) ∙ stuck.four_ports;
-    four_modes = length-map new (λ (p : ServedPort). p.mode) ∙ stuck.four_ports;
-    modes = its_mode found mode old new four_old stuck.four_ports stuck.each_becomes;
-    four_slots = length-map new (λ (p : ServedPort). p.slots) ∙ stuck.four_ports;
-    places = its_places found mode old new four_old stuck.four_ports stuck.each_becomes;
-    usable = its_usable found mode old new four_old stuck.four_ports stuck.each_becomes;
-    unused = none_used found mode old new four_old stuck.four_ports stuck.each_becomes;
-    server_is = λ i. record (with_ports s device shared new) { wanted = same_wanted found mode old new four_old stuck.four_ports stuck.each_becomes i; kept = same_kept found mode old new four_old stuck.four_ports stuck.each_becomes i };
+    last_disks_are_remembered = its_last_disk found mode old new four_old stuck.four_ports stuck.each_becomes;
+    remembered_is_of_four_ports = length-map new (λ (p : ServedPort). p.remembered) ∙ stuck.four_ports;
+    modes_are_of_four_ports = length-map new (λ (p : ServedPort). p.mode) ∙ stuck.four_ports;
+    modes_are_plain = its_mode found mode old new four_old stuck.four_ports stuck.each_becomes;
+    slots_are_of_four_ports = length-map new (λ (p : ServedPort). p.slots) ∙ stuck.four_ports;
+    has_32_slots = its_places found mode old new four_old stuck.four_ports stuck.each_becomes;
+    usable_count_is_of_mode = its_usable found mode old new four_old stuck.four_ports stuck.each_becomes;
+    no_slot_is_used = none_used found mode old new four_old stuck.four_ports stuck.each_becomes;
+    server_is = λ i. record (with_ports s device shared new) { wanted = same_wanted found mode old new four_old stuck.four_ports stuck.each_becomes i; kept_loans = same_kept found mode old new four_old stuck.four_ports stuck.each_becomes i };
   }
 
 -- ---- the adapter was taken over
 
-module _ (host : Host) (four_host : length host.ports ≡ 4) (old new : List ServedPort) (four_old : length old ≡ 4) (taken : EachBecomes (BeginsAsHostFound host) old new) where
+module _ (host : Host) (four_host : length host.ports ≡ 4) (old new : List ServedPort) (four_old : length old ≡ 4) (taken : EachBecomes (IsAsHostProbed host) old new) where
   abbrev pub found_by : ℕ → ProbeResult
   found_by number = probe_result_of host.ports number
 
@@ -148,21 +148,21 @@ module _ (host : Host) (four_host : length host.ports ≡ 4) (old new : List Ser
   mode_by number = (port_in new number).mode
 
   pub each : (number : ℕ) → number < 4 → NotesProbeResult (found_by number) (mode_by number) (port_in old number) (port_in new number)
-  each number low = (taken.each_becomes number low).anew
+  each number low = (taken.each_becomes number low).notes_host_result
 
-  pub found_host : by_port (λ p. p.found) new ≡ host.ports
+  pub found_host : by_port (λ p. p.probe_result) new ≡ host.ports
   found_host =
-      let long = length-map new (λ (p : ServedPort). p.found) in
+      let long = length-map new (λ (p : ServedPort). p.probe_result) in
       let four = taken.four_ports in
-      ext_get_or Unserved (by_port (λ p. p.found) new) host.ports (long ∙ taken.four_ports ∙ sym four_host)
+      ext_get_or Unserved (by_port (λ p. p.probe_result) new) host.ports (long ∙ taken.four_ports ∙ sym four_host)
       (λ number low. its_found found_by mode_by old new four_old taken.four_ports each number (omega (arith, low, long, four)))
 
-  pub modes_follow : (cap : ℕ) → host.slots ≡ cap / 256 % 32 + 1 → host.queued ≡ bit cap 30 → (number : ℕ) → number < 4 → mode_at (by_port (λ p. p.mode) new) number ≡ probed_mode cap (probe_result_of host.ports number)
-  modes_follow cap slots queued number low = its_mode found_by mode_by old new four_old taken.four_ports each number low ∙ (taken.each_becomes number low).mode cap slots queued
+  pub modes_follow : (cap : ℕ) → host.slot_count ≡ cap / 256 % 32 + 1 → host.supports_ncq ≡ bit cap 30 → (number : ℕ) → number < 4 → mode_at (by_port (λ p. p.mode) new) number ≡ probed_mode cap (probe_result_of host.ports number)
+  modes_follow cap slots queued number low = its_mode found_by mode_by old new four_old taken.four_ports each number low ∙ (taken.each_becomes number low).mode_is_probed cap slots queued
 
 -- again, after a reset
 module _ (s : ServerState) (before idle device : Device) (first later : Shared) (old new : List ServedPort) (four_old : length old ≡ 4) (host : Host) (four_host : length host.ports ≡ 4)
-    (taken : EachBecomes (BeginsAsHostFound host) (map without_loans old) new) where
+    (taken : EachBecomes (IsAsHostProbed host) (map without_loans old) new) where
   abbrev mid : List ServedPort
   mid = map without_loans old
 
@@ -176,8 +176,8 @@ module _ (s : ServerState) (before idle device : Device) (first later : Shared) 
   wanted_still : by_port (λ p. p.wanted) mid ≡ by_port (λ p. p.wanted) old
   wanted_still = same_field (λ (p : ServedPort). p.wanted) old mid four_old four_mid (λ number low. ap (λ (p : ServedPort). p.wanted) (mid_is number))
 
-  found_mid : (number : ℕ) → probe_result_of (by_port (λ p. p.found) mid) number ≡ probe_result_of (by_port (λ p. p.found) old) number
-  found_mid number = get_or-map (λ (p : ServedPort). p.found) mid number no_port ∙ ap (λ (p : ServedPort). p.found) (mid_is number) ∙ sym (get_or-map (λ (p : ServedPort). p.found) old number no_port)
+  found_mid : (number : ℕ) → probe_result_of (by_port (λ p. p.probe_result) mid) number ≡ probe_result_of (by_port (λ p. p.probe_result) old) number
+  found_mid number = get_or-map (λ (p : ServedPort). p.probe_result) mid number no_port ∙ ap (λ (p : ServedPort). p.probe_result) (mid_is number) ∙ sym (get_or-map (λ (p : ServedPort). p.probe_result) old number no_port)
 
   remembered_mid : (number : ℕ) → remembered_at (by_port (λ p. p.remembered) mid) number ≡ remembered_at (by_port (λ p. p.remembered) old) number
   remembered_mid number = get_or-map (λ (p : ServedPort). p.remembered) mid number no_port ∙ ap (λ (p : ServedPort). p.remembered) (mid_is number) ∙ sym (get_or-map (λ (p : ServedPort). p.remembered) old number no_port)
@@ -191,26 +191,26 @@ module _ (s : ServerState) (before idle device : Device) (first later : Shared) 
   e : (number : ℕ) → number < 4 → NotesProbeResult (f number) (m number) (port_in mid number) (port_in new number)
   e = each host four_host mid new four_mid taken
 
-  pub takes_again : Resets before idle → TakesBack first.table.value later.table.value (IsKeptIn (by_port (λ p. p.kept) old)) → TakesOver (by_port (λ p. p.wanted) mid) host idle device → later.book ≡ first.book
+  pub takes_again : Resets before idle → GivesBackLoans first.table.value later.table.value (IsKeptIn (by_port (λ p. p.kept) old)) → TakesOver (by_port (λ p. p.wanted) mid) host idle device → later.book ≡ first.book
       → IsReinitialized (with_ports s before first old) (with_ports s device later new)
   takes_again resets back takes book = record {
     idle_device = idle;
     resets = resets;
     loans_are_taken_back = back;
-    unkept = λ number.
+    no_loan_is_kept = λ number.
         ap (λ (lists : List (List Lending)). quarantined_at lists number) (same_kept f m mid new four_mid taken.four_ports e)
         ∙ get_or-map (λ (p : ServedPort). p.kept) mid number no_port ∙ ap (λ (p : ServedPort). p.kept) (mid_is number);
-    four_kept = length-map new (λ (p : ServedPort). p.kept) ∙ taken.four_ports;
+    kept_loans_are_of_four_ports = length-map new (λ (p : ServedPort). p.kept) ∙ taken.four_ports;
     host = host;
-    takes = subst (λ (wanted : List Wanted). TakesOver wanted host idle device) wanted_still takes;
-    four = four_host;
-    remembered = λ number. its_last_disk f m mid new four_mid taken.four_ports e number ∙ (λ i. last_disk_of (found_mid number i) (remembered_mid number i));
-    four_remembered = length-map new (λ (p : ServedPort). p.remembered) ∙ taken.four_ports;
-    four_modes = length-map new (λ (p : ServedPort). p.mode) ∙ taken.four_ports;
-    modes = modes_follow host four_host mid new four_mid taken device.cap takes.slots takes.queued;
-    four_slots = length-map new (λ (p : ServedPort). p.slots) ∙ taken.four_ports;
-    places = its_places f m mid new four_mid taken.four_ports e;
-    usable = its_usable f m mid new four_mid taken.four_ports e;
-    unused = none_used f m mid new four_mid taken.four_ports e;
-    server_is = λ i. record (with_ports s device later new) { wanted = (same_wanted f m mid new four_mid taken.four_ports e ∙ wanted_still) i; ports = found_host host four_host mid new four_mid taken i; book = book i };
+    takes_over = subst (λ (wanted : List Wanted). TakesOver wanted host idle device) wanted_still takes;
+    host_has_four_ports = four_host;
+    last_disks_are_remembered = λ number. its_last_disk f m mid new four_mid taken.four_ports e number ∙ (λ i. last_disk_of (found_mid number i) (remembered_mid number i));
+    remembered_is_of_four_ports = length-map new (λ (p : ServedPort). p.remembered) ∙ taken.four_ports;
+    modes_are_of_four_ports = length-map new (λ (p : ServedPort). p.mode) ∙ taken.four_ports;
+    modes_are_probed = modes_follow host four_host mid new four_mid taken device.cap takes.slot_count_is_of_cap takes.ncq_is_of_cap;
+    slots_are_of_four_ports = length-map new (λ (p : ServedPort). p.slots) ∙ taken.four_ports;
+    has_32_slots = its_places f m mid new four_mid taken.four_ports e;
+    usable_count_is_of_mode = its_usable f m mid new four_mid taken.four_ports e;
+    no_slot_is_used = none_used f m mid new four_mid taken.four_ports e;
+    server_is = λ i. record (with_ports s device later new) { wanted = (same_wanted f m mid new four_mid taken.four_ports e ∙ wanted_still) i; probe_results = found_host host four_host mid new four_mid taken i; book = book i };
   }

@@ -133,13 +133,13 @@ pub none_of_them : (mode : QueueMode) (port : Port) (book : List Unanswered) →
 none_of_them mode port book are none = empty (due_of mode port book) (λ x has. let is = are x has in none x is.0 is.1)
 
 -- the ids of a book are below the next one
-pub all_earlier : (book : List BookEntry) (last : ℕ) (r : Unanswered) → r.id.0 ≡ last + 1 → All (λ e. e.entry.id.0 ≤ last) book → EachOf (λ x. nat_lt r.id.0 x.id.0 ≡ false) (unanswered_of book)
+pub all_earlier : (book : List BookEntry) (last : ℕ) (r : Unanswered) → r.id.0 ≡ last + 1 → All (λ e. e.request.id.0 ≤ last) book → EachOf (λ x. nat_lt r.id.0 x.id.0 ≡ false) (unanswered_of book)
 all_earlier [] last r is all = tt
 all_earlier (e ∷ book) last r is all = (
-  le-ltb r.id.0 e.entry.id.0 (let first = all zero e (omega arith) in omega (arith, is, first)),
+  le-ltb r.id.0 e.request.id.0 (let first = all zero e (omega arith) in omega (arith, is, first)),
   all_earlier book last r is (λ k d low. all (suc k) d (omega (arith, low))),
 )
 
 -- what is asked, with one more at the end
-pub asks_more : (book : List BookEntry) (e : BookEntry) → unanswered_of (book ++ e ∷ []) ≡ unanswered_of book ++ as_unanswered e.entry ∷ []
-asks_more book e = map-append (λ (x : BookEntry). as_unanswered x.entry) book (e ∷ [])
+pub asks_more : (book : List BookEntry) (e : BookEntry) → unanswered_of (book ++ e ∷ []) ≡ unanswered_of book ++ as_unanswered e.request ∷ []
+asks_more book e = map-append (λ (x : BookEntry). as_unanswered x.request) book (e ∷ [])

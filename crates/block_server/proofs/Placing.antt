@@ -11,7 +11,7 @@ use Rattle.host_boot.specs.declared.ProbeResult.TheVariants.{Unserved}
 use Rattle.server_history.specs.ServerState.{ServerState}
 use Rattle.port_driver.specs.PortAndShared.{HasPortAndShared, HasPortAt, no_port, with_served_port}
 use Rattle.block_server.specs.FourPorts.{by_port, port_in}
-use Rattle.block_server.specs.FieldView.{with_ports}
+use Rattle.block_server.specs.ServerFieldsView.{with_ports}
 use Rattle.port_driver.specs.declared.served_port.ServedPort.{ServedPort}
 use Rattle.port_driver.specs.declared.served_port.Shared.{Shared}
 
@@ -24,11 +24,11 @@ module _ (s : ServerState) (device : Device) (shared : Shared) (ports : List Ser
   pub has_port : HasPortAt (with_ports s device shared ports) number (port_in ports number)
   has_port = record {
     wanted_is = get_or-map (λ (p : ServedPort). p.wanted) ports number no_port;
-    found_is = get_or-map (λ (p : ServedPort). p.found) ports number no_port;
+    probe_result_is = get_or-map (λ (p : ServedPort). p.probe_result) ports number no_port;
     remembered_is = get_or-map (λ (p : ServedPort). p.remembered) ports number no_port;
     mode_is = get_or-map (λ (p : ServedPort). p.mode) ports number no_port;
     slots_are = get_or-map (λ (p : ServedPort). p.slots) ports number no_port;
-    kept_is = get_or-map (λ (p : ServedPort). p.kept) ports number no_port;
+    quarantine_is = get_or-map (λ (p : ServedPort). p.kept) ports number no_port;
   }
 
   pub has_parts : (default : ServedPort) → number < length ports → HasPortAndShared (with_ports s device shared ports) device shared (port_at number) (get_or ports number default)
@@ -42,18 +42,18 @@ module _ (s : ServerState) (device : Device) (shared : Shared) (ports : List Ser
     device = d;
     table = other.table.value;
     wanted = sym (map-set (λ (q : ServedPort). q.wanted) ports number p) i;
-    ports = sym (map-set (λ (q : ServedPort). q.found) ports number p) i;
+    probe_results = sym (map-set (λ (q : ServedPort). q.probe_result) ports number p) i;
     remembered = sym (map-set (λ (q : ServedPort). q.remembered) ports number p) i;
     modes = sym (map-set (λ (q : ServedPort). q.mode) ports number p) i;
     slots = sym (map-set (λ (q : ServedPort). q.slots) ports number p) i;
-    kept = sym (map-set (λ (q : ServedPort). q.kept) ports number p) i;
+    kept_loans = sym (map-set (λ (q : ServedPort). q.kept) ports number p) i;
     book = other.book;
   }
 
 -- what the others were found to be stays
-pub other_found : (ports : List ServedPort) (number : ℕ) (p : ServedPort) (q : ℕ) → q ≢ number → probe_result_of (by_port (λ p. p.found) (set ports number p)) q ≡ probe_result_of (by_port (λ p. p.found) ports) q
+pub other_found : (ports : List ServedPort) (number : ℕ) (p : ServedPort) (q : ℕ) → q ≢ number → probe_result_of (by_port (λ p. p.probe_result) (set ports number p)) q ≡ probe_result_of (by_port (λ p. p.probe_result) ports) q
 other_found ports number p q other =
-    ap (λ (list : List ProbeResult). probe_result_of list q) (map-set (λ (x : ServedPort). x.found) ports number p) ∙ get_or-set_other (by_port (λ p. p.found) ports) number q p.found Unserved other
+    ap (λ (list : List ProbeResult). probe_result_of list q) (map-set (λ (x : ServedPort). x.probe_result) ports number p) ∙ get_or-set_other (by_port (λ p. p.probe_result) ports) number q p.probe_result Unserved other
 
 -- the port, wherever its place is told
 pub at_place : (ports : List ServedPort) (port place : ℕ) → place ≡ port → (default : ServedPort) → place < length ports → port_in ports port ≡ get_or ports place default
@@ -70,10 +70,10 @@ slots_placed s ports place default device shared p is = λ i. record s {
   device = device;
   table = shared.table.value;
   wanted = map-set_same (λ (q : ServedPort). q.wanted) ports place p default (ap (λ (q : ServedPort). q.wanted) is) i;
-  ports = map-set_same (λ (q : ServedPort). q.found) ports place p default (ap (λ (q : ServedPort). q.found) is) i;
+  probe_results = map-set_same (λ (q : ServedPort). q.probe_result) ports place p default (ap (λ (q : ServedPort). q.probe_result) is) i;
   remembered = map-set_same (λ (q : ServedPort). q.remembered) ports place p default (ap (λ (q : ServedPort). q.remembered) is) i;
   modes = map-set_same (λ (q : ServedPort). q.mode) ports place p default (ap (λ (q : ServedPort). q.mode) is) i;
   slots = map-set (λ (q : ServedPort). q.slots) ports place p i;
-  kept = map-set_same (λ (q : ServedPort). q.kept) ports place p default (ap (λ (q : ServedPort). q.kept) is) i;
+  kept_loans = map-set_same (λ (q : ServedPort). q.kept) ports place p default (ap (λ (q : ServedPort). q.kept) is) i;
   book = shared.book;
 }

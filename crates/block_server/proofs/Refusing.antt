@@ -63,8 +63,8 @@ module _ (s : ServerState) (r : Request) (none : BreaksNone s.grants (owner_of s
       never_outside : RefusalApplies (admission_context s) r OutsideDisk → ⊥
       never_outside applies = inside (applies.0, subst (λ (x : GrantRow). (ports_of s).sectors x.port < r.first.0 + r.count) (the_same applies.1.0 applies.1.1) applies.1.2)
 
-      pub trim_unsupported : r.op ≡ Trim → (ports_of s).trims row.port ≡ false → IsFirstRefusal (admission_context s) r TrimUnsupported
-      trim_unsupported trims none_trims = ruling.trim_unsupported_first (admission_context s) r (trims, (row, named, λ (does : IsTrue ((ports_of s).trims row.port)). absurd (true≢false (sym does ∙ none_trims)))) (record {
+      pub trim_unsupported : r.op ≡ Trim → (ports_of s).zeroes_after_trim row.port ≡ false → IsFirstRefusal (admission_context s) r TrimUnsupported
+      trim_unsupported trims none_trims = ruling.trim_unsupported_first (admission_context s) r (trims, (row, named, λ (does : IsTrue ((ports_of s).zeroes_after_trim row.port)). absurd (true≢false (sym does ∙ none_trims)))) (record {
         rules = none;
         ready = λ _. always_ready;
         disk = λ _. never_outside;
@@ -73,9 +73,9 @@ module _ (s : ServerState) (r : Request) (none : BreaksNone s.grants (owner_of s
         ids = λ h. below 13 11 (omega arith) h;
       })
 
-      module _ (trims : r.op ≡ Trim → (ports_of s).trims row.port ≡ true) where
+      module _ (trims : r.op ≡ Trim → (ports_of s).zeroes_after_trim row.port ≡ true) where
         never_trim : RefusalApplies (admission_context s) r TrimUnsupported → ⊥
-        never_trim applies = applies.1.2 (subst (λ (x : GrantRow). IsTrue ((ports_of s).trims x.port)) (sym (the_same applies.1.0 applies.1.1)) (trims applies.0))
+        never_trim applies = applies.1.2 (subst (λ (x : GrantRow). IsTrue ((ports_of s).zeroes_after_trim x.port)) (sym (the_same applies.1.0 applies.1.1)) (trims applies.0))
 
         pub client_full : 16 ≤ entry_count_of_client s.book r.client.0 → IsFirstRefusal (admission_context s) r ClientFull
         client_full full = ruling.client_full_first (admission_context s) r full (record {

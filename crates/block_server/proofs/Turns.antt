@@ -14,7 +14,7 @@ use Rattle.port_driver.specs.PortAndShared.{IsSettledWith, TakesTurn, TurnBy, wi
 use Rattle.port_driver.specs.declared.served_port.ServedPort.{ServedPort}
 use Rattle.port_driver.specs.declared.served_port.Shared.{Shared}
 use Rattle.block_server.specs.FourPorts.{by_port}
-use Rattle.block_server.specs.FieldView.{with_ports}
+use Rattle.block_server.specs.ServerFieldsView.{with_ports}
 use Rattle.block_server.proofs.Placing as placing
 
 module _ (Such : Port → List Reply → ServerState → ServerState → Type 0) (Other : Port → ServerState → ServerState → Type 0) (found : List ProbeResult) (first : ServerState) where
@@ -22,12 +22,12 @@ module _ (Such : Port → List Reply → ServerState → ServerState → Type 0)
   -- the turns of those all have had theirs.
   pub record TurnsSoFar (ports : List ServedPort) (told : List Reply) (now : ServerState) (number : ℕ) : Type 0 where
     pub four : length ports ≡ 4
-    pub left : (q : ℕ) → number ≤ q → probe_result_of (by_port (λ p. p.found) ports) q ≡ probe_result_of found q
+    pub left : (q : ℕ) → number ≤ q → probe_result_of (by_port (λ p. p.probe_result) ports) q ≡ probe_result_of found q
     pub settled_invariant : SettledInvariant now
     pub rest : (later : List Reply) (last : ServerState) → EachPortTakesTurn Such Other number (drop number found) later now last → EachPortTakesTurn Such Other 0 found (told ++ later) first last
 
   -- at first none has had its turn
-  pub none_yet : (ports : List ServedPort) (now : ServerState) → length ports ≡ 4 → by_port (λ p. p.found) ports ≡ found → SettledInvariant now → now ≡ first → TurnsSoFar ports [] now 0
+  pub none_yet : (ports : List ServedPort) (now : ServerState) → length ports ≡ 4 → by_port (λ p. p.probe_result) ports ≡ found → SettledInvariant now → now ≡ first → TurnsSoFar ports [] now 0
   none_yet ports now four is settled same = record {
     four = four;
     left = λ q more. ap (λ (list : List ProbeResult). probe_result_of list q) is;
@@ -50,17 +50,17 @@ module _ (Such : Port → List Reply → ServerState → ServerState → Type 0)
   module _ (s : ServerState) (device : Device) (shared : Shared) (ports : List ServedPort) (told : List Reply) (number : ℕ) (so_far : TurnsSoFar ports told (with_ports s device shared ports) number) where
     -- the port of this number has its part
     pub its_part : number < 4 → (default : ServedPort) → IsSettledWith (with_ports s device shared ports) device shared (port_at number) (get_or ports number default)
-    its_part low default = record { settled_invariant = so_far.settled_invariant; parts = placing.has_parts s device shared ports number default (let four = so_far.four in omega (arith, four, low)) }
+    its_part low default = record { settled_invariant = so_far.settled_invariant; has_port_and_shared = placing.has_parts s device shared ports number default (let four = so_far.four in omega (arith, four, low)) }
 
     -- and now it has had its turn
     pub one_more : (low : number < 4) → length found ≡ 4 → (default : ServedPort) (d : Device) (other : Shared) (p : ServedPort) (after : List Reply)
-        → TakesTurn (TurnBy Such Other (get_or ports number default).found (port_at number)) told after (with_ports s device shared ports) (with_served_port (with_ports s device shared ports) d other (port_at number) p)
+        → TakesTurn (TurnBy Such Other (get_or ports number default).probe_result (port_at number)) told after (with_ports s device shared ports) (with_served_port (with_ports s device shared ports) d other (port_at number) p)
         → TurnsSoFar (set ports number p) after (with_ports s d other (set ports number p)) (number + 1)
     one_more low many default d other p after takes =
         let mid : ServerState = with_ports s d other (set ports number p) in
-        let there : (get_or ports number default).found ≡ probe_result_of found number = sym (its_part low default).parts.port_is.found_is ∙ so_far.left number (omega arith) in
+        let there : (get_or ports number default).probe_result ≡ probe_result_of found number = sym (its_part low default).has_port_and_shared.port_is.probe_result_is ∙ so_far.left number (omega arith) in
         let turn = subst (λ (one : ProbeResult). TakesTurn (TurnBy Such Other one (port_at number)) told after (with_ports s device shared ports) mid) there
-        (subst (TakesTurn (TurnBy Such Other (get_or ports number default).found (port_at number)) told after (with_ports s device shared ports)) (placing.placed s device shared ports number d other p) takes) in
+        (subst (TakesTurn (TurnBy Such Other (get_or ports number default).probe_result (port_at number)) told after (with_ports s device shared ports)) (placing.placed s device shared ports number d other p) takes) in
         record {
           four = length-set ports number p ∙ so_far.four;
           left = λ q more. placing.other_found ports number p q (λ same. omega (arith, more, same)) ∙ so_far.left q (omega (arith, more));

@@ -8,9 +8,9 @@ use Rattle.ata_types.specs.declared.call.CallResult.{CallResult}
 use Rattle.ata_types.specs.declared.call.CallResult.TheVariants as said
 use Rattle.ata_types.specs.declared.request.Reply.{Reply}
 use Rattle.adapter.specs.declared.access.DeviceStep.{DeviceStep}
-use Rattle.block_machine.specs.Events.{AbstractCall, Submit as AskSubmit, StoreAt, LoadAt, Service as AskService, Tick as AskTick, Reset as AskReset, RevokeOf, State as AskState, Device as AskDevice, Submitted, Loaded, Served, WasReset, WasRevoked, Shown, Stepped}
+use Rattle.block_machine.specs.Events.{AbstractCall, Submit as AskSubmit, StoreAt, LoadAt, Service as AskService, Tick as AskTick, Reset as AskReset, RevokeOf, State as AskState, StepDevice as AskDevice, Submitted, Loaded, Replied, WasReset, WasRevoked, PortStateShown, Stepped}
 use Rattle.block_machine.specs.Events as machine
-use Rattle.server_history.specs.Histories.{store_said}
+use Rattle.server_history.specs.Histories.{store_result}
 
 -- the call of a list, as the machine is asked; a load is of `MOST_CALL_BYTES` at most
 abbrev pub abstract_call_of : Call DeviceStep → AbstractCall DeviceStep
@@ -25,15 +25,15 @@ abstract_call_of (State port) = AskState port
 abstract_call_of (Step step) = AskDevice step
 
 -- what it said
-abbrev pub machine_result_of : CallResult (ArrayVec Reply) → machine.CallResult
+abbrev pub machine_result_of : CallResult (ArrayVec Reply) → machine.AbstractCallResult
 machine_result_of (said.Submitted result) = Submitted result
-machine_result_of (said.Stored result) = store_said result
+machine_result_of (said.Stored result) = store_result result
 machine_result_of (said.Loaded (Ok bytes)) = Loaded (Ok bytes.items)
 machine_result_of (said.Loaded (Err fault)) = Loaded (Err fault)
-machine_result_of (said.Served replies) = Served replies.items
+machine_result_of (said.Replied replies) = Replied replies.items
 machine_result_of (said.WasReset (Ok replies)) = WasReset (Some replies.items)
 machine_result_of (said.WasReset (Err why)) = WasReset None
 machine_result_of (said.WasRevoked (Ok replies)) = WasRevoked (Some replies.items)
 machine_result_of (said.WasRevoked (Err none)) = WasRevoked None
-machine_result_of (said.State state) = Shown state
+machine_result_of (said.State state) = PortStateShown state
 machine_result_of (said.Stepped done) = Stepped done

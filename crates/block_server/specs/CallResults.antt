@@ -11,7 +11,7 @@ abbrev pub with_replies : CallResult (Unit {0}) → List Reply → CallResult (A
 with_replies (said.Submitted result) replies = said.Submitted result
 with_replies (said.Stored result) replies = said.Stored result
 with_replies (said.Loaded result) replies = said.Loaded result
-with_replies (said.Served done) replies = said.Served (record { items = replies })
+with_replies (said.Replied done) replies = said.Replied (record { items = replies })
 with_replies (said.WasReset (Ok done)) replies = said.WasReset (Ok (record { items = replies }))
 with_replies (said.WasReset (Err why)) replies = said.WasReset (Err why)
 with_replies (said.WasRevoked (Ok done)) replies = said.WasRevoked (Ok (record { items = replies }))

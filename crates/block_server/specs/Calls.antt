@@ -12,7 +12,7 @@ use Rattle.ata_types.specs.declared.request.Reply.{Reply}
 use Rattle.ata_types.specs.declared.request.Request.{Request}
 use Rattle.ata_types.specs.declared.request.RequestId.{RequestId}
 use Rattle.adapter.specs.Access.{Loads, Stores}
-use Rattle.adapter.specs.ToldSteps.{DoesOrFailsStep}
+use Rattle.adapter.specs.AskedSteps.{DoesOrFailsStep}
 use Rattle.adapter.specs.Device.{Device}
 use Rattle.adapter.specs.Steps.{Steps}
 use Rattle.adapter.specs.declared.access.DeviceStep.{DeviceStep}
@@ -22,15 +22,15 @@ use Rattle.block_server.specs.ServerView.{ServerView, server_of}
 use Rattle.dma_frames.specs.FrameTables.{owner_of, lent_to}
 use Rattle.host_boot.specs.declared.ProbeResult.{ProbeResult}
 use Rattle.block_machine.specs.DueRequests.{due_of}
-use Rattle.request_queue.specs.BookEntries.{IsAnyOverdue, unanswered_of}
-use Rattle.server_history.specs.IssuingAndAnswering.{Accepts, with_accepted}
-use Rattle.server_history.specs.Turns.{ServicePorts, Ticks, a_tick_older}
-use Rattle.server_history.specs.Resets.{ResolvePorts}
+use Rattle.request_queue.specs.BookEntries.{HasAnyOverdue, unanswered_of}
+use Rattle.server_history.specs.IssuingAndAnswering.{AcceptsAndIssues, with_accepted}
+use Rattle.server_history.specs.Turns.{ServicesEachPort, Ticks, a_tick_older}
+use Rattle.server_history.specs.Resets.{ResolvesEachPort}
 use Rattle.server_history.specs.ServerState.{ServerState, mode_in, admission_context}
 
 -- only the adapter is another
-abbrev pub SameServer : {A : Type 0} → ServerView A → ServerView A → Type 0
-SameServer old new = new ≡ record old { adapter = new.adapter }
+abbrev pub SameButAdapter : {A : Type 0} → ServerView A → ServerView A → Type 0
+SameButAdapter old new = new ≡ record old { adapter = new.adapter }
 
 -- the request is of a row for this port
 abbrev pub IsRequestForPort : List GrantRow → Request → Port → Type 0
@@ -42,9 +42,9 @@ pub record AcceptsRequest {A : Type 0} (device : A → Device) (old new : Server
     (id : RequestId) : Type 0 where
   pub acceptable : IsAcceptable (admission_context (server_of device old)) r
   pub port : Port
-  pub accepts : Accepts port r id (server_of device old) (server_of device new)
-  pub stuck : new.stuck ≡ old.stuck
-  pub quiet_if_none_due : due_of (mode_in (server_of device old) port) port
+  pub accepts : AcceptsAndIssues port r id (server_of device old) (server_of device new)
+  pub stuck_is_unchanged : new.stuck ≡ old.stuck
+  pub no_access_if_none_due : due_of (mode_in (server_of device old) port) port
       (unanswered_of (with_accepted port r id accepts.table (server_of device old)).book) ≡ [] → new.adapter
       ≡ old.adapter
 
@@ -58,12 +58,13 @@ Submits device old new r (Err refusal) = IsFirstRefusal (admission_context (serv
 -- Each ready port was served, and each other one that is served was probed, in rising number. Since a reset that got
 -- stuck, all requests were told what their ports are: dead.
 abbrev pub ServicesBy : Bool → List ProbeResult → List Reply → ServerState → ServerState → Type 0
-ServicesBy false ports replies old new = ServicePorts 0 ports replies old new
-ServicesBy true ports replies old new = ResolvePorts 0 ports replies old new
+ServicesBy false ports replies old new = ServicesEachPort 0 ports replies old new
+ServicesBy true ports replies old new = ResolvesEachPort 0 ports replies old new
 
 -- So a service does; it doesn't end a reset.
 abbrev pub Services : {A : Type 0} → (A → Device) → ServerView A → ServerView A → List Reply → Type 0
-Services device old new replies = ServicesBy old.stuck old.ports replies (server_of device old) (server_of device new)
+Services device old new replies = ServicesBy old.stuck old.probe_results replies (server_of device old)
+    (server_of device new)
     × (new.stuck ≡ old.stuck)
 
 -- Requests got older, and ready ports had their turns. Since a reset that got stuck there is none that is ready:
@@ -76,20 +77,21 @@ TicksBy true replies old new = (replies ≡ []) × (new ≡ old)
 -- stuck, no access was made.
 pub record TicksServer {A : Type 0} (device : A → Device) (old new : ServerView A) (replies : List Reply) : Type 0 where
   pub ticks : TicksBy old.stuck replies (server_of device old) (server_of device new)
-  pub stuck : new.stuck ≡ old.stuck
-  pub rests : (IsAnyOverdue (a_tick_older (server_of device old)).book → ⊥) → new.adapter ≡ old.adapter
-  pub idle : old.stuck ≡ true → new.adapter ≡ old.adapter
+  pub stuck_is_unchanged : new.stuck ≡ old.stuck
+  pub no_access_if_none_overdue : (HasAnyOverdue (a_tick_older (server_of device old)).book → ⊥)
+      → new.adapter ≡ old.adapter
+  pub no_access_if_stuck : old.stuck ≡ true → new.adapter ≡ old.adapter
 
 -- A refused load is told the first cause that applies, and changes nothing, the buffer neither. Another brings the
 -- frame's bytes and changes nothing of the server but what the device does meanwhile.
 abbrev pub LoadsFrame : {A : Type 0} → (A → Device) → ServerView A → ServerView A → ClientId → Frame → ℕ → List ℕ
     → List ℕ → Result (Unit {0}) MemFault → Type 0
-LoadsFrame device old new client frame offset before bytes (Ok done) =
-    MayAccessFrame (owner_of old.table) (lent_to old.table) client frame offset (length before)
-    × Loads (FRAME_BYTES * frame.0 + offset) bytes (device old.adapter) (device new.adapter) × SameServer old new
-LoadsFrame device old new client frame offset before bytes (Err fault) =
-    IsFirstMemFault (owner_of old.table) (lent_to old.table) client frame offset (length before) fault
-    × (new ≡ old) × (bytes ≡ before)
+LoadsFrame device old new client frame offset buffer_before bytes (Ok done) =
+    MayAccessFrame (owner_of old.table) (lent_to old.table) client frame offset (length buffer_before)
+    × Loads (FRAME_BYTES * frame.0 + offset) bytes (device old.adapter) (device new.adapter) × SameButAdapter old new
+LoadsFrame device old new client frame offset buffer_before bytes (Err fault) =
+    IsFirstMemFault (owner_of old.table) (lent_to old.table) client frame offset (length buffer_before) fault
+    × (new ≡ old) × (bytes ≡ buffer_before)
 
 -- A refused store is told the first cause that applies, and changes nothing: neither server, memory nor adapter, of
 -- which no access is made. Another changes of the server nothing but the adapter: the device goes on first; then these
@@ -98,7 +100,7 @@ abbrev pub StoresFrame : {A : Type 0} → (A → Device) → ServerView A → Se
     → Result (Unit {0}) MemFault → Type 0
 StoresFrame device old new client frame offset bytes (Ok done) =
     MayAccessFrame (owner_of old.table) (lent_to old.table) client frame offset (length bytes)
-    × Stores (FRAME_BYTES * frame.0 + offset) bytes (device old.adapter) (device new.adapter) × SameServer old new
+    × Stores (FRAME_BYTES * frame.0 + offset) bytes (device old.adapter) (device new.adapter) × SameButAdapter old new
 StoresFrame device old new client frame offset bytes (Err fault) =
     IsFirstMemFault (owner_of old.table) (lent_to old.table) client frame offset (length bytes) fault × (new ≡ old)
 
@@ -107,5 +109,5 @@ pub record StepsDevice {A : Type 0} (device : A → Device) (old new : ServerVie
     (done : Bool) : Type 0 where
   pub step_is_done : done ≡ true → DoesOrFailsStep step (device old.adapter) (device new.adapter)
   pub steps : Steps (device old.adapter) (device new.adapter)
-  pub refused : done ≡ false → device new.adapter ≡ device old.adapter
-  pub server_is_same : SameServer old new
+  pub undone_changes_nothing : done ≡ false → device new.adapter ≡ device old.adapter
+  pub only_adapter_changes : SameButAdapter old new

@@ -11,9 +11,9 @@ use Rattle.adapter.specs.Device.{Device, Disk}
 use Rattle.adapter.specs.Rules.{IsOn}
 use Rattle.adapter.specs.declared.access.DeviceStep.{DeviceStep}
 use Rattle.adapter.specs.declared.tape.Entry.{Entry}
-use Rattle.refinement.specs.Relation.{IsDiskOf, SameMemory, SameSectors}
+use Rattle.refinement.specs.Relation.{IsDiskOf, SameClientFrames, SameSectors}
 use Rattle.refinement.specs.Tape.{PutsInDisks, TellsDeviceSteps}
-use Rattle.block_machine.specs.Events.{AbstractCall, CallResult, EveryReadHolds, EmptyUnlessReady, IsRun, steps_of}
+use Rattle.block_machine.specs.Events.{AbstractCall, AbstractCallResult, EveryReadHoldsExpected, EmptyUnlessReady, IsRun, steps_of}
 use Rattle.block_machine.specs.Histories.{JointEvent, JointState, events_of, joint_state_after}
 use Rattle.durability.specs.Durable.{EveryPlugFindsFlushed}
 use Rattle.driver_history.specs.PortInvariants.{ShowsDiskInfo}
@@ -22,12 +22,12 @@ use Rattle.host_boot.specs.TakeOver.{IsServed, wanted_of}
 use Rattle.identify.specs.Wanted.{serial_of}
 use Rattle.identify.specs.declared.DiskInfo.{DiskInfo}
 use Rattle.identify.specs.declared.wanted.Wanted.{Wanted}
-use Rattle.port_boot.specs.States.{BacksState, HasFitDisk}
+use Rattle.port_boot.specs.States.{BacksState, HasFitDiskAndInterrupts}
 
 -- Each of these calls, the newest first, which came after that history, is of this kind.
-abbrev pub AllAdded : {X : Type 0} → (List X → X → Type 0) → List X → List X → Type 0
-AllAdded Is past [] = Unit {0}
-AllAdded Is past (h ∷ added) = AllAdded Is past added × Is (added ++ past) h
+abbrev pub HoldsOfEachAdded : {X : Type 0} → (List X → X → Type 0) → List X → List X → Type 0
+HoldsOfEachAdded Is past [] = Unit {0}
+HoldsOfEachAdded Is past (h ∷ added) = HoldsOfEachAdded Is past added × Is (added ++ past) h
 
 -- What can be seen of a server: the device behind its adapter, the disks that are wanted in its ports, its grants, by
 -- frame the owner and the request that it is lent to, and the states of its ports.
@@ -57,7 +57,7 @@ pub record IsSeenAt (v : ObservedState) (i : JointState Device) : Type 0 where
 abbrev pub PortStateIsJustified : Wanted → JointState Device → Port → Bool → PortState → Type 0
 PortStateIsJustified wanted i p false state = state ≡ Absent
 PortStateIsJustified wanted i p true Ready = IsOn i.device × (info : DiskInfo)
-    × HasFitDisk (serial_of wanted) p.0 i.device info
+    × HasFitDiskAndInterrupts (serial_of wanted) p.0 i.device info
     × ShowsDiskInfo i.abstract.ports p i.device.cap info
 PortStateIsJustified wanted i p true Dead = BacksState (serial_of wanted) Dead p.0 i.device ⊎ (IsOn i.device → ⊥)
 PortStateIsJustified wanted i p true state = BacksState (serial_of wanted) state p.0 i.device
@@ -67,11 +67,12 @@ PortStateIsJustified wanted i p true state = BacksState (serial_of wanted) state
 -- Clients' frames hold what the machine's do. The disk of each port is the machine's; and where the adapter's disks
 -- tell their sectors, these hold the same.
 pub record BetweenCallsInvariant (wanted : List Wanted) (i : JointState Device) : Type 0 where
-  pub served : (p : Port) → p.0 < 4 → (i.abstract.ports.served p ≡ true) ↔ IsServed (wanted_of wanted p.0) p.0 i.device
+  pub served_iff_wanted_and_there : (p : Port) → p.0 < 4 → (i.abstract.ports.served p ≡ true)
+      ↔ IsServed (wanted_of wanted p.0) p.0 i.device
   pub states_are_justified : (p : Port) → p.0 < 4
       → PortStateIsJustified (wanted_of wanted p.0) i p (i.abstract.ports.served p) (i.abstract.ports.state p)
-  pub waits : (p : Port) → p.0 < 4 → IsOn i.device → EmptyUnlessReady i.abstract p
-  pub memory_is_same : SameMemory i.abstract.machine i.device.memory
+  pub unready_have_none_while_on : (p : Port) → p.0 < 4 → IsOn i.device → EmptyUnlessReady i.abstract p
+  pub client_frames_are_same : SameClientFrames i.abstract.machine i.device.memory
   pub disks_are_same : (port : ℕ) → IsDiskOf i.abstract.machine (i.device.port port) port
   pub sectors_are_same : i.device.telling ≡ true → (port : ℕ)
       → SameSectors i.abstract.machine (i.device.port port).disk port
@@ -86,8 +87,8 @@ pub record MatchesTape (wanted : List Wanted) (first : JointState Device) (past 
   pub new_entries : List Entry
   pub tape_is : h.device.tape ≡ (joint_state_after first past).device.tape ++ new_entries
   pub tells_device_steps : TellsDeviceSteps (joint_state_after first past).abstract.machine new_entries h.event.steps
-  pub plugged : (p : ℕ) → (disks : List Disk) × PutsInDisks p disks h.event.steps
-      × ((h.device.port p).plugged ≡ ((joint_state_after first past).device.port p).plugged ++ disks)
+  pub plugged_disks_match_steps : (p : ℕ) → (disks : List Disk) × PutsInDisks p disks h.event.steps
+      × ((h.device.port p).plug_history ≡ ((joint_state_after first past).device.port p).plug_history ++ disks)
   pub invariant_holds : BetweenCallsInvariant wanted (joint_state_after first (h ∷ past))
 
 -- What is promised to clients of calls, the newest first, that asked that and said this, one after another, after a
@@ -96,22 +97,23 @@ pub record MatchesTape (wanted : List Wanted) (first : JointState Device) (past 
 -- tell their sectors. The device stands behind its steps in each of the calls, and before and after it there holds what
 -- holds between calls; the disks that are wanted stay so.
 pub record MeetsClientPromise (first : JointState Device) (past added : List (JointEvent Device DeviceStep))
-    (old new : ObservedState) (asked : List (AbstractCall DeviceStep)) (said : List CallResult) : Type 0 where
-  pub asks : map (λ h. h.event.ask) (reverse added) ≡ asked
-  pub says : map (λ h. h.event.said) (reverse added) ≡ said
-  pub wanted : new.wanted ≡ old.wanted
+    (old new : ObservedState) (asked : List (AbstractCall DeviceStep)) (said : List AbstractCallResult) : Type 0 where
+  pub calls_are : map (λ h. h.event.call) (reverse added) ≡ asked
+  pub results_are : map (λ h. h.event.result) (reverse added) ≡ said
+  pub wanted_is_unchanged : new.wanted ≡ old.wanted
   pub starts_at : IsSeenAt old (joint_state_after first past)
   pub ends_at : IsSeenAt new (joint_state_after first (added ++ past))
   pub is_run : IsRun first.abstract (events_of (added ++ past))
-  pub every_read_holds : first.device.telling ≡ true → EveryReadHolds first.abstract (events_of (added ++ past))
+  pub reads_hold_if_disks_tell : first.device.telling ≡ true
+      → EveryReadHoldsExpected first.abstract (events_of (added ++ past))
   pub invariant_at_start : BetweenCallsInvariant old.wanted (joint_state_after first past)
-  pub matches_tape : AllAdded (MatchesTape new.wanted first) past added
+  pub matches_tape : HoldsOfEachAdded (MatchesTape new.wanted first) past added
 
 -- What is promised of moves of data, which follows: in each of these calls moves and clears keep to their places, of
 -- requests that were accepted when they broke no rule.
 abbrev pub ConfinesMoves : JointState Device → List (JointEvent Device DeviceStep) → List (JointEvent Device DeviceStep)
     → Type 0
-ConfinesMoves first past added = AllAdded (λ before h. ConfinesCallMoves first.abstract.machine
+ConfinesMoves first past added = HoldsOfEachAdded (λ before h. ConfinesCallMoves first.abstract.machine
     (steps_of (events_of before))
     h.event.steps (joint_state_after first before).device h.device) past added
 
@@ -120,4 +122,5 @@ ConfinesMoves first past added = AllAdded (λ before h. ConfinesCallMoves first.
 -- the flush, and no other one put in since: where that disk comes back it has, in each sector of it, the bytes that it
 -- put there, or those of a write or trim accepted later, where the adapter's disks tell their sectors.
 pub record FlushesSurviveReplug (first : JointState Device) (calls : List (JointEvent Device DeviceStep)) : Type 0 where
-  pub finds : first.device.telling ≡ true → EveryPlugFindsFlushed first.abstract.machine (steps_of (events_of calls))
+  pub every_plug_finds_flushed : first.device.telling ≡ true
+      → EveryPlugFindsFlushed first.abstract.machine (steps_of (events_of calls))

@@ -13,7 +13,7 @@ port_in ports number = slice_index_or ports number no_port
 
 -- what there is of them, by port
 abbrev pub by_port : {X : Type 0} → (ServedPort → X) → List ServedPort → List X
-by_port its ports = map its ports
+by_port field_of ports = map field_of ports
 
 -- the port, with no loan kept
 abbrev pub without_loans : ServedPort → ServedPort
@@ -25,7 +25,7 @@ pub record EachBecomes (Such : ℕ → ServedPort → ServedPort → Type 0) (ol
   pub each_becomes : (number : ℕ) → number < 4 → Such number (port_in old number) (port_in new number)
 
 -- the port of this number was found by the host, and takes commands as adapter and disk can
-pub record BeginsAsHostFound (host : Host) (number : ℕ) (old new : ServedPort) : Type 0 where
-  pub anew : NotesProbeResult (probe_result_of host.ports number) new.mode old new
-  pub mode : (cap : ℕ) → host.slots ≡ cap / 256 % 32 + 1 → host.queued ≡ bit cap 30
+pub record IsAsHostProbed (host : Host) (number : ℕ) (old new : ServedPort) : Type 0 where
+  pub notes_host_result : NotesProbeResult (probe_result_of host.ports number) new.mode old new
+  pub mode_is_probed : (cap : ℕ) → host.slot_count ≡ cap / 256 % 32 + 1 → host.supports_ncq ≡ bit cap 30
       → new.mode ≡ probed_mode cap (probe_result_of host.ports number)

@@ -13,7 +13,7 @@ use Rattle.dma_frames.specs.FrameTables.{FrameExtent, owner_of, lent_to, ExtentH
 use Rattle.grants.specs.Rows.{SameRows}
 use Rattle.host_boot.specs.TakeOver.{TakesOver}
 use Rattle.host_boot.specs.declared.Host.{Host}
-use Rattle.configuration.specs.Plan.{PlanView, IsPlan, IsPlanOf}
+use Rattle.configuration.specs.Plan.{PlanView, IsServablePlan, IsPlanOf}
 use Rattle.server_history.specs.Histories.{StartsHistory}
 use Rattle.server_history.specs.ServerState.{SettledInvariant, quarantined_at, remembered_at, used_for}
 use Rattle.block_server.specs.declared.types.ServerError.{ServerError}
@@ -22,7 +22,7 @@ use Rattle.block_server.specs.declared.types.ServerError.TheVariants.{BadConfig,
 -- The adapter is idle; and where the configuration is sound, it has the frames.
 pub record IsReadyFor (config : Config) (d : Device) : Type 0 where
   pub idle : IsIdle d
-  pub room : LacksEveryFault config → FRAME_BYTES * config.frames ≤ d.size
+  pub memory_has_frames : LacksEveryFault config → FRAME_BYTES * config.frames ≤ d.memory_size
 
 -- The server has what the configuration's plan says: its grants, its owners, and the disks that it asks for. The
 -- adapter was taken over. No disk is remembered, nothing is asked, nothing lent, no loan
@@ -31,29 +31,30 @@ pub record IsReadyFor (config : Config) (d : Device) : Type 0 where
 pub record IsInitialServer {A : Type 0} (device : A → Device) (config : Config) (adapter : A)
     (s : ServerView A) : Type 0 where
   pub plan : PlanView
-  pub is_plan : IsPlan plan
+  pub is_plan : IsServablePlan plan
   pub planned : IsPlanOf config plan
-  pub rows : SameRows plan.grants s.grants
-  pub owned : (run : FrameExtent) (f : Frame) → Contains plan.owners run → ExtentHasFrame run f
-      → owner_of s.table f ≡ Some run.0
-  pub only : (f : Frame) (client : ClientId) → owner_of s.table f ≡ Some client → (run : FrameExtent)
-      × Contains plan.owners run
-      × ExtentHasFrame run f × (run.0 ≡ client)
-  pub free : (f : Frame) → lent_to s.table f ≡ None
-  pub wanted : s.wanted ≡ plan.wanted
+  pub grants_are_planned : SameRows plan.grants s.grants
+  pub extents_are_owned : (extent : FrameExtent) (f : Frame) → Contains plan.owners extent → ExtentHasFrame extent f
+      → owner_of s.table f ≡ Some extent.0
+  pub no_other_frame_is_owned : (f : Frame) (client : ClientId) → owner_of s.table f ≡ Some client
+      → (extent : FrameExtent)
+      × Contains plan.owners extent
+      × ExtentHasFrame extent f × (extent.0 ≡ client)
+  pub no_frame_is_lent : (f : Frame) → lent_to s.table f ≡ None
+  pub wanted_is_planned : s.wanted ≡ plan.wanted
   pub host : Host
-  pub ports : s.ports ≡ host.ports
-  pub forgotten : (port : ℕ) → remembered_at s.remembered port ≡ None
+  pub probe_results_are_hosts : s.probe_results ≡ host.ports
+  pub no_disk_is_remembered : (port : ℕ) → remembered_at s.remembered port ≡ None
   pub takes_over : TakesOver plan.wanted host (device adapter) (device s.adapter)
-  pub unkept : (port : ℕ) → quarantined_at s.kept port ≡ []
-  pub book : s.book ≡ []
-  pub last_id : s.last_id ≡ 0
-  pub stuck : s.stuck ≡ false
-  pub unused : (port slot : ℕ) → used_for s.slots port slot ≡ None
-  pub settled : SettledInvariant (server_of device s)
+  pub no_loan_is_kept : (port : ℕ) → quarantined_at s.kept port ≡ []
+  pub book_is_empty : s.book ≡ []
+  pub last_id_is_0 : s.last_id ≡ 0
+  pub is_not_stuck : s.stuck ≡ false
+  pub no_slot_is_used : (port slot : ℕ) → used_for s.slots port slot ≡ None
+  pub settled_invariant : SettledInvariant (server_of device s)
   pub starts_history : StartsHistory (server_of device s)
 
 -- why no server is made
-abbrev pub RefusesConfig : Config → ServerError → Type 0
-RefusesConfig config (BadConfig kind) = IsLeastFault config kind
-RefusesConfig config NoMemory = LacksEveryFault config
+abbrev pub IsWhyNoServerIsMade : Config → ServerError → Type 0
+IsWhyNoServerIsMade config (BadConfig kind) = IsLeastFault config kind
+IsWhyNoServerIsMade config NoMemory = LacksEveryFault config

@@ -1,7 +1,7 @@
 pub mod ClientPromise
 pub mod ServerView
 pub mod FourPorts
-pub mod FieldView
+pub mod ServerFieldsView
 pub mod InitialServer
 pub mod Calls
 pub mod CallResults

@@ -13,7 +13,7 @@ use Rattle.adapter.specs.Device.{Device}
 use Rattle.adapter.specs.declared.access.DeviceStep.{DeviceStep}
 use Rattle.refinement.specs.PortFacts.{RunsWell}
 use Rattle.refinement.specs.Slots.{ServesRequest}
-use Rattle.block_machine.specs.Events.{CallRecord, AbstractCall, AbstractState, Reset, RevokeOf, Service, Tick, AnswersEnded, HasTimedOut, WasIssued, abstract_after}
+use Rattle.block_machine.specs.Events.{CallRecord, AbstractCall, AbstractState, Reset, RevokeOf, Service, Tick, AnswersEnded, TimesOutAtTick, IsIssuedInBook, abstract_after}
 use Rattle.block_machine.specs.Histories.{JointEvent, JointState, joint_state_after}
 use Rattle.block_machine.specs.Ports.{SamePort}
 use Rattle.block_machine.specs.State.{Machine, Pending}
@@ -24,16 +24,17 @@ use Rattle.driver_history.specs.Histories.{IssuesAllDue}
 use Rattle.host_boot.specs.TakeOver.{probe_result_of}
 use Rattle.server_history.specs.Histories.{LeadsToServer}
 use Rattle.server_history.specs.ServerState.{state_of}
-use Rattle.block_server.specs.ClientPromise.{ConfinesMoves, AllAdded, FlushesSurviveReplug, MeetsClientPromise}
+use Rattle.block_server.specs.ClientPromise.{ConfinesMoves, HoldsOfEachAdded, FlushesSurviveReplug, MeetsClientPromise}
 use Rattle.block_server.specs.AbstractCalls.{abstract_call_of, machine_result_of}
-use Rattle.block_server.specs.ServerView.{ServerView, server_of, visible_of}
+use Rattle.block_server.specs.ServerView.{ServerView, server_of, observed_state_of}
 
 -- What is told where nothing goes wrong. A call that revokes a grant tells Revoked, of requests that aren't issued
 -- (which ones: `AnswersRevoke`). Each other one tells Ok, of a request that was issued when the call began, of which
 -- each sector was moved or cleared since its last issue, and which was ended.
 abbrev pub IsFaultFreeAnswer : AbstractCall DeviceStep → Machine → Pending → Outcome → Type 0
 IsFaultFreeAnswer (RevokeOf client number) old e told = (told ≡ outcome.Revoked) × (e.issued ≡ false)
-IsFaultFreeAnswer ask old e told = (told ≡ outcome.Ok) × WasIssued old e.request.id × (e.issued ≡ true) × AllTouched e
+IsFaultFreeAnswer ask old e told = (told ≡ outcome.Ok) × IsIssuedInBook old e.request.id × (e.issued ≡ true)
+    × AllTouched e
     × (e.ended ≡ true)
 
 -- What a call is to the clients of a port that is ready and stays healthy, with no register in it. The port is what it
@@ -41,11 +42,12 @@ IsFaultFreeAnswer ask old e told = (told ≡ outcome.Ok) × WasIssued old e.requ
 -- answers each request that had ended when it began. And of the port's unanswered requests a submit, a service and a
 -- revocation issue exactly those that are due once all else is done.
 pub record MeetsPortPromise (port : Port) (old : AbstractState) (call : CallRecord DeviceStep) : Type 0 where
-  pub same : SamePort old.ports call.ports port
-  pub answers : (e : Pending) (told : Outcome) → Contains call.steps (Answer e told) → e.request.port ≡ port
-      → IsFaultFreeAnswer call.ask old.machine e told
-  pub answers_ended : call.ask ≡ Service → AnswersEnded old.machine call.steps port
-  pub issues : IssuesAllDue call.ask call.steps (abstract_after old call).machine call.ports port
+  pub port_is_same : SamePort old.ports call.ports port
+  pub answers_are_fault_free : (e : Pending) (told : Outcome) → Contains call.steps (Answer e told)
+      → e.request.port ≡ port
+      → IsFaultFreeAnswer call.call old.machine e told
+  pub answers_ended : call.call ≡ Service → AnswersEnded old.machine call.steps port
+  pub issues_all_due : IssuesAllDue call.call call.steps (abstract_after old call).machine call.ports port
 
 -- The call goes well for the port, with its engine running all the time and after it, and serves the port's clients.
 abbrev pub GoesWellForClients : Port → JointState Device → JointEvent Device DeviceStep → Type 0
@@ -55,7 +57,7 @@ GoesWellForClients port old h = GoesWellFor old h port × MeetsPortPromise port 
 -- of PxCI and PxSACT were clear then; and each port is served well that the call is healthy for.
 pub record KeepsPortPromise (first : JointState Device) (past : List (JointEvent Device DeviceStep))
     (h : JointEvent Device DeviceStep) : Type 0 where
-  pub clear_bits_are_answered : (port : Port) (slot : ℕ) (id : RequestId) → h.event.ask ≡ Service
+  pub clear_bits_are_answered : (port : Port) (slot : ℕ) (id : RequestId) → h.event.call ≡ Service
       → (joint_state_after first past).abstract.ports.state port ≡ Ready
       → ServesRequest (joint_state_after first past).abstract.machine (joint_state_after first past).device.memory
       ((joint_state_after first past).device.port port.0) port.0 slot id
@@ -74,15 +76,15 @@ pub record KeepsPortPromise (first : JointState Device) (past : List (JointEvent
 -- request of the port to its age of three: that restarts the port, since nothing else tells that a request hangs.
 pub record DrivesDevice {A : Type 0} (device : A → Device) (first : JointState Device)
     (past added : List (JointEvent Device DeviceStep)) (old new : ServerView A) : Type 0 where
-  pub leads : LeadsToServer first (added ++ past) (server_of device new)
-  pub serves : AllAdded (KeepsPortPromise first) past added
-  pub healthy : (port : Port) → state_of (probe_result_of old.ports port.0) ≡ Ready
+  pub history_leads_to_server : LeadsToServer first (added ++ past) (server_of device new)
+  pub calls_keep_port_promise : HoldsOfEachAdded (KeepsPortPromise first) past added
+  pub healthy_ports_go_well : (port : Port) → state_of (probe_result_of old.probe_results port.0) ≡ Ready
       → StaysHealthy port.0 (device old.adapter) (device new.adapter)
-      → AllAdded (λ before h. (h.event.ask ≢ Reset)
-      × (h.event.ask ≡ Tick → HasTimedOut (joint_state_after first before).abstract port → ⊥))
+      → HoldsOfEachAdded (λ before h. (h.event.call ≢ Reset)
+      × (h.event.call ≡ Tick → TimesOutAtTick (joint_state_after first before).abstract port → ⊥))
       past added
-      → AllAdded (λ before h. GoesWellForClients port (joint_state_after first before) h) past added
-      × (state_of (probe_result_of new.ports port.0) ≡ Ready) × RunsWell ((device new.adapter).port port.0)
+      → HoldsOfEachAdded (λ before h. GoesWellForClients port (joint_state_after first before) h) past added
+      × (state_of (probe_result_of new.probe_results port.0) ≡ Ready) × RunsWell ((device new.adapter).port port.0)
 
 -- After a history that leads to the server before them, the calls of a list, which said this, add theirs: with what is
 -- promised to clients, of the calls, of moves and of disks that come back, and of the device.
@@ -90,7 +92,8 @@ pub record KeepsPromise {A : Type 0} (device : A → Device) (first : JointState
     (past : List (JointEvent Device DeviceStep))
     (old new : ServerView A) (calls : List (Call DeviceStep)) (said : List (CallResult (ArrayVec Reply))) : Type 0 where
   pub added : List (JointEvent Device DeviceStep)
-  pub meets_client_promise : MeetsClientPromise first past added (visible_of device old) (visible_of device new)
+  pub meets_client_promise : MeetsClientPromise first past added (observed_state_of device old)
+      (observed_state_of device new)
       (map abstract_call_of calls)
       (map machine_result_of said)
   pub confines_moves : ConfinesMoves first past added
@@ -107,7 +110,7 @@ Simulates device old new calls said = (first : JointState Device) (past : List (
 -- What the calls of a list said, one thing each, stands at the end of what had been said; and they keep the promise.
 pub record RunsAsPromised {A : Type 0} (device : A → Device) (old new : ServerView A) (calls : List (Call DeviceStep))
     (before after : List (CallResult (ArrayVec Reply))) : Type 0 where
-  pub said : List (CallResult (ArrayVec Reply))
-  pub results_are : after ≡ before ++ said
-  pub one_result_a_call : length said ≡ length calls
-  pub simulates_calls : Simulates device old new calls said
+  pub results : List (CallResult (ArrayVec Reply))
+  pub results_are : after ≡ before ++ results
+  pub one_result_a_call : length results ≡ length calls
+  pub simulates_calls : Simulates device old new calls results

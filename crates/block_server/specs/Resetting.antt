@@ -3,16 +3,16 @@ use Rattle.std.specs.Prelude.{true, false, ◌≡◌, List, [], Some, None, Ok, 
 use Rattle.std.specs.declared.result.Result.{Result}
 use Rattle.ata_types.specs.declared.request.Reply.{Reply}
 use Rattle.adapter.specs.Device.{Device}
-use Rattle.block_machine.specs.Events.{CallResult, WasReset}
+use Rattle.block_machine.specs.Events.{AbstractCallResult, WasReset}
 use Rattle.ata_types.specs.declared.call.AdapterStuck.{AdapterStuck}
 use Rattle.server_history.specs.Resets.{ResetsServer}
 use Rattle.server_history.specs.StuckServer.{ResetGetsStuck}
 use Rattle.block_server.specs.ServerView.{ServerView, server_of}
 
 -- what a reset says, by its replies
-abbrev pub reset_said : Result (Unit {0}) AdapterStuck → List Reply → CallResult
-reset_said (Ok done) replies = WasReset (Some replies)
-reset_said (Err why) replies = WasReset None
+abbrev pub reset_result : Result (Unit {0}) AdapterStuck → List Reply → AbstractCallResult
+reset_result (Ok done) replies = WasReset (Some replies)
+reset_result (Err why) replies = WasReset None
 
 -- The adapter was reset, and so was the server with these replies; or the adapter didn't end its reset, and there is no
 -- reply.

@@ -5,31 +5,32 @@ use Rattle.ata_types.specs.declared.request.ClientId.{ClientId}
 use Rattle.ata_types.specs.declared.request.Reply.{Reply}
 use Rattle.adapter.specs.Device.{Device}
 use Rattle.block_machine.specs.DueRequests.{due_of}
-use Rattle.block_machine.specs.Events.{CallResult, WasRevoked}
+use Rattle.block_machine.specs.Events.{AbstractCallResult, WasRevoked}
 use Rattle.block_machine.specs.Rules.{HasRow}
 use Rattle.request_queue.specs.BookEntries.{unanswered_of}
 use Rattle.server_history.specs.Revoking.{RevokesGrant}
-use Rattle.server_history.specs.IssuingAndAnswering.{IssuesAll}
+use Rattle.server_history.specs.IssuingAndAnswering.{IssuesDueOfPort}
 use Rattle.server_history.specs.ServerState.{ServerState, mode_in}
 use Rattle.block_server.specs.ServerView.{ServerView, server_of}
 use Rattle.ata_types.specs.declared.call.NoSuchGrant.{NoSuchGrant}
 
 -- what a revocation says, by its replies
-abbrev pub revoke_said : Result (Unit {0}) NoSuchGrant → List Reply → CallResult
-revoke_said (Ok done) replies = WasRevoked (Some replies)
-revoke_said (Err none) replies = WasRevoked None
+abbrev pub revoke_result : Result (Unit {0}) NoSuchGrant → List Reply → AbstractCallResult
+revoke_result (Ok done) replies = WasRevoked (Some replies)
+revoke_result (Err none) replies = WasRevoked None
 
 -- The grant was revoked. Then, while the adapter is on, what is due on its port was issued; since a reset that got
 -- stuck nothing is. Where nothing was to be issued, no access was made.
 pub record RevokesAndIssues {A : Type 0} (device : A → Device) (client : ClientId) (number : ℕ) (replies : List Reply)
     (old new : ServerView A) : Type 0 where
-  pub mid : ServerState
-  pub revokes : RevokesGrant client number replies (server_of device old) mid
-  pub issues : old.stuck ≡ false → IssuesAll revokes.has_grant_row.0.port mid (server_of device new)
-  pub stalled : old.stuck ≡ true → server_of device new ≡ mid
-  pub quiet : (old.stuck ≡ true)
+  pub server_after_revocation : ServerState
+  pub revokes : RevokesGrant client number replies (server_of device old) server_after_revocation
+  pub issues : old.stuck ≡ false → IssuesDueOfPort revokes.has_grant_row.0.port server_after_revocation
+      (server_of device new)
+  pub none_issued_if_stuck : old.stuck ≡ true → server_of device new ≡ server_after_revocation
+  pub no_access_if_none_due : (old.stuck ≡ true)
       ⊎ (due_of (mode_in (server_of device old) revokes.has_grant_row.0.port) revokes.has_grant_row.0.port
-      (unanswered_of mid.book) ≡ [])
+      (unanswered_of server_after_revocation.book) ≡ [])
       → new.adapter ≡ old.adapter
 
 -- What a revocation says, and did: the client's grant was revoked, with these replies; or the client has none of this

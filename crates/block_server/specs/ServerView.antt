@@ -4,7 +4,7 @@ use Rattle.ata_types.specs.declared.grant.GrantRow.{GrantRow}
 use Rattle.adapter.specs.Device.{Device}
 use Rattle.block_machine.specs.declared.due.QueueMode.{QueueMode}
 use Rattle.dma_frames.specs.Loan.{Lending}
-use Rattle.dma_frames.specs.FrameTables.{FrameOwnership, lent_to, owner_of}
+use Rattle.dma_frames.specs.FrameTables.{OwnersAndLoans, lent_to, owner_of}
 use Rattle.host_boot.specs.TakeOver.{probe_result_of}
 use Rattle.host_boot.specs.declared.ProbeResult.{ProbeResult}
 use Rattle.identify.specs.declared.DiskInfo.{DiskInfo}
@@ -18,11 +18,11 @@ pub record ServerView (A : Type 0) : Type 0 where
   pub adapter : A
   -- the grants, and by frame its owner and the request that it is lent to
   pub grants : List GrantRow
-  pub table : FrameOwnership
+  pub table : OwnersAndLoans
   -- by port, the disk that is wanted, what it was found to be, which disk it was ready with before that, how it takes
   -- commands, what its slots are used for, and what is still lent to requests of it that were answered
   pub wanted : List Wanted
-  pub ports : List ProbeResult
+  pub probe_results : List ProbeResult
   pub remembered : List (Option DiskInfo)
   pub modes : List QueueMode
   pub slots : List PortSlots
@@ -41,22 +41,22 @@ server_of device s = record {
   grants = s.grants;
   table = s.table;
   wanted = s.wanted;
-  ports = s.ports;
+  probe_results = s.probe_results;
   remembered = s.remembered;
   modes = s.modes;
   slots = s.slots;
-  kept = s.kept;
+  kept_loans = s.kept;
   book = s.book;
   last_id = s.last_id;
 }
 
 -- what can be seen of it
-abbrev pub visible_of : {A : Type 0} → (A → Device) → ServerView A → ObservedState
-visible_of device s = record {
+abbrev pub observed_state_of : {A : Type 0} → (A → Device) → ServerView A → ObservedState
+observed_state_of device s = record {
   device = device s.adapter;
   wanted = s.wanted;
   rows = s.grants;
   owner = owner_of s.table;
   lent = lent_to s.table;
-  state = λ port. state_of (probe_result_of s.ports port.0);
+  state = λ port. state_of (probe_result_of s.probe_results port.0);
 }

@@ -4,10 +4,8 @@ ghost use Rattle.ata_types.specs.declared.Port.{Port};
 ghost use Rattle.block_server.specs.FourPorts.{by_port, port_in};
 ghost use Rattle.host_boot.specs.declared.ProbeResult.TheVariants.{Unserved};
 ghost use Rattle.refinement.specs.Relation.{port_at};
-ghost use Rattle.request_queue.specs.BookEntries.{IsAnyOverdue, IsOverdue, is_among};
-ghost use Rattle.server_history.specs.ErrorHandling.{HasNoUsedSlot};
-ghost use Rattle.server_history.specs.ServerState.{quarantined_at, plain_mode};
-ghost use Rattle.server_history.specs.Turns.{is_ready};
+ghost use Rattle.request_queue.specs.BookEntries.{HasAnyOverdue, HasOverdueOn, is_among};
+ghost use Rattle.server_history.specs.{ErrorHandling.{HasNoUsedSlot}, ServerState.{quarantined_at, plain_mode}, Turns.{is_ready}};
 
 use ata_types::{PORTS, Port};
 use identify::Wanted;
@@ -63,7 +61,7 @@ pub(crate) fn unserved_ports(
 ) -> [ServedPort; PORTS]
     ensures wanted { by_port (λ p. p.wanted) result ≡ wanted.now }
     ensures kept { by_port (λ p. p.kept) result ≡ kept }
-    ensures found { by_port (λ p. p.found) result ≡ replicate 4 Unserved }
+    ensures found { by_port (λ p. p.probe_result) result ≡ replicate 4 Unserved }
     ensures forgotten { by_port (λ p. p.remembered) result ≡ replicate 4 None }
     ensures modes { by_port (λ p. p.mode) result ≡ replicate 4 plain_mode }
     ensures unused { (number : ℕ) → number < 4 → HasNoUsedSlot plain_mode (port_in result number).slots }
@@ -104,7 +102,7 @@ pub(crate) fn into_quarantines(ports: [ServedPort; PORTS]) -> [Quarantine; PORTS
 
 /// By port, whether it is ready.
 pub(crate) fn ready_ports(ports: &[ServedPort; PORTS]) -> [bool; PORTS]
-    ensures { (port : Port) → is_among result port ≡ is_ready (port_in ports.now port.0).found }
+    ensures { (port : Port) → is_among result port ≡ is_ready (port_in ports.now port.0).probe_result }
 {
     [
         ports[0].is_ready(),
@@ -117,9 +115,9 @@ pub(crate) fn ready_ports(ports: &[ServedPort; PORTS]) -> [bool; PORTS]
 /// By port, whether a request of it is overdue, where it is known whether one of any port is. Mostly none is, and then
 /// no request is looked at.
 pub(crate) fn overdue_ports(book: &Book, any_overdue: bool) -> [bool; PORTS]
-    requires { IsTrue any_overdue ↔ IsAnyOverdue book.now }
+    requires { IsTrue any_overdue ↔ HasAnyOverdue book.now }
     ensures { (number : ℕ) → number < 4 → IsTrue (slice_index_or result number false)
-        ↔ IsOverdue (port_at number) book.now }
+        ↔ HasOverdueOn (port_at number) book.now }
 {
     if !any_overdue {
         return [false; PORTS];

@@ -1,6 +1,5 @@
 // What calls from a list said.
-ghost use Rattle.std.specs.Prelude.{◌≡◌, ◌<◌, ◌≤◌, ◌+◌, ◌++◌, ◌∷◌, [], None, Some, IfOk, IsOk, MatchOption, OnOk, vec_len};
-ghost use Rattle.std.specs.Vec.{vec_capacity};
+ghost use Rattle.std.specs.{Prelude.{◌≡◌, ◌<◌, ◌≤◌, ◌+◌, ◌++◌, ◌∷◌, [], None, Some, IfOk, IsOk, MatchOption, OnOk, vec_len}, Vec.{vec_capacity}};
 ghost use Rattle.block_server.specs.CallResults.{results_in, with_replies};
 
 use ata_types::{CallResult, Replies, Reply};
@@ -15,7 +14,7 @@ fn said_with(said: CallResult<()>, replies: Replies) -> CallResult
         CallResult::Submitted(result) => CallResult::Submitted(result),
         CallResult::Stored(result) => CallResult::Stored(result),
         CallResult::Loaded(result) => CallResult::Loaded(result),
-        CallResult::Served(()) => CallResult::Served(replies),
+        CallResult::Replied(()) => CallResult::Replied(replies),
         CallResult::WasReset(Ok(())) => CallResult::WasReset(Ok(replies)),
         CallResult::WasReset(Err(stuck)) => CallResult::WasReset(Err(stuck)),
         CallResult::WasRevoked(Ok(())) => CallResult::WasRevoked(Ok(replies)),
@@ -51,20 +50,20 @@ impl CallResults {
 
     /// Makes room for what so many calls say.
     pub fn reserve(&mut self, calls: usize) -> Result<(), AllocError>
-        ensures said { results_in self.new ≡ results_in self.old }
-        ensures len { vec_len self.new.earlier ≡ vec_len self.old.earlier }
-        ensures ok { OnOk result (vec_len self.new.earlier + calls ≤ vec_capacity self.new.earlier) }
-        ensures capacity { vec_capacity self.old.earlier ≤ vec_capacity self.new.earlier }
-        ensures succeeds { vec_len self.old.earlier + calls ≤ vec_capacity self.old.earlier → IsOk result }
+        ensures results_are_same { results_in self.new ≡ results_in self.old }
+        ensures earlier_count_is_same { vec_len self.new.earlier ≡ vec_len self.old.earlier }
+        ensures has_room_for_calls { OnOk result (vec_len self.new.earlier + calls ≤ vec_capacity self.new.earlier) }
+        ensures capacity_does_not_shrink { vec_capacity self.old.earlier ≤ vec_capacity self.new.earlier }
+        ensures succeeds_with_room { vec_len self.old.earlier + calls ≤ vec_capacity self.old.earlier → IsOk result }
     {
         self.earlier.reserve(calls)
     }
 
     /// Nothing was said. The room stays.
     pub fn clear(&mut self)
-        ensures said { results_in self.new ≡ [] }
-        ensures len { vec_len self.new.earlier ≡ 0 }
-        ensures capacity { vec_capacity self.new.earlier ≡ vec_capacity self.old.earlier }
+        ensures no_results_are_left { results_in self.new ≡ [] }
+        ensures earlier_is_empty { vec_len self.new.earlier ≡ 0 }
+        ensures capacity_is_same { vec_capacity self.new.earlier ≡ vec_capacity self.old.earlier }
     {
         self.earlier.clear();
         self.last = None;

@@ -1,28 +1,18 @@
 // Laws of the definitions, for callers: the clause is the theorem. These functions do nothing.
 ghost use Rattle.std.specs.Prelude.{◌≡◌, ◌++◌, List, [], ◌∷◌};
 ghost use Rattle.arrayvec.specs.ArrayVec.{ArrayVec};
-ghost use Rattle.ata_types.specs.declared.Port.{Port};
-ghost use Rattle.ata_types.specs.declared.PortState.TheVariants.{Ready};
-ghost use Rattle.ata_types.specs.declared.call.Call.{Call};
-ghost use Rattle.ata_types.specs.declared.call.CallResult.{CallResult};
-ghost use Rattle.ata_types.specs.declared.request.Reply.{Reply};
-ghost use Rattle.adapter.specs.Idle.{IsIdle};
-ghost use Rattle.adapter.specs.declared.access.DeviceStep.{DeviceStep};
+ghost use Rattle.ata_types.specs.{declared.Port.{Port}, declared.PortState.TheVariants.{Ready}, declared.call.Call.{Call}, declared.call.CallResult.{CallResult}, declared.request.Reply.{Reply}};
+ghost use Rattle.adapter.specs.{Idle.{IsIdle}, declared.access.DeviceStep.{DeviceStep}};
 ghost use Rattle.refinement.specs.PortFacts.{RunsWell, Undisturbed};
 ghost use Rattle.configuration.specs.declared.Config.{Config};
 ghost use Rattle.host_boot.specs.TakeOver.{probe_result_of};
-ghost use Rattle.server_history.specs.Histories.{ExtendsHistory};
-ghost use Rattle.server_history.specs.ServerState.{state_of};
-ghost use Rattle.block_server.specs.Promise.{Simulates};
-ghost use Rattle.block_server.specs.InitialServer.{IsInitialServer};
-ghost use Rattle.block_server.specs.AbstractCalls.{abstract_call_of, machine_result_of};
-ghost use Rattle.block_server.specs.ServerView.{ServerView, server_of};
-ghost use Rattle.block_server.specs.Costs.{MOST_NEW_ACCESSES, MOST_RESET_ACCESSES, MOST_REVOKE_ACCESSES, MOST_SERVICE_ACCESSES, MOST_SUBMIT_ACCESSES, MOST_TICK_ACCESSES};
+ghost use Rattle.server_history.specs.{Histories.{ExtendsHistory}, ServerState.{state_of}};
+ghost use Rattle.block_server.specs.{Promise.{Simulates}, InitialServer.{IsInitialServer}, AbstractCalls.{abstract_call_of, machine_result_of}, ServerView.{ServerView, server_of}, Costs.{MOST_NEW_ACCESSES, MOST_RESET_ACCESSES, MOST_REVOKE_ACCESSES, MOST_SERVICE_ACCESSES, MOST_SUBMIT_ACCESSES, MOST_TICK_ACCESSES}};
 
 use adapter::Stepped;
 use driver_history::laws::{
     law_answers_justified, law_clear_bits_are_answered, law_healthy_calls_go_well,
-    law_histories_are_runs, law_moves_keep_to_their_places, law_reads_hold,
+    law_histories_are_runs, law_moves_keep_to_their_places, law_reads_hold_if_disks_tell,
     law_replugs_keep_flushed_writes,
 };
 use host_boot::laws::law_what_was_taken_over_may_be_served;
@@ -49,7 +39,7 @@ pub fn law_runs_keep_their_promise<A: Stepped>()
     law_answers_justified();
     law_moves_keep_to_their_places();
     law_histories_are_runs();
-    law_reads_hold();
+    law_reads_hold_if_disks_tell();
     law_replugs_keep_flushed_writes();
 }
 
@@ -57,7 +47,8 @@ pub fn law_runs_keep_their_promise<A: Stepped>()
 /// idle.
 pub fn law_new_servers_run_well<A: Stepped>()
     ensures { (config : Config) (adapter : A) (server : ServerView A) (port : Port) → IsIdle (A.device adapter)
-        → IsInitialServer A.device config adapter server → state_of (probe_result_of server.ports port.0) ≡ Ready
+        → IsInitialServer A.device config adapter server → state_of (probe_result_of server.probe_results port.0)
+        ≡ Ready
         → Undisturbed port.0 (A.device adapter) (A.device server.adapter)
         → RunsWell ((A.device server.adapter).port port.0) }
 {

@@ -7,7 +7,7 @@ use ata_types::{Op, Request};
 pub(crate) const MOST_CLIENT_UNANSWERED: usize = 16;
 
 /// Whether sectors of a request leave a disk of so many. A flush has none.
-pub(crate) fn leaves_disk(r: &Request, sectors: u64) -> bool
+pub(crate) fn exceeds_disk(r: &Request, sectors: u64) -> bool
     ensures { IsTrue result ↔ ((r.now.op ≢ Op.Flush) × (sectors < r.now.first.0 + r.now.count)) }
 {
     let end = r.first.0 as u128 + r.count as u128;

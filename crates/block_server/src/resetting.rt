@@ -2,14 +2,9 @@
 ghost use Rattle.std.specs.Prelude.{◌≡◌, ◌<◌, ◌≤◌, ◌+◌, ◌*◌, ◌++◌, List, length, map};
 ghost use Rattle.adapter.specs.AccessBounds.{MakesAtMost};
 ghost use Rattle.ata_types.specs.declared.request.Reply.{Reply};
-ghost use Rattle.port_driver.specs.Costs.{ISSUE_DUE_ACCESSES};
-ghost use Rattle.block_server.specs.FourPorts.{EachBecomes, BeginsAsHostFound, by_port, without_loans};
-ghost use Rattle.block_server.specs.FieldView.{with_ports};
-ghost use Rattle.port_driver.specs.PortAndShared.{NotesProbeResult};
-ghost use Rattle.server_history.specs.KeptLoans.{IsKeptIn, MayGiveBack, TakesBack};
-ghost use Rattle.server_history.specs.Resets.{IssuePorts, MayResolve, ResolvePorts};
-ghost use Rattle.server_history.specs.ServerState.{InCallInvariant, ServerState, plain_mode};
-ghost use Rattle.server_history.specs.StuckServer.{found_after_stuck_reset};
+ghost use Rattle.port_driver.specs.{Costs.{ISSUE_DUE_ACCESSES}, PortAndShared.{NotesProbeResult}};
+ghost use Rattle.block_server.specs.{FourPorts.{EachBecomes, IsAsHostProbed, by_port, without_loans}, ServerFieldsView.{with_ports}};
+ghost use Rattle.server_history.specs.{KeptLoans.{IsKeptIn, MayGiveBack, GivesBackLoans}, Resets.{IssuesOnEachReadyPort, MayResolve, ResolvesEachPort}, ServerState.{InCallInvariant, ServerState, plain_mode}, StuckServer.{found_after_stuck_reset}};
 
 use adapter::Adapter;
 use ata_types::{MOST_UNANSWERED, PORTS, Port, Replies};
@@ -25,7 +20,7 @@ use server_history::stuck_server::law_may_resolve_persists;
 pub(crate) fn give_all_back(ports: &mut [ServedPort; PORTS], table: &mut FrameTable)
     requires { MayGiveBack table.old (by_port (λ p. p.kept) ports.old) }
     ensures ports { ports.new ≡ map without_loans ports.old }
-    ensures back { TakesBack table.old table.new (IsKeptIn (by_port (λ p. p.kept) ports.old)) }
+    ensures takes_kept_loans_back { GivesBackLoans table.old table.new (IsKeptIn (by_port (λ p. p.kept) ports.old)) }
 {
     law_loans_end_in_turn();
     for number in 0..PORTS {
@@ -35,7 +30,8 @@ pub(crate) fn give_all_back(ports: &mut [ServedPort; PORTS], table: &mut FrameTa
 
 /// Notes that a reset of the adapter got stuck: each port that is served is dead.
 pub(crate) fn note_stuck_reset(ports: &mut [ServedPort; PORTS])
-    ensures { EachBecomes (λ number old new. NotesProbeResult (found_after_stuck_reset old.found) plain_mode old new)
+    ensures { EachBecomes (λ number old new. NotesProbeResult (found_after_stuck_reset old.probe_result)
+        plain_mode old new)
         ports.old
         ports.new }
 {
@@ -47,11 +43,11 @@ pub(crate) fn note_stuck_reset(ports: &mut [ServedPort; PORTS])
 /// Notes what each port was found to be once the adapter was taken over, and how it takes commands then.
 pub(crate) fn note_probe_result(ports: &mut [ServedPort; PORTS], host: &Host)
     requires { length host.now.ports ≡ 4 }
-    ensures { EachBecomes (BeginsAsHostFound host.now) ports.old ports.new }
+    ensures { EachBecomes (IsAsHostProbed host.now) ports.old ports.new }
 {
     for number in 0..PORTS {
         let found = host.ports[number];
-        let mode = probed_mode(host.slots, host.queued, &found);
+        let mode = probed_mode(host.slot_count, host.supports_ncq, &found);
         ports[number].note_probe_result(found, mode);
     }
 }
@@ -63,14 +59,14 @@ pub(crate) fn resolve_ports(
     shared: &mut Shared,
     replies: &mut Replies,
 )
-    requires settle { (s : ServerState) × MayResolve (with_ports s s.device shared.old ports.old) }
+    requires may_resolve { (s : ServerState) × MayResolve (with_ports s s.device shared.old ports.old) }
     requires room { length replies.old.items + length shared.old.book ≤ MOST_UNANSWERED }
-    ensures settles { (s : ServerState) → MayResolve (with_ports s s.device shared.old ports.old)
+    ensures resolves_ports { (s : ServerState) → MayResolve (with_ports s s.device shared.old ports.old)
         → (its : List Reply) × (replies.new.items ≡ replies.old.items ++ its)
-        × ResolvePorts 0 (by_port (λ p. p.found) ports.old) its
+        × ResolvesEachPort 0 (by_port (λ p. p.probe_result) ports.old) its
         (with_ports s s.device shared.old ports.old) (with_ports s s.device shared.new ports.new) }
-    ensures found { by_port (λ p. p.found) ports.new
-        ≡ by_port (λ p. p.found) ports.old }
+    ensures found { by_port (λ p. p.probe_result) ports.new
+        ≡ by_port (λ p. p.probe_result) ports.old }
 {
     law_may_resolve_persists();
     for number in 0..PORTS {
@@ -79,14 +75,15 @@ pub(crate) fn resolve_ports(
 }
 
 /// Issues what is due on each ready port, in rising number.
-pub(crate) fn issue_ports<A: Adapter>(
+pub(crate) fn issue_due_on_ports<A: Adapter>(
     ports: &mut [ServedPort; PORTS],
     adapter: &mut A,
     shared: &mut Shared,
 )
-    requires kept { (s : ServerState) × InCallInvariant (with_ports s (A.device adapter.old) shared.old ports.old) }
+    requires in_call_invariant { (s : ServerState)
+        × InCallInvariant (with_ports s (A.device adapter.old) shared.old ports.old) }
     ensures issues { (s : ServerState) → InCallInvariant (with_ports s (A.device adapter.old) shared.old ports.old)
-        → IssuePorts 0 (by_port (λ p. p.found) ports.old)
+        → IssuesOnEachReadyPort 0 (by_port (λ p. p.probe_result) ports.old)
         (with_ports s (A.device adapter.old) shared.old ports.old)
         (with_ports s (A.device adapter.new) shared.new ports.new) }
     ensures cost { MakesAtMost (PORTS * ISSUE_DUE_ACCESSES) (A.access_count adapter.old) (A.access_count adapter.new) }

@@ -1,6 +1,5 @@
 // Calls from a list.
-ghost use Rattle.std.specs.Prelude.{◌≡◌, ◌<◌, ◌≤◌, ◌+◌, OnOk, IfErr, IsOk, IsSome, length, take, min, vec_len};
-ghost use Rattle.std.specs.Vec.{vec_capacity};
+ghost use Rattle.std.specs.{Prelude.{◌≡◌, ◌<◌, ◌≤◌, ◌+◌, OnOk, IfErr, IsOk, IsSome, length, take, min, vec_len}, Vec.{vec_capacity}};
 ghost use Rattle.block_server.specs.CallResults.{results_in, with_replies};
 
 use crate::laws::law_runs_keep_their_promise;
@@ -11,8 +10,7 @@ use ata_types::{Call, CallResult, ClientId, Frame, MOST_CALL_BYTES, MemFault, Re
 
 impl<A: Adapter> Server<A> {
     ghost use Rattle.block_machine.specs.Events.{LoadAt};
-    ghost use Rattle.block_server.specs.AbstractCalls.{machine_result_of};
-    ghost use Rattle.block_server.specs.ServerView.{server_of};
+    ghost use Rattle.block_server.specs.{AbstractCalls.{machine_result_of}, ServerView.{server_of}};
     ghost use Rattle.server_history.specs.Histories.{ExtendsHistory};
     ghost use Rattle.adapter.specs.AccessBounds.{MakesAtMost};
 
@@ -26,9 +24,9 @@ impl<A: Adapter> Server<A> {
         offset: u32,
         count: u32,
     ) -> Result<ArrayVec<u8, MOST_CALL_BYTES>, MemFault>
-        ensures adds { ExtendsHistory (server_of A.device self.old) (server_of A.device self.new)
+        ensures extends_history { ExtendsHistory (server_of A.device self.old) (server_of A.device self.new)
             (LoadAt client frame offset (min count MOST_CALL_BYTES)) (machine_result_of (CallResult.Loaded result)) }
-        ensures wanted { self.new.wanted ≡ self.old.wanted }
+        ensures wanted_is_unchanged { self.new.wanted ≡ self.old.wanted }
         ensures cost { MakesAtMost 1 (A.access_count self.old.adapter) (A.access_count self.new.adapter) }
     {
         let mut buffer = [0; MOST_CALL_BYTES];
@@ -41,20 +39,17 @@ impl<A: Adapter> Server<A> {
 }
 
 impl<A: Stepped> Server<A> {
-    ghost use Rattle.block_server.specs.Promise.{RunsAsPromised};
-    ghost use Rattle.block_server.specs.AbstractCalls.{abstract_call_of, machine_result_of};
-    ghost use Rattle.block_server.specs.ServerView.{server_of};
+    ghost use Rattle.block_server.specs.{Promise.{RunsAsPromised}, AbstractCalls.{abstract_call_of, machine_result_of}, ServerView.{server_of}, Costs.{most_accesses_of, most_accesses_of_all}};
     ghost use Rattle.server_history.specs.Histories.{ExtendsHistory};
     ghost use Rattle.adapter.specs.AccessBounds.{MakesAtMost};
-    ghost use Rattle.block_server.specs.Costs.{most_accesses_of, most_accesses_of_all};
 
     /// Makes the call. What a service, a tick, a reset that ends, or a revocation of a grant that is there answered is
     /// all that `replies` has then; of what it has after another call nothing is told.
     fn make_call(&mut self, call: &Call<DeviceStep>, replies: &mut Replies) -> CallResult<()>
-        ensures adds { ExtendsHistory (server_of A.device self.old) (server_of A.device self.new)
+        ensures extends_history { ExtendsHistory (server_of A.device self.old) (server_of A.device self.new)
             (abstract_call_of call.now)
             (machine_result_of (with_replies result replies.new.items)) }
-        ensures wanted { self.new.wanted ≡ self.old.wanted }
+        ensures wanted_is_unchanged { self.new.wanted ≡ self.old.wanted }
         ensures cost { MakesAtMost (most_accesses_of call.now)
             (A.access_count self.old.adapter) (A.access_count self.new.adapter) }
     {
@@ -76,11 +71,11 @@ impl<A: Stepped> Server<A> {
             } => CallResult::Loaded(self.load_few(*client, *frame, *offset, *length)),
             Call::Service => {
                 self.service_into(replies);
-                CallResult::Served(())
+                CallResult::Replied(())
             }
             Call::Tick => {
                 self.tick_into(replies);
-                CallResult::Served(())
+                CallResult::Replied(())
             }
             Call::Reset => CallResult::WasReset(self.reset_into(replies)),
             Call::Revoke { client, number } => {
@@ -101,11 +96,13 @@ impl<A: Stepped> Server<A> {
         ensures done { OnOk result (RunsAsPromised A.device self.old self.new calls.now (results_in out.old)
             (results_in out.new)) }
         ensures stopped { IfErr result (λ e. e.at < length calls.now) }
-        ensures ample { vec_len out.old.earlier + length calls.now ≤ vec_capacity out.old.earlier → IsOk result }
-        ensures begun { IfErr result (λ e. RunsAsPromised A.device self.old self.new (take e.at calls.now)
+        ensures never_stops_with_room { vec_len out.old.earlier + length calls.now ≤ vec_capacity out.old.earlier
+            → IsOk result }
+        ensures calls_before_stop_are_run { IfErr result
+            (λ e. RunsAsPromised A.device self.old self.new (take e.at calls.now)
             (results_in out.old) (results_in out.new)) }
-        ensures last { OnOk result (1 ≤ length calls.now → IsSome out.new.last) }
-        ensures room { vec_capacity out.old.earlier ≤ vec_capacity out.new.earlier }
+        ensures last_result_is_there { OnOk result (1 ≤ length calls.now → IsSome out.new.last) }
+        ensures capacity_does_not_shrink { vec_capacity out.old.earlier ≤ vec_capacity out.new.earlier }
         ensures cost { MakesAtMost (most_accesses_of_all calls.now)
             (A.access_count self.old.adapter) (A.access_count self.new.adapter) }
     {

@@ -9,9 +9,9 @@ use crate::by_port::{
     destroy_quarantines, empty_quarantines, into_quarantines, overdue_ports, ready_ports,
     unserved_ports, wanted_disks,
 };
-use crate::limits::{MOST_CLIENT_UNANSWERED, leaves_disk};
+use crate::limits::{MOST_CLIENT_UNANSWERED, exceeds_disk};
 use crate::resetting::{
-    give_all_back, issue_ports, note_probe_result, note_stuck_reset, resolve_ports,
+    give_all_back, issue_due_on_ports, note_probe_result, note_stuck_reset, resolve_ports,
 };
 use adapter::{Adapter, DeviceStep, Stepped};
 use ata_types::{
@@ -25,18 +25,17 @@ use grants::{Grants, decide};
 use host_boot::{ProbeResult, reset, take_over};
 use identify::DiskInfo;
 use port_driver::{ServedPort, Shared};
-use request_queue::laws::law_the_book_stays_in_order;
+use request_queue::laws::law_book_stays_well_formed;
 use request_queue::{Book, PendingRequest};
 use server_history::laws::{
-    law_a_new_server_has_begun, law_acceptances_extend_history, law_aging_keeps_invariant,
-    law_device_steps_extend_history, law_refusals_extend_history, law_requests_preserve_invariant,
+    law_acceptances_extend_history, law_aging_keeps_invariant, law_device_steps_extend_history,
+    law_new_server_starts_history, law_refusals_extend_history, law_requests_preserve_invariant,
     law_services_extend_history, law_ticks_extend_history,
 };
-use server_history::resets::{law_a_reset_server_goes_on, law_resets_extend_history};
+use server_history::resets::{law_reset_leads_to_settled, law_resets_extend_history};
 use server_history::stuck_server::{
-    law_quarantined_loans_are_lent, law_server_invariant_holds, law_stuck_resets_extend_history,
-    law_stuck_servers_admit_none, law_stuck_services_extend_history,
-    law_stuck_ticks_extend_history,
+    law_quarantined_loans_are_lent, law_server_invariant_holds, law_stuck_calls_extend_history,
+    law_stuck_servers_admit_none,
 };
 use std::alloc::Global;
 use std::marker::Model;
@@ -56,31 +55,24 @@ pub struct Server<A: Adapter> {
 }
 
 impl<A: Adapter> Model for Server<A> {
-    ghost use Rattle.block_server.specs.FieldView.{server_view_of};
-    ghost use Rattle.server_history.specs.Histories.{InvariantByStuck};
-    ghost use Rattle.block_server.specs.ServerView.{ServerView, server_of};
+    ghost use Rattle.block_server.specs.{ServerFieldsView.{server_view_of}, ServerView.{ServerView, server_of}};
+    ghost use Rattle.server_history.specs.Histories.{InvariantBetweenCalls};
 
     ghost Value = { ServerView A };
 
     ghost view = { server_view_of };
 
-    ghost invariant = { λ s. InvariantByStuck s.stuck (server_of A.device (server_view_of s)) };
+    ghost invariant = { λ s. InvariantBetweenCalls s.stuck (server_of A.device (server_view_of s)) };
 }
 
 impl<A: Adapter> Server<A> {
-    ghost use Rattle.block_machine.specs.Events.{Reset, Service, Served, Submit, Submitted, State, Shown, Tick, WasReset};
-    ghost use Rattle.block_machine.specs.Refusals.{IsAcceptable, IsFirstRefusal};
-    ghost use Rattle.block_server.specs.Calls.{AcceptsRequest, IsRequestForPort, Submits, Services, TicksServer};
-    ghost use Rattle.block_server.specs.InitialServer.{IsReadyFor, IsInitialServer, RefusesConfig};
-    ghost use Rattle.block_server.specs.ServerView.{server_of};
+    ghost use Rattle.block_machine.specs.{Events.{Reset, Service, Replied, Submit, Submitted, State, PortStateShown, Tick, WasReset}, Refusals.{IsAcceptable, IsFirstRefusal}};
+    ghost use Rattle.block_server.specs.{Calls.{AcceptsRequest, IsRequestForPort, Submits, Services, TicksServer}, InitialServer.{IsReadyFor, IsInitialServer, IsWhyNoServerIsMade}, ServerView.{server_of}, Resetting.{DoesReset, reset_result}, Costs.{MOST_NEW_ACCESSES, MOST_RESET_ACCESSES, MOST_SERVICE_ACCESSES, MOST_SUBMIT_ACCESSES, MOST_TICK_ACCESSES}};
     ghost use Rattle.configuration.specs.Rules.{LacksEveryFault};
     ghost use Rattle.host_boot.specs.TakeOver.{probe_result_of};
-    ghost use Rattle.server_history.specs.Histories.{ExtendsHistory};
-    ghost use Rattle.block_server.specs.Resetting.{DoesReset, reset_said};
-    ghost use Rattle.server_history.specs.ServerState.{last_disk_of, remembered_at, admission_context, state_of, last_sectors_of, trims_of};
+    ghost use Rattle.server_history.specs.{Histories.{ExtendsHistory}, ServerState.{last_disk_of, remembered_at, admission_context, state_of, last_sectors_of, zeroes_after_trim_of}};
     ghost use Rattle.ata_types.specs.declared.PortState.TheVariants.{Ready};
     ghost use Rattle.adapter.specs.AccessBounds.{MakesAtMost};
-    ghost use Rattle.block_server.specs.Costs.{MOST_NEW_ACCESSES, MOST_RESET_ACCESSES, MOST_SERVICE_ACCESSES, MOST_SUBMIT_ACCESSES, MOST_TICK_ACCESSES};
 
     /// A server of an idle adapter, by a configuration: who owns which frames, which grants there are, and which disks
     /// are wanted. Each port is booted in which a disk is wanted; nothing is asked yet.
@@ -91,8 +83,8 @@ impl<A: Adapter> Server<A> {
     pub fn new(alloc: Global, config: &Config, mut adapter: A) -> Result<Self, (ServerError, A)>
         requires ready { IsReadyFor config.now (A.device adapter) }
         ensures made { IfOk result (IsInitialServer A.device config.now adapter) }
-        ensures sound { OnOk result (LacksEveryFault config.now) }
-        ensures refused { IfErr result (λ e. RefusesConfig config.now e.0 × (e.1 ≡ adapter)) }
+        ensures config_is_sound { OnOk result (LacksEveryFault config.now) }
+        ensures refused { IfErr result (λ e. IsWhyNoServerIsMade config.now e.0 × (e.1 ≡ adapter)) }
         ensures cost { IfOk result (λ server. MakesAtMost MOST_NEW_ACCESSES
             (A.access_count adapter) (A.access_count server.adapter)) }
     {
@@ -117,7 +109,7 @@ impl<A: Adapter> Server<A> {
         let mut ports = unserved_ports(plan.wanted(), kept);
         let host = take_over(&mut adapter, plan.wanted());
         note_probe_result(&mut ports, &host);
-        law_a_new_server_has_begun();
+        law_new_server_starts_history();
         Ok(Server {
             adapter,
             grants,
@@ -137,19 +129,20 @@ impl<A: Adapter> Server<A> {
 
     /// What a port was found to be.
     fn found(&self, port: Port) -> ProbeResult
-        ensures { result ≡ probe_result_of self.now.ports port.0 }
+        ensures { result ≡ probe_result_of self.now.probe_results port.0 }
     {
         match self.ports.get(usize::from(port.0)) {
-            Some(its) => its.found,
+            Some(its) => its.probe_result,
             None => ProbeResult::Unserved,
         }
     }
 
     /// What a port is to its clients. One that isn't served is `Absent`.
     pub fn state(&self, port: Port) -> PortState
-        ensures state { result ≡ state_of (probe_result_of self.now.ports port.0) }
-        ensures adds { ExtendsHistory (server_of A.device self.now) (server_of A.device self.now) (State port)
-            (Shown result) }
+        ensures state { result ≡ state_of (probe_result_of self.now.probe_results port.0) }
+        ensures extends_history { ExtendsHistory (server_of A.device self.now) (server_of A.device self.now)
+            (State port)
+            (PortStateShown result) }
     {
         law_refusals_extend_history();
         let _ = &self.adapter;
@@ -162,7 +155,7 @@ impl<A: Adapter> Server<A> {
 
     /// The disk that a port is ready with, or was last ready with, if it ever was.
     fn last_disk(&self, port: Port) -> Option<DiskInfo>
-        ensures { result ≡ last_disk_of (probe_result_of self.now.ports port.0)
+        ensures { result ≡ last_disk_of (probe_result_of self.now.probe_results port.0)
             (remembered_at self.now.remembered port.0) }
     {
         match self.ports.get(usize::from(port.0)) {
@@ -174,7 +167,7 @@ impl<A: Adapter> Server<A> {
     /// How many sectors that disk has; 0 where there is none.
     fn sectors(&self, port: Port) -> u64
         ensures { result
-            ≡ last_sectors_of (last_disk_of (probe_result_of self.now.ports port.0)
+            ≡ last_sectors_of (last_disk_of (probe_result_of self.now.probe_results port.0)
             (remembered_at self.now.remembered port.0)) }
     {
         match self.last_disk(port) {
@@ -187,7 +180,7 @@ impl<A: Adapter> Server<A> {
     /// isn't ready has none that does.
     fn lacks_trim(&self, r: &Request, port: Port) -> bool
         ensures { IsTrue result
-            ↔ ((r.now.op ≡ Op.Trim) × (trims_of (probe_result_of self.now.ports port.0) ≡ false)) }
+            ↔ ((r.now.op ≡ Op.Trim) × (zeroes_after_trim_of (probe_result_of self.now.probe_results port.0) ≡ false)) }
     {
         let trims = match self.found(port) {
             ProbeResult::Ready(info) => info.trim,
@@ -214,7 +207,7 @@ impl<A: Adapter> Server<A> {
         let PortState::Ready = state else {
             return Err(Refusal::PortNotReady(state));
         };
-        if leaves_disk(r, self.sectors(row.port)) {
+        if exceeds_disk(r, self.sectors(row.port)) {
             return Err(Refusal::OutsideDisk);
         }
         if self.lacks_trim(r, row.port) {
@@ -236,7 +229,8 @@ impl<A: Adapter> Server<A> {
         requires port { IsRequestForPort self.old.grants r.now port }
         ensures on { self.new.stuck ≡ false }
         ensures accepts { AcceptsRequest A.device self.old self.new r.now result }
-        ensures adds { ExtendsHistory (server_of A.device self.old) (server_of A.device self.new) (Submit r.now)
+        ensures extends_history { ExtendsHistory (server_of A.device self.old) (server_of A.device self.new)
+            (Submit r.now)
             (Submitted (Ok result)) }
         ensures cost { MakesAtMost MOST_SUBMIT_ACCESSES (A.access_count self.old.adapter)
             (A.access_count self.new.adapter) }
@@ -256,7 +250,7 @@ impl<A: Adapter> Server<A> {
                 count: r.count,
             },
             issued: false,
-            issues: 0,
+            issue_count: 0,
             age: 0,
             revoked: false,
         };
@@ -272,7 +266,8 @@ impl<A: Adapter> Server<A> {
     /// its frames are lent until then. Where refusals apply, the first of them is told, and nothing changes.
     pub fn submit(&mut self, r: &Request) -> Result<RequestId, Refusal>
         ensures submits { Submits A.device self.old self.new r.now result }
-        ensures adds { ExtendsHistory (server_of A.device self.old) (server_of A.device self.new) (Submit r.now)
+        ensures extends_history { ExtendsHistory (server_of A.device self.old) (server_of A.device self.new)
+            (Submit r.now)
             (Submitted result) }
         ensures cost { MakesAtMost MOST_SUBMIT_ACCESSES (A.access_count self.old.adapter)
             (A.access_count self.new.adapter) }
@@ -303,8 +298,8 @@ impl<A: Adapter> Server<A> {
     /// and all ports wait meanwhile. The replies stand port by port, each port's in order of acceptance.
     pub fn service(&mut self) -> Replies
         ensures services { Services A.device self.old self.new result.items }
-        ensures adds { ExtendsHistory (server_of A.device self.old) (server_of A.device self.new) Service
-            (Served result.items) }
+        ensures extends_history { ExtendsHistory (server_of A.device self.old) (server_of A.device self.new) Service
+            (Replied result.items) }
         ensures cost { MakesAtMost MOST_SERVICE_ACCESSES (A.access_count self.old.adapter)
             (A.access_count self.new.adapter) }
     {
@@ -316,13 +311,13 @@ impl<A: Adapter> Server<A> {
     /// The same, where the replies stand in a list that the caller keeps, in place of what it had.
     pub fn service_into(&mut self, replies: &mut Replies)
         ensures services { Services A.device self.old self.new replies.new.items }
-        ensures adds { ExtendsHistory (server_of A.device self.old) (server_of A.device self.new) Service
-            (Served replies.new.items) }
+        ensures extends_history { ExtendsHistory (server_of A.device self.old) (server_of A.device self.new) Service
+            (Replied replies.new.items) }
         ensures cost { MakesAtMost MOST_SERVICE_ACCESSES (A.access_count self.old.adapter)
             (A.access_count self.new.adapter) }
     {
         law_services_extend_history();
-        law_the_book_stays_in_order();
+        law_book_stays_well_formed();
         replies.clear();
         if self.stuck {
             return self.fail_all(replies);
@@ -343,13 +338,13 @@ impl<A: Adapter> Server<A> {
         requires stuck { self.old.stuck ≡ true }
         requires none { replies.old.items ≡ [] }
         ensures services { Services A.device self.old self.new replies.new.items }
-        ensures adds { ExtendsHistory (server_of A.device self.old) (server_of A.device self.new) Service
-            (Served replies.new.items) }
+        ensures extends_history { ExtendsHistory (server_of A.device self.old) (server_of A.device self.new) Service
+            (Replied replies.new.items) }
         ensures cost { MakesAtMost 0 (A.access_count self.old.adapter) (A.access_count self.new.adapter) }
     {
         law_server_invariant_holds();
-        law_stuck_services_extend_history();
-        law_the_book_stays_in_order();
+        law_stuck_calls_extend_history();
+        law_book_stays_well_formed();
         resolve_ports(&mut self.ports, &mut self.shared, replies);
     }
 
@@ -368,8 +363,8 @@ impl<A: Adapter> Server<A> {
     /// those of `service`.
     pub fn tick(&mut self) -> Replies
         ensures ticks { TicksServer A.device self.old self.new result.items }
-        ensures adds { ExtendsHistory (server_of A.device self.old) (server_of A.device self.new) Tick
-            (Served result.items) }
+        ensures extends_history { ExtendsHistory (server_of A.device self.old) (server_of A.device self.new) Tick
+            (Replied result.items) }
         ensures cost { MakesAtMost MOST_TICK_ACCESSES (A.access_count self.old.adapter)
             (A.access_count self.new.adapter) }
     {
@@ -381,15 +376,15 @@ impl<A: Adapter> Server<A> {
     /// The same, where the replies stand in a list that the caller keeps, in place of what it had.
     pub fn tick_into(&mut self, replies: &mut Replies)
         ensures ticks { TicksServer A.device self.old self.new replies.new.items }
-        ensures adds { ExtendsHistory (server_of A.device self.old) (server_of A.device self.new) Tick
-            (Served replies.new.items) }
+        ensures extends_history { ExtendsHistory (server_of A.device self.old) (server_of A.device self.new) Tick
+            (Replied replies.new.items) }
         ensures cost { MakesAtMost MOST_TICK_ACCESSES (A.access_count self.old.adapter)
             (A.access_count self.new.adapter) }
     {
         law_aging_keeps_invariant();
         law_ticks_extend_history();
-        law_stuck_ticks_extend_history();
-        law_the_book_stays_in_order();
+        law_stuck_calls_extend_history();
+        law_book_stays_well_formed();
         replies.clear();
         if self.stuck {
             // No port is ready, so no request gets older.
@@ -428,7 +423,7 @@ impl<A: Adapter> Server<A> {
         ensures adds { IfOk result
             (λ replies. ExtendsHistory (server_of A.device self.old) (server_of A.device self.new)
             Reset (WasReset (Some replies.items))) }
-        ensures adds_stuck { IfErr result
+        ensures stuck_extends_history { IfErr result
             (λ why. ExtendsHistory (server_of A.device self.old) (server_of A.device self.new)
             Reset (WasReset None)) }
         ensures cost { MakesAtMost MOST_RESET_ACCESSES (A.access_count self.old.adapter)
@@ -442,17 +437,17 @@ impl<A: Adapter> Server<A> {
     /// The same, where the replies stand in a list that the caller keeps, in place of what it had.
     pub fn reset_into(&mut self, replies: &mut Replies) -> Result<(), AdapterStuck>
         ensures resets { DoesReset A.device self.old self.new replies.new.items result }
-        ensures adds { ExtendsHistory (server_of A.device self.old) (server_of A.device self.new) Reset
-            (reset_said result replies.new.items) }
+        ensures extends_history { ExtendsHistory (server_of A.device self.old) (server_of A.device self.new) Reset
+            (reset_result result replies.new.items) }
         ensures cost { MakesAtMost MOST_RESET_ACCESSES (A.access_count self.old.adapter)
             (A.access_count self.new.adapter) }
     {
         law_server_invariant_holds();
         law_quarantined_loans_are_lent();
-        law_a_reset_server_goes_on();
+        law_reset_leads_to_settled();
         law_resets_extend_history();
-        law_stuck_resets_extend_history();
-        law_the_book_stays_in_order();
+        law_stuck_calls_extend_history();
+        law_book_stays_well_formed();
         replies.clear();
         if let Err(stuck) = reset(&mut self.adapter) {
             note_stuck_reset(&mut self.ports);
@@ -464,7 +459,7 @@ impl<A: Adapter> Server<A> {
         note_probe_result(&mut self.ports, &host);
         self.stuck = false;
         resolve_ports(&mut self.ports, &mut self.shared, replies);
-        issue_ports(&mut self.ports, &mut self.adapter, &mut self.shared);
+        issue_due_on_ports(&mut self.ports, &mut self.adapter, &mut self.shared);
         Ok(())
     }
 
@@ -491,16 +486,16 @@ impl<A: Adapter> Server<A> {
 }
 
 impl<A: Stepped> Server<A> {
-    ghost use Rattle.block_machine.specs.Events.{Device as Told, Stepped};
-    ghost use Rattle.block_server.specs.Calls.{StepsDevice};
-    ghost use Rattle.block_server.specs.ServerView.{server_of};
+    ghost use Rattle.block_machine.specs.Events.{StepDevice as Told, Stepped};
+    ghost use Rattle.block_server.specs.{Calls.{StepsDevice}, ServerView.{server_of}};
     ghost use Rattle.server_history.specs.Histories.{ExtendsHistory};
     ghost use Rattle.adapter.specs.AccessBounds.{MakesAtMost};
 
     /// Has the device do a step, if that is possible.
     pub fn device(&mut self, step: &DeviceStep) -> bool
         ensures steps { StepsDevice A.device self.old self.new step.now result }
-        ensures adds { ExtendsHistory (server_of A.device self.old) (server_of A.device self.new) (Told step.now)
+        ensures extends_history { ExtendsHistory (server_of A.device self.old) (server_of A.device self.new)
+            (Told step.now)
             (Stepped result) }
         ensures cost { MakesAtMost 0 (A.access_count self.old.adapter) (A.access_count self.new.adapter) }
     {

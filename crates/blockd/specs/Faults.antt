@@ -27,9 +27,9 @@ status_of NoMemory = 1
 status_of Unwritten = 1
 
 -- what the program makes of how a script's play ended
-abbrev pub outcome_of : Ended → Result (Unit {0}) BlockdError
-outcome_of ended.Done = Ok tt
-outcome_of (ended.Config kind) = Err (Config (kind_number kind))
-outcome_of (ended.Line number) = Err (Line number)
-outcome_of ended.NoMemory = Err NoMemory
-outcome_of ended.Unwritten = Err Unwritten
+abbrev pub program_result_of : Ended → Result (Unit {0}) BlockdError
+program_result_of ended.Done = Ok tt
+program_result_of (ended.Config kind) = Err (Config (kind_number kind))
+program_result_of (ended.Line number) = Err (Line number)
+program_result_of ended.NoMemory = Err NoMemory
+program_result_of ended.Unwritten = Err Unwritten

@@ -10,50 +10,50 @@ use Rattle.sector_store.specs.Stores.{followed_by_zeros}
 use Rattle.sector_store.specs.declared.store.MemStore.{MemStore}
 use Rattle.blockd.specs.declared.command_line.Args.{Args}
 use Rattle.device_model.specs.declared.model.Model.{Model}
-use Rattle.play.specs.PlayedScript.{Ends}
+use Rattle.play.specs.PlayedScript.{EndsPlay}
 use Rattle.play.specs.declared.session.Ended.{Ended}
 use Rattle.play.specs.declared.session.Ended.TheVariants.{Done}
-use Rattle.blockd.specs.Faults.{outcome_of}
+use Rattle.blockd.specs.Faults.{program_result_of}
 use Rattle.blockd.specs.declared.fault.BlockdError.{BlockdError}
 use Rattle.blockd.specs.declared.fault.BlockdError.TheVariants.{Config, Image, Script, Unwritten}
 use Rattle.blockd.specs.declared.fault.BlockdError.TheVariants as fault
 use Rattle.blockd.specs.declared.program.Inputs.{Inputs}
 use Rattle.blockd.specs.declared.program.FileError.{FileError}
-use Rattle.blockd.specs.declared.program.FileError.TheVariants.{NoMemory, Refused}
+use Rattle.blockd.specs.declared.program.FileError.TheVariants.{NoMemory, Unavailable}
 
 -- ---- its files
 
 -- the fault that is told where a file can't be had: this one, unless memory was refused
-abbrev pub fault_of : FileError → BlockdError → BlockdError
-fault_of NoMemory _ = fault.NoMemory
-fault_of Refused told = told
+abbrev pub file_fault_of : FileError → BlockdError → BlockdError
+file_fault_of NoMemory _ = fault.NoMemory
+file_fault_of Unavailable told = told
 
 module _ {H : Type 0} (reads : H → H → List ℕ → Result (Vec ℕ) FileError → Type 0)
     (opens : H → H → List ℕ → Result FileStore FileError → Type 0) (args : Args) where
   -- what the run is made of, where the image could be opened
-  abbrev pub made : (config script : Vec ℕ) → Result FileStore FileError → Result Inputs BlockdError
-  made config script (Ok image) = Ok (record { config = config; script = script; image = image })
-  made config script (Err why) = Err (fault_of why Image)
+  abbrev pub inputs_of : (config script : Vec ℕ) → Result FileStore FileError → Result Inputs BlockdError
+  inputs_of config script (Ok image) = Ok (record { config = config; script = script; image = image })
+  inputs_of config script (Err why) = Err (file_fault_of why Image)
 
   -- once the script was read, the image is opened
   abbrev pub LoadsImage : (old new : H) → Vec ℕ → Result (Vec ℕ) FileError → Result Inputs BlockdError → Type 0
   LoadsImage old new config (Ok script) result =
       (image : Result FileStore FileError) × opens old new (string_bytes args.image) image
-      × (result ≡ made config script image)
-  LoadsImage old new config (Err why) result = (new ≡ old) × (result ≡ Err (fault_of why Script))
+      × (result ≡ inputs_of config script image)
+  LoadsImage old new config (Err why) result = (new ≡ old) × (result ≡ Err (file_fault_of why Script))
 
   -- once the configuration was read, the script is
-  abbrev pub LoadsScript : (old new : H) → Result (Vec ℕ) FileError → Result Inputs BlockdError → Type 0
-  LoadsScript old new (Ok config) result =
+  abbrev pub LoadsScriptThenImage : (old new : H) → Result (Vec ℕ) FileError → Result Inputs BlockdError → Type 0
+  LoadsScriptThenImage old new (Ok config) result =
       (script : Result (Vec ℕ) FileError) × (read : H) × reads old read (string_bytes args.script) script
       × LoadsImage read new config script result
-  LoadsScript old new (Err why) result = (new ≡ old) × (result ≡ Err (fault_of why (Config 0)))
+  LoadsScriptThenImage old new (Err why) result = (new ≡ old) × (result ≡ Err (file_fault_of why (Config 0)))
 
   -- The host was asked for the files that the words name: the configuration, then the script, then the image, as far as
   -- each could be had.
   abbrev pub Loads : (old new : H) → Result Inputs BlockdError → Type 0
   Loads old new result = (config : Result (Vec ℕ) FileError) × (read : H)
-      × reads old read (string_bytes args.config) config × LoadsScript read new config result
+      × reads old read (string_bytes args.config) config × LoadsScriptThenImage read new config result
 
 -- ---- its run
 
@@ -67,7 +67,7 @@ pub record AreDisksOver (image : FileStore) (first second : DiskStore) : Type 0 
 
 -- What is told is how the play ended; or, where that was well, that the output failed to hand on what it had gathered.
 abbrev pub TellsEnd : Ended → Result (Unit {0}) BlockdError → Type 0
-TellsEnd ended result = (result ≡ outcome_of ended) ⊎ ((ended ≡ Done) × (result ≡ Err Unwritten))
+TellsEnd ended result = (result ≡ program_result_of ended) ⊎ ((ended ≡ Done) × (result ≡ Err Unwritten))
 
 -- The script was played over both disks, as far as it could be, and the output keeps what it took then. What is told is
 -- how that ended.
@@ -77,6 +77,6 @@ pub record RunsScript {S : Type 0} (size : S → ℕ) (told : S → Option (ℕ 
   pub ended : Ended
   pub model : Option (Model S)
   pub printed : Option (List ℕ)
-  pub ends : Ends size told config script image blank trace old printed ended model
-  pub keeps : Keeps printed new
-  pub tells : TellsEnd ended result
+  pub ends : EndsPlay size told config script image blank trace old printed ended model
+  pub output_is_kept : Keeps printed new
+  pub tells_end : TellsEnd ended result

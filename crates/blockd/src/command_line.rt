@@ -4,8 +4,7 @@
 //! project's own).
 ghost use Rattle.std.specs.Prelude.{◌≡◌, ◌≢◌, ◌↔◌, IsTrue, codes, [], List, false, map, string_bytes, IfOk, None};
 ghost use Rattle.clap.specs.Words.{app_of, rule_of, fault_of, first_of, found_of, matches_of, rows_of};
-ghost use Rattle.blockd.specs.declared.command_line.ArgsFault.TheVariants.{NoMemory};
-ghost use Rattle.blockd.specs.CommandLine.{blockd_app, file_option, AreArgsOf, MatchesHaveValues};
+ghost use Rattle.blockd.specs.{declared.command_line.ArgsFault.TheVariants.{NoMemory}, CommandLine.{blockd_app, file_option, AreArgsOf, MatchesHaveValues}};
 
 use clap::error::ErrorKind;
 use clap::{Arg, ArgAction, ArgMatches, Command};

@@ -1,7 +1,6 @@
 // Why the program ends without having played a script, and how it says so.
 ghost use Rattle.std.specs.Prelude.{◌≡◌, Some};
-ghost use Rattle.blockd.specs.Faults.{fault_text, outcome_of, status_of};
-ghost use Rattle.blockd.specs.declared.fault.BlockdError.TheVariants.{NoMemory};
+ghost use Rattle.blockd.specs.{Faults.{fault_text, program_result_of, status_of}, declared.fault.BlockdError.TheVariants.{NoMemory}};
 
 use play::Ended;
 use std::alloc::AllocError;
@@ -75,8 +74,8 @@ impl BlockdError {
 }
 
 /// What the program makes of how a script's play ended.
-pub fn outcome(ended: Ended) -> Result<(), BlockdError>
-    ensures { result ≡ outcome_of ended }
+pub fn program_result(ended: Ended) -> Result<(), BlockdError>
+    ensures { result ≡ program_result_of ended }
 {
     match ended {
         Ended::Done => Ok(()),

@@ -8,6 +8,7 @@
 
 use command_line::{Args, ArgsFault};
 use fault::BlockdError;
+use play::PlayInputs;
 use program::{FileError, FileSource, Inputs, disks_over, load, run_script};
 use sector_store::FileStore;
 use std::fs::{self, File, Files};
@@ -69,7 +70,7 @@ impl From<io::Error> for FileError {
         if error.kind() == io::ErrorKind::OutOfMemory {
             FileError::NoMemory
         } else {
-            FileError::Refused
+            FileError::Unavailable
         }
     }
 }
@@ -117,7 +118,14 @@ fn print_played(
     let mut out = BufWriter::with_capacity(rt.alloc(), gathered, io::writer(rt)).map_err(
         |error| unless_memory(&error, BlockdError::Unwritten),
     )?;
-    let ran = run_script(rt.alloc(), config, script, image, blank, trace, &mut out);
+    let inputs = PlayInputs {
+        config,
+        script,
+        image,
+        blank,
+        trace,
+    };
+    let ran = run_script(rt.alloc(), inputs, &mut out);
     // What couldn't be written isn't tried again.
     let (_writer, _unwritten) = out.into_parts();
     ran

@@ -1,15 +1,11 @@
 // What the program makes of its files, once they are read: `main` hands over what the system gives.
-ghost use Rattle.std.specs.Prelude.{◌≡◌, ℕ, IfOk, List};
-ghost use Rattle.std.specs.Global.{Vec as VecOf};
-ghost use Rattle.std.specs.Io.KnownBytes.{Keeps};
-ghost use Rattle.std.specs.declared.result.Result.{Result as ResultOf};
+ghost use Rattle.std.specs.{Prelude.{◌≡◌, ℕ, IfOk, List}, Global.{Vec as VecOf}, Io.KnownBytes.{Keeps}, declared.result.Result.{Result as ResultOf}};
 ghost use Rattle.sector_store.specs.declared.file.FileStore.{FileStore as FileStoreOf};
-ghost use Rattle.blockd.specs.Program.{AreDisksOver, Loads, RunsScript, TellsEnd, fault_of};
-ghost use Rattle.blockd.specs.declared.program.FileError.{FileError as UnreadOf};
+ghost use Rattle.blockd.specs.{Program.{AreDisksOver, Loads, RunsScript, TellsEnd, file_fault_of}, declared.program.FileError.{FileError as UnreadOf}};
 
 use crate::command_line::Args;
-use crate::fault::{BlockdError, outcome};
-use play::{Ended, play};
+use crate::fault::{BlockdError, program_result};
+use play::{Ended, PlayInputs, play};
 use sector_store::{DiskStore, FileStore, MemStore, SectorStore};
 use std::alloc::{AllocError, Global};
 use std::io;
@@ -23,17 +19,17 @@ pub enum FileError {
     /// Memory was refused.
     NoMemory,
     /// The system doesn't give it.
-    Refused,
+    Unavailable,
 }
 
 impl FileError {
     /// The fault that is told of it: this one, unless memory was refused.
     fn fault(self, fault: BlockdError) -> BlockdError
-        ensures { result ≡ fault_of self fault }
+        ensures { result ≡ file_fault_of self fault }
     {
         match self {
             FileError::NoMemory => BlockdError::NoMemory,
-            FileError::Refused => fault,
+            FileError::Unavailable => fault,
         }
     }
 }
@@ -104,7 +100,7 @@ fn flush_output<W: io::Write>(ended: Ended, out: &mut W) -> Result<(), BlockdErr
         Ended::Done => out.flush().map_err(|_error| BlockdError::Unwritten),
         _ => {
             let _flushed = out.flush();
-            outcome(ended)
+            program_result(ended)
         }
     }
 }
@@ -112,16 +108,13 @@ fn flush_output<W: io::Write>(ended: Ended, out: &mut W) -> Result<(), BlockdErr
 /// Plays a script over an image and a blank disk, and has the output hand on what it gathered.
 pub fn run_script<S: SectorStore, W: io::Write>(
     alloc: Global,
-    config: &[u8],
-    script: &[u8],
-    image: S,
-    blank: S,
-    trace: bool,
+    inputs: PlayInputs<S>,
     out: &mut W,
 ) -> Result<(), BlockdError>
-    ensures { RunsScript S.size S.told config.now script.now image blank trace (W.contents out.old) (W.contents out.new)
-        result }
+    ensures { let its = inputs.entry in RunsScript S.size S.told its.config.now its.script.now its.image its.blank
+        its.trace
+        (W.contents out.old) (W.contents out.new) result }
 {
-    let finished = play(alloc, config, script, image, blank, trace, out);
+    let finished = play(alloc, inputs, out);
     flush_output(finished.ended, out)
 }

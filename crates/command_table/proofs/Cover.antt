@@ -9,7 +9,7 @@ use Rattle.adapter.specs.declared.command.Prd.{Prd}
 use Rattle.adapter.specs.Decoding.{pieces, piece_addresses, IsWholePieces}
 use Rattle.adapter.specs.Encoding.{IsAllowedPrd}
 use Rattle.command_table.specs.SectorPlaces.{place_of, places_of, frame_number}
-use Rattle.command_table.specs.FrameRuns.{IsLongestRun, CoversRun, PrdsCoverFrames, frame_count_in}
+use Rattle.command_table.specs.FrameRuns.{IsRunFromFirst, CoversRun, PrdsCoverFrames, frame_count_in}
 
 -- the frames hold so many bytes, and the last of them at least one
 pub record Fits (frames : List Frame) (bytes : ℕ) : Type 0 where
@@ -22,14 +22,14 @@ module _ (frames : List Frame) (bytes : ℕ) (e : Prd) (fits : Fits frames bytes
   size_is = c.size
 
   pub some_bytes : 0 < e.bytes
-  some_bytes = let s = size_is in let n = c.run.is_not_empty in let l = fits.last in let w = c.run.within in omega (arith, s, n, l, w)
+  some_bytes = let s = size_is in let n = c.run.is_not_empty in let l = fits.last in let w = c.run.length_in_range in omega (arith, s, n, l, w)
 
   pub few_bytes : e.bytes ≤ 4096 * length frames
-  few_bytes = let s = size_is in let w = c.run.within in omega (arith, s, w)
+  few_bytes = let s = size_is in let w = c.run.length_in_range in omega (arith, s, w)
 
   pub fits_on : Fits (drop (frame_count_in e) frames) (bytes - e.bytes)
   fits_on =
-      let s = size_is in let w = c.run.within in let l = fits.last in let h = fits.within in
+      let s = size_is in let w = c.run.length_in_range in let l = fits.last in let h = fits.within in
       let d : length (drop (frame_count_in e) frames) ≡ length frames - frame_count_in e = length-drop (frame_count_in e) frames in
       record { within = omega (arith, s, w, l, h, d); last = omega (arith, s, w, l, h, d) }
 
@@ -97,7 +97,7 @@ module _ (frames : List Frame) where
       let number : (k : ℕ) → frame_number (drop s frames) k ≡ frame_number frames (s + k) = λ (k : ℕ). ap (λ (f : Frame). f.0) (get_or-drop s frames k (record { 0 = 0 })) in
       let base : s + 0 ≡ s = omega arith in
       let start : frame_number (drop s frames) 0 ≡ frame_number frames s = number 0 ∙ ap (frame_number frames) base in
-      let rising : (k : ℕ) → k < n → frame_number frames (s + k) ≡ frame_number frames s + k = λ (k : ℕ) (lt : k < n). sym (number k) ∙ (j.0.run.rising k lt ∙ ap (λ (x : ℕ). x + k) start) in
+      let rising : (k : ℕ) → k < n → frame_number frames (s + k) ≡ frame_number frames s + k = λ (k : ℕ) (lt : k < n). sym (number k) ∙ (j.0.run.numbers_rise_by_one k lt ∙ ap (λ (x : ℕ). x + k) start) in
       let address : e.address ≡ 4096 * frame_number frames s = j.0.address ∙ ap (λ (x : ℕ). 4096 * x) start in
       let later : pieces es ≡ map (place_of frames) (range_with_len (8 * (s + n)) ((left - e.bytes) / 512)) =
       cover_from es (s + n) (left - e.bytes) (omega (arith, size, whole)) (subst (λ (fs : List Frame). Fits fs (left - e.bytes)) (drop-drop n s frames) (fits_on (drop s frames) left e fits j.0)) (subst (λ (fs : List Frame). PrdsCoverFrames fs (left - e.bytes) es) (drop-drop n s frames) j.1) in
@@ -120,7 +120,7 @@ joined_cover frames bytes es fits j whole = cover_from frames es 0 bytes whole f
 -- the frames from a place on whose numbers were seen to rise, and no further
 pub longest : (frames : List Frame) (from n : ℕ) → from + n ≤ length frames → 0 < n
     → ((k : ℕ) → k < n → frame_number frames (from + k) ≡ frame_number frames from + k)
-    → (n < length frames - from → frame_number frames (from + n) ≡ frame_number frames from + n → ⊥) → IsLongestRun (drop from frames) n
+    → (n < length frames - from → frame_number frames (from + n) ≡ frame_number frames from + n → ⊥) → IsRunFromFirst (drop from frames) n
 longest frames from n within some rising ends =
     let d : length (drop from frames) ≡ length frames - from = length-drop from frames in
     let number : (k : ℕ) → frame_number (drop from frames) k ≡ frame_number frames (from + k) = λ (k : ℕ). ap (λ (f : Frame). f.0) (get_or-drop from frames k (record { 0 = 0 })) in
@@ -128,24 +128,24 @@ longest frames from n within some rising ends =
     let first : frame_number (drop from frames) 0 ≡ frame_number frames from = number 0 ∙ ap (frame_number frames) base in
     record {
       is_not_empty = some;
-      within = omega (arith, d, within);
-      rising = λ k lt. number k ∙ (rising k lt ∙ ap (λ (x : ℕ). x + k) (sym first));
+      length_in_range = omega (arith, d, within);
+      numbers_rise_by_one = λ k lt. number k ∙ (rising k lt ∙ ap (λ (x : ℕ). x + k) (sym first));
       run_ends = λ lt e. ends (omega (arith, d, lt)) (sym (number n) ∙ (e ∙ ap (λ (x : ℕ). x + n) first));
     }
 
 -- one PRD more, of the longest run of the frames that are left
 pub joined_more : (frames : List Frame) (covered left count : ℕ) (e : Prd) (es : List Prd) → covered < length frames → 4096 * (length frames - covered) < left + 4096
-    → IsLongestRun (drop covered frames) count → e.address ≡ 4096 * frame_number frames covered → e.bytes ≡ min left (4096 * count)
+    → IsRunFromFirst (drop covered frames) count → e.address ≡ 4096 * frame_number frames covered → e.bytes ≡ min left (4096 * count)
     → PrdsCoverFrames (drop (covered + count) frames) (left - e.bytes) es → PrdsCoverFrames (drop covered frames) left (e ∷ es)
 joined_more frames covered left count e es lt last run address size rest =
     let d : length (drop covered frames) ≡ length frames - covered = length-drop covered frames in
-    let w = run.within in
+    let w = run.length_in_range in
     let all : frame_count_in e ≡ count = omega (arith, d, w, size, last) in
     let base : covered + 0 ≡ covered = omega arith in
     let first : frame_number (drop covered frames) 0 ≡ frame_number frames covered = ap (λ (f : Frame). f.0) (get_or-drop covered frames 0 (record { 0 = 0 })) ∙ ap (frame_number frames) base in
     let back : drop (covered + count) frames ≡ drop (frame_count_in e) (drop covered frames) = sym (drop-drop count covered frames) ∙ ap (λ (n : ℕ). drop n (drop covered frames)) (sym all) in (
       record {
-        run = subst (IsLongestRun (drop covered frames)) (sym all) run;
+        run = subst (IsRunFromFirst (drop covered frames)) (sym all) run;
         address = address ∙ ap (λ (x : ℕ). 4096 * x) (sym first);
         size = size ∙ ap (λ (n : ℕ). min left (4096 * n)) (sym all);
       },

@@ -20,11 +20,11 @@ part_agrees n i j xs ys fits fits' h =
 -- a part before what was written
 pub part_before : (old new : List ℕ) (at : ℕ) (bytes : List ℕ) → StoresBytes old new at bytes → at + length bytes ≤ length old → (i n : ℕ) → i + n ≤ at → bytes_from new i n ≡ bytes_from old i n
 part_before old new at bytes s room i n fits =
-    part_agrees n i i new old (omega (arith, s.size)) (omega arith) (λ m lt. s.before (i + m) (omega arith))
+    part_agrees n i i new old (omega (arith, s.length_is_kept)) (omega arith) (λ m lt. s.before_is_kept (i + m) (omega arith))
 
 -- what was written, whole
 pub part_whole : (old new : List ℕ) (at : ℕ) (bytes : List ℕ) → StoresBytes old new at bytes → at + length bytes ≤ length old → bytes_from new at (length bytes) ≡ bytes
 part_whole old new at bytes s room =
-    numbers_alike (bytes_from new at (length bytes)) bytes (part_length (length bytes) at new (omega (arith, s.size))) (λ k lt.
+    numbers_alike (bytes_from new at (length bytes)) bytes (part_length (length bytes) at new (omega (arith, s.length_is_kept))) (λ k lt.
     let small : k < length bytes = omega (arith, length-take (length bytes) (drop at new)) in
     get_or-take (length bytes) (drop at new) k 0 small ∙ get_or-drop at new k 0 ∙ s.inside k small)

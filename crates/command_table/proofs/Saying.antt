@@ -1,5 +1,5 @@
 -- A table and a header that stand in memory say their command.
-use Rattle.ata_types.specs.declared.memory.TheConstants.{PRD_BYTES, TABLE_HEAD}
+use Rattle.ata_types.specs.declared.memory.TheConstants.{PRD_BYTES, TABLE_HEAD_BYTES}
 use Rattle.ata_types.specs.declared.limits.TheConstants.{MOST_REQUEST_FRAMES}
 use Rattle.std.proofs.Common.{ℕ, suc, ◌≡◌, ◌+◌, ◌*◌, ◌<◌, ◌≤◌, Bool, List, [], ◌∷◌, length, take, drop, refl, sym, ◌∙◌, ap, subst, arith, slice_index, slice_index_or, length-drop}
 use Rattle.std.proofs.lemmas.List.{get_or-take, get_or-drop, length-take}
@@ -19,12 +19,12 @@ use Rattle.command_table.proofs.Parts.{numbers_alike}
 pub part_at : MemoryLaws → (memory : ℕ → ℕ) (at n : ℕ) (bs : List ℕ) (i k : ℕ) → bytes_at memory at n ≡ take n bs → n ≤ length bs → i + k ≤ n → bytes_at memory (at + i) k ≡ bytes_from bs i k
 part_at laws memory at n bs i k e fits le =
     let size : length (bytes_from bs i k) ≡ k = simp (length-take, length-drop) (omega arith) in
-    numbers_alike (bytes_at memory (at + i) k) (bytes_from bs i k) (laws.counts memory (at + i) k ∙ sym size) (λ j lt.
-    let small : j < k = omega (arith, laws.counts memory (at + i) k) in
+    numbers_alike (bytes_at memory (at + i) k) (bytes_from bs i k) (laws.length_is_count memory (at + i) k ∙ sym size) (λ j lt.
+    let small : j < k = omega (arith, laws.length_is_count memory (at + i) k) in
     let place : at + i + j ≡ at + (i + j) = omega arith in
-    laws.each memory (at + i) k j small
+    laws.byte_at_index memory (at + i) k j small
     ∙ ap memory place
-    ∙ sym (laws.each memory at n (i + j) (omega arith))
+    ∙ sym (laws.byte_at_index memory at n (i + j) (omega arith))
     ∙ ap (λ (xs : List ℕ). slice_index xs (i + j)) e
     ∙ get_or-take n bs (i + j) 0 (omega arith)
     ∙ sym (get_or-drop i bs j 0)
@@ -42,13 +42,13 @@ prds_stand memory (e ∷ es) at each =
     )
 
 -- a table at the head of some bytes, which memory holds with FIS and PRDs, and a header
-module _ (laws : MemoryLaws) (memory : ℕ → ℕ) (list slot at : ℕ) (prds : List Prd) (table header : List ℕ) (few : length prds ≤ MOST_REQUEST_FRAMES) (size : TABLE_HEAD + PRD_BYTES * length prds ≤ length table)
-    (here : bytes_at memory at (TABLE_HEAD + PRD_BYTES * length prds) ≡ take (TABLE_HEAD + PRD_BYTES * length prds) table) (head : bytes_at memory (list + 32 * slot) 32 ≡ header)
+module _ (laws : MemoryLaws) (memory : ℕ → ℕ) (list slot at : ℕ) (prds : List Prd) (table header : List ℕ) (few : length prds ≤ MOST_REQUEST_FRAMES) (size : TABLE_HEAD_BYTES + PRD_BYTES * length prds ≤ length table)
+    (here : bytes_at memory at (TABLE_HEAD_BYTES + PRD_BYTES * length prds) ≡ take (TABLE_HEAD_BYTES + PRD_BYTES * length prds) table) (head : bytes_at memory (list + 32 * slot) 32 ≡ header)
     (writes : Bool) (command : Command) (direction : (o : Operation) (s first count : ℕ) → command ≡ command_of o s first count → writes ≡ reads_memory o) (fis : EncodesCommand (bytes_from table 0 20) command)
-    (each : (i : ℕ) (d : Prd) → i < length prds → EncodesPrd (bytes_from table (TABLE_HEAD + PRD_BYTES * i) 16) (slice_index_or prds i d))
+    (each : (i : ℕ) (d : Prd) → i < length prds → EncodesPrd (bytes_from table (TABLE_HEAD_BYTES + PRD_BYTES * i) 16) (slice_index_or prds i d))
     (heads : EncodesHeader header writes (length prds) at) where
-  part_here : (i k : ℕ) → i + k ≤ TABLE_HEAD + PRD_BYTES * length prds → bytes_at memory (at + i) k ≡ bytes_from table i k
-  part_here i k fits = part_at laws memory at (TABLE_HEAD + PRD_BYTES * length prds) table i k here size fits
+  part_here : (i k : ℕ) → i + k ≤ TABLE_HEAD_BYTES + PRD_BYTES * length prds → bytes_at memory (at + i) k ≡ bytes_from table i k
+  part_here i k fits = part_at laws memory at (TABLE_HEAD_BYTES + PRD_BYTES * length prds) table i k here size fits
 
   fis_here : bytes_at memory at 20 ≡ bytes_from table 0 20
   fis_here = let same : at + 0 ≡ at = omega arith in ap (λ (a : ℕ). bytes_at memory a 20) (sym same) ∙ part_here 0 20 (omega arith)
@@ -66,10 +66,10 @@ module _ (laws : MemoryLaws) (memory : ℕ → ℕ) (list slot at : ℕ) (prds :
           header = subst W (direction m.operation slot m.first m.count is.fields) (subst H (sym head) heads);
           fis = subst C is.fields (subst F (sym fis_here) fis);
           meaning = is.meaning;
-          prds_stand = prds_stand memory prds (at + 128) (λ i d lt.
+          prds_are_encoded = prds_stand memory prds (at + 128) (λ i d lt.
               let P : List ℕ → Type 0 = λ bytes. EncodesPrd bytes (slice_index_or prds i d) in
-              let place : at + (TABLE_HEAD + PRD_BYTES * i) ≡ at + TABLE_HEAD + PRD_BYTES * i = omega arith in
-              subst P (sym (part_here (TABLE_HEAD + PRD_BYTES * i) 16 (omega arith)) ∙ ap (λ (a : ℕ). bytes_at memory a 16) place) (each i d lt));
+              let place : at + (TABLE_HEAD_BYTES + PRD_BYTES * i) ≡ at + TABLE_HEAD_BYTES + PRD_BYTES * i = omega arith in
+              subst P (sym (part_here (TABLE_HEAD_BYTES + PRD_BYTES * i) 16 (omega arith)) ∙ ap (λ (a : ℕ). bytes_at memory a 16) place) (each i d lt));
           prd_count_is_allowed = omega arith;
           prds_are_whole_pieces = is.prds_are_whole_pieces;
           places_are = is.places_are;

@@ -10,13 +10,13 @@ use Rattle.adapter.specs.Memory.{bytes_at, patched}
 use Rattle.adapter.specs.Rules.{IsOn, IsStable, IsUnowned}
 use Rattle.block_machine.specs.Histories.{IsReachable}
 use Rattle.block_machine.specs.State.{Machine}
-use Rattle.refinement.specs.Driver.{KeepsTables, MayStore, MissesTable}
+use Rattle.refinement.specs.Driver.{KeepsTablesAndScratch, MayStore, MissesHeaderAndTable}
 use Rattle.refinement.specs.Laws.{FragmentLaws}
-use Rattle.refinement.specs.Links.{SameAdapter}
-use Rattle.refinement.specs.MemoryLayout.{list_of}
+use Rattle.refinement.specs.PreservedParts.{SameAdapter}
+use Rattle.refinement.specs.MemoryLayout.{command_list_address}
 use Rattle.refinement.specs.Relation.{StateRelation}
 use Rattle.refinement.specs.Slots.{SlotDecodesTo, SlotStates}
-use Rattle.command_table.specs.TableStores.{IsStoreWithBlock, IsTableStore, IsUnused}
+use Rattle.command_table.specs.TableStores.{IsHeaderTableOrBlockStore, IsHeaderOrTableStore, IsUnused}
 
 -- header and table of a slot of a port are stored; or these of its slot 0, and a block
 pub data AccessPurpose : Type 0 where
@@ -24,8 +24,8 @@ pub data AccessPurpose : Type 0 where
   TablesAndBlock : (port : ℕ) → AccessPurpose
 
 abbrev pub accesses_for : AccessPurpose → Access → Type 0
-accesses_for (Tables port slot) = IsTableStore port slot
-accesses_for (TablesAndBlock port) = IsStoreWithBlock port 0
+accesses_for (Tables port slot) = IsHeaderOrTableStore port slot
+accesses_for (TablesAndBlock port) = IsHeaderTableOrBlockStore port 0
 
 abbrev pub slot_uses_for : AccessPurpose → SlotStates → Type 0
 slot_uses_for (Tables port slot) = IsUnused port slot
@@ -33,32 +33,37 @@ slot_uses_for (TablesAndBlock port) = IsUnused port 0
 
 -- bytes that are put into memory, and read
 pub record MemoryLaws : Type 0 where
-  pub put : (memory : ℕ → ℕ) (at : ℕ) (bytes : List ℕ) → bytes_at (patched memory at bytes) at (length bytes) ≡ bytes
-  pub apart : (memory : ℕ → ℕ) (at : ℕ) (bytes : List ℕ) (place : ℕ)
+  pub reads_back_patch : (memory : ℕ → ℕ) (at : ℕ) (bytes : List ℕ)
+      → bytes_at (patched memory at bytes) at (length bytes) ≡ bytes
+  pub patch_leaves_others : (memory : ℕ → ℕ) (at : ℕ) (bytes : List ℕ) (place : ℕ)
       → (at ≤ place → place < at + length bytes → ⊥) → patched memory at bytes place ≡ memory place
-  pub same : (old new : ℕ → ℕ) (at count : ℕ)
+  pub same_memory_same_bytes : (old new : ℕ → ℕ) (at count : ℕ)
       → ((place : ℕ) → at ≤ place → place < at + count → new place ≡ old place)
       → bytes_at new at count ≡ bytes_at old at count
-  pub counts : (memory : ℕ → ℕ) (at count : ℕ) → length (bytes_at memory at count) ≡ count
-  pub each : (memory : ℕ → ℕ) (at count i : ℕ) → i < count
+  pub length_is_count : (memory : ℕ → ℕ) (at count : ℕ) → length (bytes_at memory at count) ≡ count
+  pub byte_at_index : (memory : ℕ → ℕ) (at count i : ℕ) → i < count
       → slice_index (bytes_at memory at count) i ≡ memory (at + i)
 
 pub record Laws : Type 0 where
   pub memory : MemoryLaws
-  pub on : (access : Access) (old new : Device) → IsOn old
+  pub access_keeps_on : (access : Access) (old new : Device) → IsOn old
       → ((v : ℕ) → access ≡ Writing Ghc v → (bit v 31 ≡ true) × (bit v 0 ≡ false)) → Does access old new → IsOn new
-  pub adapter : (access : Access) (old new : Device) → Does access old new → SameAdapter old new
-  pub free : (uses : SlotStates) (m : Machine) (d : Device) → IsReachable m → StateRelation uses m d → (at n : ℕ)
-      → at + n ≤ d.size → MayStore uses at n → IsStable (IsUnowned at n) d
-  pub stores : (uses : SlotStates) (m : Machine) (old new : Device) → IsReachable m → StateRelation uses m old
+  pub access_keeps_adapter : (access : Access) (old new : Device) → Does access old new → SameAdapter old new
+  pub storable_bytes_are_unowned : (uses : SlotStates) (m : Machine) (d : Device) → IsReachable m
+      → StateRelation uses m d → (at n : ℕ)
+      → at + n ≤ d.memory_size → MayStore uses at n → IsStable (IsUnowned at n) d
+  pub store_keeps_tables : (uses : SlotStates) (m : Machine) (old new : Device) → IsReachable m
+      → StateRelation uses m old
       → old.hr ≡ false → (at : ℕ) (bytes : List ℕ) → Stores at bytes old new
-      → KeepsTables uses (record old { memory = patched old.memory at bytes }) new
-  pub told : (uses : SlotStates) (old new : Device) → KeepsTables uses old new → (port slot : ℕ) (c : Meaning)
-      (places : List ℕ) → port < 4 → slot < 32 → SlotDecodesTo old.memory (list_of port) port slot c places
-      → SlotDecodesTo new.memory (list_of port) port slot c places
-  pub beside : (uses : SlotStates) (at : ℕ) (bytes : List ℕ) (old new : Device)
-      → KeepsTables uses (record old { memory = patched old.memory at bytes }) new → (port slot : ℕ) (c : Meaning)
-      (places : List ℕ) → port < 4 → slot < 32 → MissesTable port slot at (length bytes)
-      → SlotDecodesTo old.memory (list_of port) port slot c places
-      → SlotDecodesTo new.memory (list_of port) port slot c places
+      → KeepsTablesAndScratch uses (record old { memory = patched old.memory at bytes }) new
+  pub own_steps_keep_meaning : (uses : SlotStates) (old new : Device) → KeepsTablesAndScratch uses old new
+      → (port slot : ℕ) (c : Meaning)
+      (places : List ℕ) → port < 4 → slot < 32 → SlotDecodesTo old.memory (command_list_address port) port slot c places
+      → SlotDecodesTo new.memory (command_list_address port) port slot c places
+  pub store_keeps_other_tables : (uses : SlotStates) (at : ℕ) (bytes : List ℕ) (old new : Device)
+      → KeepsTablesAndScratch uses (record old { memory = patched old.memory at bytes }) new
+      → (port slot : ℕ) (c : Meaning)
+      (places : List ℕ) → port < 4 → slot < 32 → MissesHeaderAndTable port slot at (length bytes)
+      → SlotDecodesTo old.memory (command_list_address port) port slot c places
+      → SlotDecodesTo new.memory (command_list_address port) port slot c places
   pub fragments : FragmentLaws AccessPurpose accesses_for slot_uses_for

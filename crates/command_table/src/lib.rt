@@ -2,27 +2,14 @@
 //!
 //! (AHCI 1.3.1, 4.2.2 and 4.2.3.) What stands there is said as the device reads it (`SlotDecodesTo`).
 //! Callers use that clause, and that nothing else is stored; what the bytes are is for tests. The
-//! slot has to be unused in a machine that agrees with the device in all slots (`RelatesWith`).
+//! slot has to be unused in a machine that agrees with the device in all slots (`SomeMachineAgreesWith`).
 #![tactic(auto)]
 
 ghost use Rattle.std.specs.Prelude.{◌≡◌, ℕ, List, [], ◌∷◌, ◌+◌, ◌*◌, ◌/◌, ◌%◌, ◌^◌, ◌<◌, ◌≤◌, length, drop, All};
 ghost use Rattle.byteorder.specs.Endian.{little_from};
-ghost use Rattle.adapter.specs.Decoding.{pieces, IsWholePieces};
-ghost use Rattle.adapter.specs.Encoding.{AreZero, EncodesHeader, EncodesPrd, IsAllowedPrd};
-ghost use Rattle.adapter.specs.Commands.{IsMeaning, Meaning, command_of, piece_count, reads_memory};
-ghost use Rattle.adapter.specs.Memory.{bytes_at};
-ghost use Rattle.adapter.specs.Rules.{IsUnowned, IsOn, IsStable};
-ghost use Rattle.adapter.specs.declared.command.Operation.{Operation};
-ghost use Rattle.adapter.specs.declared.command.Prd.{Prd};
-ghost use Rattle.refinement.specs.Fragments.{IsSimulated};
-ghost use Rattle.refinement.specs.MemoryLayout.{list_of, scratch_of};
-ghost use Rattle.refinement.specs.Slots.{SlotDecodesTo};
-ghost use Rattle.command_table.specs.TableStores.{FitsTable, IsStoreWithBlock, IsTable, IsTableFor, IsTableStore, IsUnused, MayWriteTable, StoresTable};
-ghost use Rattle.command_table.specs.SectorPlaces.{places_of};
-ghost use Rattle.command_table.specs.FrameRuns.{PrdsCoverFrames, FillFrames, IsLongestRun};
-ghost use Rattle.command_table.specs.BufferBytes.{StoresBytes};
-ghost use Rattle.adapter.specs.AccessBounds.{MakesAtMost};
-ghost use Rattle.command_table.specs.Costs.{TABLE_WITH_BLOCK_ACCESSES, TABLE_ACCESSES};
+ghost use Rattle.adapter.specs.{Decoding.{pieces, IsWholePieces}, Encoding.{AreZero, EncodesHeader, EncodesPrd, IsAllowedPrd}, Commands.{IsValidMeaning, Meaning, command_of, piece_count, reads_memory}, Memory.{bytes_at}, Rules.{IsUnowned, IsOn, IsStable}, declared.command.Operation.{Operation}, declared.command.Prd.{Prd}, AccessBounds.{MakesAtMost}};
+ghost use Rattle.refinement.specs.{Fragments.{IsSimulated}, MemoryLayout.{command_list_address, scratch_frame_address}, Slots.{SlotDecodesTo}};
+ghost use Rattle.command_table.specs.{TableStores.{FitsTable, IsHeaderTableOrBlockStore, IsTable, IsTableFor, IsHeaderOrTableStore, IsUnused, MayWriteTable, StoresTable}, SectorPlaces.{places_of}, FrameRuns.{PrdsCoverFrames, FillFrames, IsRunFromFirst}, BufferBytes.{StoresBytes}, Costs.{TABLE_WITH_BLOCK_ACCESSES, TABLE_ACCESSES}};
 
 pub mod laws;
 mod prerequisites;
@@ -30,13 +17,14 @@ mod prerequisites;
 use adapter::{Adapter, Command, Prd};
 use arrayvec::ArrayVec;
 use ata_types::{
-    DATA_SET_MANAGEMENT, DRIVER_BYTES, FRAME_BYTES, Frame, HEADER_BYTES, LONGEST_TABLE,
-    MOST_REQUEST_FRAMES, PORT_BYTES, PORT_FRAMES, PRD_BYTES, Port, SCRATCH_FRAME, Slot,
-    TABLE_ALIGNMENT, TABLE_BYTES, TABLE_HEAD, TABLES_OFFSET, WRITE_DMA_EXT, WRITE_FPDMA_QUEUED,
+    DATA_SET_MANAGEMENT, DRIVER_BYTES, DRIVER_BYTES_PER_PORT, DRIVER_FRAMES_PER_PORT, FRAME_BYTES,
+    Frame, HEADER_BYTES, LONGEST_TABLE_BYTES, MOST_REQUEST_FRAMES, PRD_BYTES, Port, SCRATCH_FRAME,
+    Slot, TABLE_ALIGNMENT, TABLE_BYTES, TABLE_HEAD_BYTES, TABLES_OFFSET, WRITE_DMA_EXT,
+    WRITE_FPDMA_QUEUED,
 };
 use fis::encode_h2d;
 use prerequisites::law_prerequisites;
-use refinement::fragments::law_other_ports_are_left;
+use refinement::fragments::law_other_ports_are_untouched;
 
 const FIS_DWORDS: u32 = 5;
 
@@ -45,7 +33,7 @@ const WRITE_BIT: u32 = 1 << 6;
 const BLOCK_BYTES: u32 = 512;
 
 /// Bytes of a command table with eight PRDs.
-const SHORT_TABLE: usize = TABLE_HEAD as usize + 8 * PRD_BYTES as usize;
+const SHORT_TABLE: usize = TABLE_HEAD_BYTES as usize + 8 * PRD_BYTES as usize;
 
 /// Writes the bytes into the buffer, from a place on.
 fn store_at(buffer: &mut [u8], at: usize, bytes: &[u8])
@@ -89,10 +77,10 @@ fn prd_bytes(prd: &Prd) -> [u8; 16]
 /// by one, so of 512 KiB at most (AHCI 1.3.1, 4.2.3.3, allows 4 MiB). The last one covers the rest of the bytes.
 pub fn prds(frames: &[Frame], bytes: u32) -> ArrayVec<Prd, MOST_REQUEST_FRAMES>
     requires fill { FillFrames frames.now bytes }
-    ensures joined { PrdsCoverFrames frames.now bytes result.items }
-    ensures number { length result.items ≤ length frames.now }
+    ensures cover_frames { PrdsCoverFrames frames.now bytes result.items }
+    ensures count_is_allowed { length result.items ≤ length frames.now }
     ensures allowed { All IsAllowedPrd result.items }
-    ensures whole { bytes % 512 ≡ 0 → All IsWholePieces result.items }
+    ensures are_whole_pieces { bytes % 512 ≡ 0 → All IsWholePieces result.items }
     ensures places { bytes % 512 ≡ 0 → pieces result.items ≡ places_of frames.now (bytes / 512) }
 {
     prds_in(frames, bytes)
@@ -103,10 +91,10 @@ pub fn prds(frames: &[Frame], bytes: u32) -> ArrayVec<Prd, MOST_REQUEST_FRAMES>
 pub fn prds_in<const ROOM: usize>(frames: &[Frame], bytes: u32) -> ArrayVec<Prd, ROOM>
     requires fill { FillFrames frames.now bytes }
     requires room { length frames.now ≤ ROOM }
-    ensures joined { PrdsCoverFrames frames.now bytes result.items }
-    ensures number { length result.items ≤ length frames.now }
+    ensures cover_frames { PrdsCoverFrames frames.now bytes result.items }
+    ensures count_is_allowed { length result.items ≤ length frames.now }
     ensures allowed { All IsAllowedPrd result.items }
-    ensures whole { bytes % 512 ≡ 0 → All IsWholePieces result.items }
+    ensures are_whole_pieces { bytes % 512 ≡ 0 → All IsWholePieces result.items }
     ensures places { bytes % 512 ≡ 0 → pieces result.items ≡ places_of frames.now (bytes / 512) }
 {
     let mut entries = ArrayVec::new();
@@ -128,7 +116,7 @@ pub fn prds_in<const ROOM: usize>(frames: &[Frame], bytes: u32) -> ArrayVec<Prd,
 /// How many frames from this place on have numbers that rise by one: as many as can be.
 fn run_length(frames: &[Frame], from: usize) -> usize
     requires { from < length frames.now }
-    ensures { IsLongestRun (drop from frames.now) result }
+    ensures { IsRunFromFirst (drop from frames.now) result }
 {
     let first = frames[from].0 as usize;
     for count in 1..frames.len() - from {
@@ -142,8 +130,8 @@ fn run_length(frames: &[Frame], from: usize) -> usize
 /// Turns zeros into a command table: the FIS at its head, the PRDs from byte 128 on, and zeros between them. It is made
 /// where the caller has it, since it would be copied else.
 fn fill_table(bytes: &mut [u8], command: &Command, prds: &[Prd])
-    requires zeros { AreZero bytes.old 0 TABLE_HEAD }
-    requires room { TABLE_HEAD + PRD_BYTES * length prds.now ≤ length bytes.old }
+    requires zeros { AreZero bytes.old 0 TABLE_HEAD_BYTES }
+    requires room { TABLE_HEAD_BYTES + PRD_BYTES * length prds.now ≤ length bytes.old }
     requires lba { command.now.lba < 2 ^ 48 }
     requires allowed { All IsAllowedPrd prds.now }
     ensures { IsTable bytes.new command.now prds.now }
@@ -152,7 +140,7 @@ fn fill_table(bytes: &mut [u8], command: &Command, prds: &[Prd])
     for (i, prd) in prds.iter().enumerate() {
         store_at(
             bytes,
-            TABLE_HEAD as usize + PRD_BYTES as usize * i,
+            TABLE_HEAD_BYTES as usize + PRD_BYTES as usize * i,
             &prd_bytes(prd),
         );
     }
@@ -172,20 +160,20 @@ fn is_write(command: &Command) -> bool
 /// Stores a command table at a place that is free, in one store: what follows its last PRD isn't stored. Most tables
 /// have few PRDs, and for those no buffer is cleared that has room for as many as a request can have frames.
 fn store_table<A: Adapter>(adapter: &mut A, at: u32, command: &Command, prds: &[Prd])
-    requires free { IsStable (IsUnowned at (TABLE_HEAD + PRD_BYTES * length prds.now)) (A.device adapter.old) }
+    requires free { IsStable (IsUnowned at (TABLE_HEAD_BYTES + PRD_BYTES * length prds.now)) (A.device adapter.old) }
     requires lba { command.now.lba < 2 ^ 48 }
     requires few { length prds.now ≤ MOST_REQUEST_FRAMES }
     requires allowed { All IsAllowedPrd prds.now }
     ensures stores { StoresTable at command.now prds.now (A.device adapter.old) (A.device adapter.new) }
     ensures cost { MakesAtMost 1 (A.access_count adapter.old) (A.access_count adapter.new) }
 {
-    let size = TABLE_HEAD as usize + PRD_BYTES as usize * prds.len();
+    let size = TABLE_HEAD_BYTES as usize + PRD_BYTES as usize * prds.len();
     if size <= SHORT_TABLE {
         let mut bytes = [0; SHORT_TABLE];
         fill_table(&mut bytes, command, prds);
         adapter.store(at, &bytes[..size]);
     } else {
-        let mut bytes = [0; LONGEST_TABLE];
+        let mut bytes = [0; LONGEST_TABLE_BYTES];
         fill_table(&mut bytes, command, prds);
         adapter.store(at, &bytes[..size]);
     }
@@ -203,16 +191,17 @@ pub fn write_table<A: Adapter>(
 )
     requires may { MayWriteTable port.0 slot.0 (A.device adapter.old) }
     requires fits { FitsTable slot.0 command.now prds.now }
-    ensures on { IsOn (A.device adapter.new) }
-    ensures followed { IsSimulated (IsTableStore port.0 slot.0) (IsUnused port.0 slot.0) (A.device adapter.old)
+    ensures adapter_is_on { IsOn (A.device adapter.new) }
+    ensures followed { IsSimulated (IsHeaderOrTableStore port.0 slot.0) (IsUnused port.0 slot.0) (A.device adapter.old)
         (A.device adapter.new) }
-    ensures none_moved { little_from 4 4
-        (bytes_at (A.device adapter.new).memory (list_of port.0 + HEADER_BYTES * slot.0) HEADER_BYTES) ≡ 0 }
-    ensures says { (m : Meaning) (places : List ℕ) → IsTableFor slot.0 command.now prds.now m places
-        → SlotDecodesTo (A.device adapter.new).memory (list_of port.0) port.0 slot.0 m places }
+    ensures prdbc_is_zero { little_from 4 4
+        (bytes_at (A.device adapter.new).memory (command_list_address port.0 + HEADER_BYTES * slot.0) HEADER_BYTES)
+        ≡ 0 }
+    ensures slot_decodes { (m : Meaning) (places : List ℕ) → IsTableFor slot.0 command.now prds.now m places
+        → SlotDecodesTo (A.device adapter.new).memory (command_list_address port.0) port.0 slot.0 m places }
     ensures cost { MakesAtMost TABLE_ACCESSES (A.access_count adapter.old) (A.access_count adapter.new) }
 {
-    let list = PORT_BYTES * u32::from(port.0);
+    let list = DRIVER_BYTES_PER_PORT * u32::from(port.0);
     let table = list + TABLES_OFFSET + TABLE_BYTES * u32::from(slot.0);
     law_prerequisites();
     store_table(adapter, table, command, prds);
@@ -231,18 +220,19 @@ pub fn write_table_with_block<A: Adapter>(
 )
     requires may { MayWriteTable port.0 0 (A.device adapter.old) }
     requires lba { command.now.lba < 2 ^ 48 }
-    ensures on { IsOn (A.device adapter.new) }
-    ensures followed { IsSimulated (IsStoreWithBlock port.0 0) (IsUnused port.0 0) (A.device adapter.old)
+    ensures adapter_is_on { IsOn (A.device adapter.new) }
+    ensures followed { IsSimulated (IsHeaderTableOrBlockStore port.0 0) (IsUnused port.0 0) (A.device adapter.old)
         (A.device adapter.new) }
-    ensures says { (m : Meaning) → IsMeaning m → command.now ≡ command_of m.operation 0 m.first m.count
-        → piece_count m.operation m.count ≡ 1 → SlotDecodesTo (A.device adapter.new).memory (list_of port.0) port.0 0 m
-        (scratch_of port.0 ∷ []) }
-    ensures block { bytes_at (A.device adapter.new).memory (scratch_of port.0) 512 ≡ block.now }
+    ensures slot_decodes { (m : Meaning) → IsValidMeaning m → command.now ≡ command_of m.operation 0 m.first m.count
+        → piece_count m.operation m.count ≡ 1
+        → SlotDecodesTo (A.device adapter.new).memory (command_list_address port.0) port.0 0 m
+        (scratch_frame_address port.0 ∷ []) }
+    ensures block { bytes_at (A.device adapter.new).memory (scratch_frame_address port.0) 512 ≡ block.now }
     ensures cost { MakesAtMost TABLE_WITH_BLOCK_ACCESSES (A.access_count adapter.old) (A.access_count adapter.new) }
 {
-    law_other_ports_are_left();
+    law_other_ports_are_untouched();
     law_prerequisites();
-    let scratch = Frame(PORT_FRAMES * u16::from(port.0) + SCRATCH_FRAME);
+    let scratch = Frame(DRIVER_FRAMES_PER_PORT * u16::from(port.0) + SCRATCH_FRAME);
     let prds = prds(&[scratch], BLOCK_BYTES);
     write_table(adapter, port, Slot(0), command, prds.as_slice());
     adapter.store(FRAME_BYTES * u32::from(scratch.0), block);

@@ -4,7 +4,7 @@ ghost use Rattle.command_table.specs.Laws.{Laws};
 use adapter::laws::law_memory_reads_back;
 use refinement::access_kinds::law_fragment_prerequisites;
 use refinement::laws::{
-    law_bytes_to_store_are_free, law_free_slots_are_left, law_stored_commands_stay,
+    law_driver_stores_are_permitted, law_free_slots_are_untouched, law_stored_commands_stay,
 };
 use refinement::port_facts::law_adapter_stays;
 use std::marker::Brand;
@@ -15,8 +15,8 @@ pub fn law_prerequisites()
 {
     law_memory_reads_back();
     law_adapter_stays();
-    law_bytes_to_store_are_free();
-    law_free_slots_are_left();
+    law_driver_stores_are_permitted();
+    law_free_slots_are_untouched();
     law_stored_commands_stay();
     law_fragment_prerequisites::<Brand>();
 }

@@ -11,7 +11,7 @@ use Rattle.hba_regs.specs.Bits.{bit}
 use Rattle.hba_regs.specs.declared.reg.Reg.TheVariants.{Px}
 use Rattle.hba_regs.specs.declared.reg.PortReg.{PortReg}
 use Rattle.hba_regs.specs.declared.reg.PortReg.TheVariants.{Ci, Sact}
-use Rattle.adapter.specs.Access.{port_after_write, written}
+use Rattle.adapter.specs.Access.{port_after_write, device_after_write}
 use Rattle.adapter.specs.Device.{DevicePort, Device}
 use Rattle.adapter.specs.Memory.{changed}
 use Rattle.adapter.specs.Steps.{with_port}
@@ -154,10 +154,10 @@ uses_served port (t ∷ ts) (e ∷ es) uses = uses_served port ts es (set_slot_s
 uses_served port [] es uses = uses
 uses_served port (t ∷ ts) [] uses = uses
 
-pub serving_batch_is : (port : Port) (ts : List PlacedTask) (es : List Pending) (s : DriverSlots) → record s { uses = uses_served port.0 ts es s.uses } ≡ with_serving_batch port ts es s
+pub serving_batch_is : (port : Port) (ts : List PlacedTask) (es : List Pending) (s : DriverSlots) → record s { slot_states = uses_served port.0 ts es s.slot_states } ≡ with_serving_batch port ts es s
 serving_batch_is port [] es s = refl
 serving_batch_is port (t ∷ ts) [] s = refl
-serving_batch_is port (t ∷ ts) (e ∷ es) s = serving_batch_is port ts es (record s { uses = set_slot_state s.uses port.0 t.slot (Serves e.request.id) })
+serving_batch_is port (t ∷ ts) (e ∷ es) s = serving_batch_is port ts es (record s { slot_states = set_slot_state s.slot_states port.0 t.slot (Serves e.request.id) })
 
 module _ (here : PutsHere) (no_other : PutsNoOther) (port : ℕ) where
   pub armed_others : (ts : List PlacedTask) (uses : SlotStates) (q k : ℕ) → (q ≡ port → IsSlotOf ts k → ⊥) → uses_armed port ts uses q k ≡ uses q k
@@ -327,7 +327,7 @@ module _ (r : BitReg) (port : Port) (d : Device) where
   pub bits_begin : bits_on r port d (r.get (d.port port.0)) ≡ d
   bits_begin = ap (λ (p : DevicePort). with_port d port.0 p) (r.same (d.port port.0)) ∙ ap (λ (f : ℕ → DevicePort). record d { port = f }) (changed_to_same d.port port.0)
 
-  pub bits_more : (bits : ℕ → Bool) (v : ℕ) → written (Px port r.reg) v (bits_on r port d bits) ≡ bits_on r port d (λ k. bits k || bit v k)
+  pub bits_more : (bits : ℕ → Bool) (v : ℕ) → device_after_write (Px port r.reg) v (bits_on r port d bits) ≡ bits_on r port d (λ k. bits k || bit v k)
   bits_more bits v =
       let p : DevicePort = d.port port.0 in
       ap (λ (q : DevicePort). with_port (bits_on r port d bits) port.0 (port_after_write r.reg v (length d.tape) q)) (changed_here d.port port.0 (r.set bits p))
@@ -336,9 +336,9 @@ module _ (r : BitReg) (port : Port) (d : Device) where
       ∙ (ap (λ (f : ℕ → Bool). r.set (λ k. f k || bit v k) (r.set bits p)) (r.reads bits p) ∙ r.again bits (λ k. bits k || bit v k) p))
       ∙ ap (λ (f : ℕ → DevicePort). record d { port = f }) (changed_again d.port port.0 (r.set bits p) (r.set (λ k. bits k || bit v k) p)))
 
-  pub bits_end : (v : ℕ) → written (Px port r.reg) v d ≡ bits_on r port d (λ k. r.get (d.port port.0) k || bit v k)
+  pub bits_end : (v : ℕ) → device_after_write (Px port r.reg) v d ≡ bits_on r port d (λ k. r.get (d.port port.0) k || bit v k)
   bits_end v = ap (λ (p : DevicePort). with_port d port.0 p) (r.writes v (length d.tape) (d.port port.0))
 
   -- the slots' bits, one after another, are those that are written at once
-  pub bits_written : (ts : List PlacedTask) (v : ℕ) → HasBitsOf ts v → written (Px port r.reg) v d ≡ bits_on r port d (with_bits ts (r.get (d.port port.0)))
+  pub bits_written : (ts : List PlacedTask) (v : ℕ) → HasBitsOf ts v → device_after_write (Px port r.reg) v d ≡ bits_on r port d (with_bits ts (r.get (d.port port.0)))
   bits_written ts v has = bits_end v ∙ ap (bits_on r port d) (sym (bits_at_once ts v has (r.get (d.port port.0))))

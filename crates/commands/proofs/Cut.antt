@@ -6,7 +6,7 @@ use Rattle.std.proofs.lemmas.List.{get_or-drop}
 use Rattle.std.proofs.Math.Nat.{min-eq_left, min-eq_right}
 use Rattle.byteorder.specs.Endian.{little_from}
 use Rattle.adapter.specs.Trim.{consecutive, trim_sectors}
-use Rattle.commands.specs.TrimBlocks.{entry_first, entry_length, entry_first_for, entry_length_for}
+use Rattle.commands.specs.TrimBlocks.{entry_first, entry_length, wanted_entry_first, wanted_entry_length}
 
 consecutive-add : (m n a : ℕ) → consecutive a (m + n) ≡ consecutive a m ++ consecutive (a + m) n
 consecutive-add zero n a =
@@ -26,7 +26,7 @@ split_at a b m n count whole (inl none) =
 split_at a b m n count whole (inr next) = rw (next, ← whole) (sym (consecutive-add m n a))
 
 -- the entries behind the first are those of the rest of the range
-first_behind : (first count place : ℕ) → entry_first_for first count (suc place) ≡ entry_first_for (first + 65535) (count - 65535) place
+first_behind : (first count place : ℕ) → wanted_entry_first first count (suc place) ≡ wanted_entry_first (first + 65535) (count - 65535) place
 first_behind first count place = ⊎_elim
     (λ (less : 65535 * suc place < count).
     let rest : 65535 * place < count - 65535 = omega (arith, less) in
@@ -36,7 +36,7 @@ first_behind first count place = ⊎_elim
     rw (le-ltb (65535 * suc place) count most, le-ltb (65535 * place) (count - 65535) rest) refl)
     (cases_lt (65535 * suc place) count)
 
-length_behind : (count place : ℕ) → entry_length_for count (suc place) ≡ entry_length_for (count - 65535) place
+length_behind : (count place : ℕ) → wanted_entry_length count (suc place) ≡ wanted_entry_length (count - 65535) place
 length_behind count place =
     let same : count - 65535 * suc place ≡ count - 65535 - 65535 * place = omega arith in
     ap (λ (n : ℕ). min n 65535) same
@@ -45,7 +45,7 @@ length_behind count place =
 
 -- these entries cut the range
 abbrev AreEntries : (n : ℕ) → List ℕ → (first count : ℕ) → Type 0
-AreEntries n block first count = (place : ℕ) → place < n → (entry_first block place ≡ entry_first_for first count place) × (entry_length block place ≡ entry_length_for count place)
+AreEntries n block first count = (place : ℕ) → place < n → (entry_first block place ≡ wanted_entry_first first count place) × (entry_length block place ≡ wanted_entry_length count place)
 
 -- what is read behind a list's first bytes is read of the rest
 pub from_drop : (n i at : ℕ) (xs : List ℕ) → little_from (at + i) n xs ≡ little_from i n (drop at xs)
@@ -65,7 +65,7 @@ entries_behind n a b c d e f l h rest first count cut place small =
     )
 
 -- the first entry, and the others
-whole_is : (f l first count : ℕ) → f ≡ entry_first_for first count 0 → l ≡ entry_length_for count 0 → consecutive f l ++ consecutive (first + 65535) (count - 65535) ≡ consecutive first count
+whole_is : (f l first count : ℕ) → f ≡ wanted_entry_first first count 0 → l ≡ wanted_entry_length count 0 → consecutive f l ++ consecutive (first + 65535) (count - 65535) ≡ consecutive first count
 whole_is f l first count f_is l_is = ⊎_elim
     (λ (some : 0 < count).
     let same : f ≡ first = f_is ∙ ap (λ (b : Bool). if b then first + 65535 * 0 else 0) (lt-ltb (65535 * 0) count (omega (arith, some))) ∙ omega arith in
@@ -99,8 +99,8 @@ cut_means zero [] first count size few cut = let none : count ≡ 0 = omega (ari
 cut_means zero (a ∷ block) first count size few cut = absurd (omega (arith, size))
 cut_means (suc n) (a ∷ b ∷ c ∷ d ∷ e ∷ f ∷ l ∷ h ∷ rest) first count size few cut =
     let x = cut 0 (omega arith) in
-    let f_is : a + 256 * (b + 256 * (c + 256 * (d + 256 * (e + 256 * f)))) ≡ entry_first_for first count 0 = six a b c d e f ∙ x.0 in
-    let l_is : l + 256 * h ≡ entry_length_for count 0 = two l h ∙ x.1 in
+    let f_is : a + 256 * (b + 256 * (c + 256 * (d + 256 * (e + 256 * f)))) ≡ wanted_entry_first first count 0 = six a b c d e f ∙ x.0 in
+    let l_is : l + 256 * h ≡ wanted_entry_length count 0 = two l h ∙ x.1 in
     ap (λ (list : List ℕ). consecutive (a + 256 * (b + 256 * (c + 256 * (d + 256 * (e + 256 * f))))) (l + 256 * h) ++ list)
     (cut_means n rest (first + 65535) (count - 65535) (omega (arith, size)) (omega (arith, few)) (entries_behind n a b c d e f l h rest first count cut))
     ∙ whole_is (a + 256 * (b + 256 * (c + 256 * (d + 256 * (e + 256 * f))))) (l + 256 * h) first count f_is l_is

@@ -13,7 +13,7 @@ use Rattle.hba_regs.specs.Bits.{bit}
 use Rattle.hba_regs.specs.declared.reg.Reg.{Reg}
 use Rattle.hba_regs.specs.declared.reg.Reg.TheVariants.{Ghc, Px}
 use Rattle.hba_regs.specs.declared.reg.PortReg.TheVariants.{Clb, Ci, Sact}
-use Rattle.adapter.specs.Access.{Access, Does, DoesAll, Writes, written}
+use Rattle.adapter.specs.Access.{Access, Does, DoesAll, Writes, device_after_write}
 use Rattle.adapter.specs.Access.Access.{Reading, Writing, Loading, Storing}
 use Rattle.adapter.specs.Commands.{Meaning, is_queued}
 use Rattle.adapter.specs.Device.{DevicePort, Device}
@@ -27,18 +27,18 @@ use Rattle.block_machine.specs.Expected.{after}
 use Rattle.block_machine.specs.State.{Accepted, Pending, Machine}
 use Rattle.block_machine.specs.Steps.{Step, Issue, IsEnabled, after_step}
 use Rattle.block_machine.specs.declared.due.QueueMode.{QueueMode}
-use Rattle.refinement.specs.Acts.{Act, ActsReach, AreActsDone, DriverSlots, IsActDone, IsIssueOn, IsIssueStep, IsOneDecision, accesses_of, act_steps, driver_state}
+use Rattle.refinement.specs.Acts.{Act, ActsReach, AreActsDone, DriverSlots, IsActDone, IsIssueStepOn, IsIssueStep, IsOneDecision, accesses_of, act_steps, driver_state_of_slots}
 use Rattle.refinement.specs.Relation.{StateRelation, port_at}
-use Rattle.refinement.specs.Fragments.{IsSoleBit, OnlyDeviceActs, driver_state_of}
-use Rattle.refinement.specs.Driver.{IsBackedByDeviceAlone, DriverAdvances, DriverRelation, DriverState, EndsInSteps, IsPrepared, KeepsTables, MissesTable, with_slot_serving}
+use Rattle.refinement.specs.Fragments.{IsSoleBit, DeviceStepsKeepSlots, driver_state_of}
+use Rattle.refinement.specs.Driver.{IsBackedByDeviceAlone, DriverAdvances, DriverRelation, DriverState, EndsInSteps, IsPrepared, KeepsTablesAndScratch, MissesHeaderAndTable, with_slot_serving}
 use Rattle.refinement.specs.Simulation.{SimulatesSteps}
-use Rattle.refinement.specs.Links.{DoesNotWrite, LeavesControls, SameAdapter}
+use Rattle.refinement.specs.PreservedParts.{DoesNotWrite, LeavesControls, SameAdapter}
 use Rattle.refinement.specs.ReadySlots.{IsReadied, IsReadyToIssue, IsStored}
-use Rattle.refinement.specs.Slots.{SlotState, Free, Armed, Own, Serves, SlotStates, set_slot_state, MeansRequest, HasTrimBlock, IsArmed, HasListInPlace, RelatesSlot, SlotDecodesTo}
+use Rattle.refinement.specs.Slots.{SlotState, Free, Armed, Own, Serves, SlotStates, set_slot_state, MeansRequest, HasBlockIfTrim, IsArmed, HasListInPlace, RelatesSlot, SlotDecodesTo}
 use Rattle.refinement.specs.StartedPort.{ClearsNoStart}
-use Rattle.commands.specs.Batches.{AreUnused, HaveOwnSlots, IsBatchIssued, IsBatchAccess, IsSlotOf, IsStoreForBatch, IssuesBatchAtEnd, MayServeBatch, SaysTask, PlacedTask, StoresThenWritesAll, issues_of, with_serving_batch}
+use Rattle.commands.specs.Batches.{BatchSlotsAreUnused, HaveOwnSlots, IsBatchIssued, IsBatchAccess, IsSlotOf, IsStoreForBatch, IssuesBatchAtEnd, MayServeBatch, SaysTask, PlacedTask, StoresThenWritesAll, issues_of, with_serving_batch}
 use Rattle.commands.specs.Issuing.{IsArmedFor}
-use Rattle.commands.specs.Tasks.{WritesSactIfQueued, HasBlockOf, IsBeingIssued, IsTaskOf, RunsItsList, addresses_of, meaning_of, task_operation, issuing_writes}
+use Rattle.commands.specs.Tasks.{WritesSactIfQueued, BlockNamesSectors, IsBeingIssued, IsTaskOf, RunsItsList, piece_addresses_of, meaning_of, task_operation, issuing_writes}
 use Rattle.commands.proofs.Batch.{all_as, all_in, all_one, armed_here, armed_others, uses_armed, bits_begin, bits_more, bits_on, bits_written, changed_here, ci_bits, contains_here, contains_there, first_apart, own_bit, own_bit_is, rest_apart, sact_bits, served_armed, served_here, served_others, uses_served, serving_batch_is, with_bits, zip_as}
 use Rattle.commands.proofs.Stores.{ActLaws, IsStoring, Leaving, batch_stores, does_then, store_for, stored_in, stores_may, stores_on, stores_same, stores_there, storing_writes_none}
 use Rattle.commands.proofs.Telling.{task_block, task_means}
@@ -52,7 +52,7 @@ pub record Laws : Type 0 where
   pub on : (access : Access) (old new : Device) → IsOn old → ((v : ℕ) → access ≡ Writing Ghc v → (bit v 31 ≡ true) × (bit v 0 ≡ false)) → Does access old new → IsOn new
   pub controls : (port : Port) (access : Access) (old new : Device) → old.hr ≡ false → Does access old new → LeavesControls access port (old.port port.0) (new.port port.0)
   pub ends : (k later : DriverState) (m : Machine) (access : Access) (own : List Step) → (e : EndsInSteps k m own later) → IsOneDecision access own → Does access k.device later.device
-      → IsActDone k m (record { access = Some access; steps = own ++ e.steps; later = later })
+      → IsActDone k m (record { access = Some access; steps = own ++ e.steps; state_after = later })
   pub part : (k : DriverState) (new : Device) → Steps k.device new → IsSimulatedBySteps DriverRelation k (record k { device = new }) (IsBackedByDeviceAlone k.device new)
   pub access : (k later : DriverState) (m : Machine) → IsSimulatedBySteps DriverRelation k later (IsBackedByDeviceAlone k.device later.device) → IsReachable m → DriverRelation m k
       → (steps : List Step) × AllByDevice steps × DriverAdvances k m steps later
@@ -60,27 +60,27 @@ pub record Laws : Type 0 where
   pub compose : (a b c : DriverState) (m : Machine) (early late : List Step) → DriverAdvances a m early b → DriverAdvances b (after m early) late c → DriverAdvances a m (late ++ early) c
   pub due : (m : Machine) (steps : List Step) → IsReachable m → AllByDevice steps → AllEnabled m steps → (own : List Step) → All IsIssueStep own → AllEnabled m own → AllEnabled (after m steps) own
   pub after : (m : Machine) (late early : List Step) → after m (late ++ early) ≡ after (after m early) late
-  pub arms : (k : DriverState) (m : Machine) (port : Port) (slot v : ℕ) → DriverRelation m k → k.uses port.0 slot ≡ Free → (k.device.port port.0).st ≡ true → IsSoleBit slot v
-      → DriverAdvances k m [] (record k { uses = set_slot_state k.uses port.0 slot Armed; device = written (Px port Sact) v k.device })
+  pub arms : (k : DriverState) (m : Machine) (port : Port) (slot v : ℕ) → DriverRelation m k → k.slot_states port.0 slot ≡ Free → (k.device.port port.0).st ≡ true → IsSoleBit slot v
+      → DriverAdvances k m [] (record k { slot_states = set_slot_state k.slot_states port.0 slot Armed; device = device_after_write (Px port Sact) v k.device })
   pub issues : (k : DriverState) (m : Machine) (port : Port) (slot : ℕ) (mode : QueueMode) (e : Pending) (v : ℕ) → IsReachable m → DriverRelation m k
-      → IsPrepared k.uses m k.device port.0 slot mode e v → DriverAdvances k m (Issue mode e ∷ []) (with_slot_serving k port.0 slot e.request.id (written (Px port Ci) v k.device))
+      → IsPrepared k.slot_states m k.device port.0 slot mode e v → DriverAdvances k m (Issue mode e ∷ []) (with_slot_serving k port.0 slot e.request.id (device_after_write (Px port Ci) v k.device))
   pub stays : (uses : SlotStates) (m : Machine) (port : Port) (slot : ℕ) (c : Meaning) (places : List ℕ) (access : Access) (old new : Device) → IsReachable m → StateRelation uses m old
       → old.hr ≡ false → ClearsNoStart port access → DoesNotWrite (Px port Clb) access
-      → ((at : ℕ) (bytes : List ℕ) → access ≡ Storing at bytes → MissesTable port.0 slot at (length bytes)) → Does access old new → IsStored old port.0 slot c places
+      → ((at : ℕ) (bytes : List ℕ) → access ≡ Storing at bytes → MissesHeaderAndTable port.0 slot at (length bytes)) → Does access old new → IsStored old port.0 slot c places
       → IsStored new port.0 slot c places
   pub stands : (uses : SlotStates) (m : Machine) (port slot : ℕ) (c : Meaning) (places : List ℕ) (old new : Device) → IsReachable m → StateRelation uses m old → old.hr ≡ false
       → Steps old new → IsStored old port slot c places → IsStored new port slot c places
   pub permitted : (uses : SlotStates) (m : Machine) (d : Device) (port : Port) (v : ℕ) → IsReachable m → StateRelation uses m d → IsOn d → HasPort d port.0
       → (d.port port.0).st ≡ true → ((slot : ℕ) → bit v slot ≡ true → IsReadyToIssue uses d port.0 slot) → IsStable (MayWrite (Px port Ci) v) d
   pub prepared : (uses : SlotStates) (m : Machine) (d : Device) (port slot : ℕ) (c : Meaning) (places : List ℕ) (mode : QueueMode) (e : Pending) (v : ℕ)
-      → IsReadied uses d port slot c places → IsEnabled m (Issue mode e) → e.request.port.0 ≡ port → slot < mode.usable → (is_plain mode e.request.asked.op ≡ true → slot ≡ 0)
+      → IsReadied uses d port slot c places → IsEnabled m (Issue mode e) → e.request.port.0 ≡ port → slot < mode.usable_slots → (is_plain mode e.request.asked.op ≡ true → slot ≡ 0)
       → MeansRequest port slot e.request c places → is_queued c.operation ≡ not (is_plain mode e.request.asked.op)
-      → HasTrimBlock e.request.asked.op d.memory port e.request → bit v slot ≡ true → ((k : ℕ) → k ≢ slot → bit v k ≡ false) → IsPrepared uses m d port slot mode e v
+      → HasBlockIfTrim e.request.asked.op d.memory port e.request → bit v slot ≡ true → ((k : ℕ) → k ≢ slot → bit v k ≡ false) → IsPrepared uses m d port slot mode e v
   pub follows : (uses : SlotStates) (m : Machine) (old new : Device) → IsReachable m → StateRelation uses m old → Steps old new → SimulatesSteps uses m old new
-  pub leaves : (uses : SlotStates) (m : Machine) (old new : Device) → IsReachable m → StateRelation uses m old → old.hr ≡ false → (r : Reg) (v : ℕ) → Writes r v old new → KeepsTables uses old new
-  pub leaves_steps : (uses : SlotStates) (m : Machine) (old new : Device) → IsReachable m → StateRelation uses m old → old.hr ≡ false → Steps old new → KeepsTables uses old new
-  pub block : (uses : SlotStates) (old new : Device) → KeepsTables uses old new → (port : ℕ) (r : Accepted) → port < 4 → ((o : Operation) → uses port 0 ≡ Own o → ⊥) → HasTrimBlock r.asked.op old.memory port r
-      → HasTrimBlock r.asked.op new.memory port r
+  pub leaves : (uses : SlotStates) (m : Machine) (old new : Device) → IsReachable m → StateRelation uses m old → old.hr ≡ false → (r : Reg) (v : ℕ) → Writes r v old new → KeepsTablesAndScratch uses old new
+  pub leaves_steps : (uses : SlotStates) (m : Machine) (old new : Device) → IsReachable m → StateRelation uses m old → old.hr ≡ false → Steps old new → KeepsTablesAndScratch uses old new
+  pub block : (uses : SlotStates) (old new : Device) → KeepsTablesAndScratch uses old new → (port : ℕ) (r : Accepted) → port < 4 → ((o : Operation) → uses port 0 ≡ Own o → ⊥) → HasBlockIfTrim r.asked.op old.memory port r
+      → HasBlockIfTrim r.asked.op new.memory port r
   pub put_here : (uses : SlotStates) (port slot : ℕ) (u : SlotState) → set_slot_state uses port slot u port slot ≡ u
   pub put_others : (uses : SlotStates) (port slot : ℕ) (u : SlotState) (other_port other_slot : ℕ) → (other_port ≡ port → other_slot ≡ slot → ⊥)
       → set_slot_state uses port slot u other_port other_slot ≡ uses other_port other_slot
@@ -91,18 +91,18 @@ pub only_issues : (mode : QueueMode) (es : List Pending) → All IsIssueStep (is
 only_issues mode [] = All-nil IsIssueStep
 only_issues mode (e ∷ es) = All-append IsIssueStep (issues_of mode es) (Issue mode e ∷ []) (only_issues mode es) (all_one IsIssueStep (Issue mode e) tt)
 
-issues_decide : (port : Port) (v : ℕ) (own : List Step) → All (IsIssueOn port) own → IsOneDecision (Writing (Px port Ci) v) own
+issues_decide : (port : Port) (v : ℕ) (own : List Step) → All (IsIssueStepOn port) own → IsOneDecision (Writing (Px port Ci) v) own
 issues_decide port v [] all = tt
 issues_decide port v (step ∷ []) all = tt
 issues_decide port v (step ∷ other ∷ own) all = all
 
 -- they are of the tasks' port
-issues_on : (port : Port) (mode : QueueMode) (tasks : List PlacedTask) (es : List Pending) → AllZip (λ t e. IsTaskOf port t.slot t.task t.frames mode e) tasks es → All (IsIssueOn port) (issues_of mode es)
-issues_on port mode [] [] zip = All-nil (IsIssueOn port)
+issues_on : (port : Port) (mode : QueueMode) (tasks : List PlacedTask) (es : List Pending) → AllZip (λ t e. IsTaskOf port t.slot t.task t.frames mode e) tasks es → All (IsIssueStepOn port) (issues_of mode es)
+issues_on port mode [] [] zip = All-nil (IsIssueStepOn port)
 issues_on port mode [] (e ∷ es) zip = absurd zip
 issues_on port mode (t ∷ tasks) [] zip = absurd zip
 issues_on port mode (t ∷ tasks) (e ∷ es) zip =
-    All-append (IsIssueOn port) (issues_of mode es) (Issue mode e ∷ []) (issues_on port mode tasks es zip.1) (all_one (IsIssueOn port) (Issue mode e) zip.0.port_is)
+    All-append (IsIssueStepOn port) (issues_of mode es) (Issue mode e ∷ []) (issues_on port mode tasks es zip.1) (all_one (IsIssueStepOn port) (Issue mode e) zip.0.port_is)
 
 -- what may come one after another, in two parts
 may_split : Laws → (m : Machine) (late early : List Step) → AllEnabled m (late ++ early) → AllEnabled m early × AllEnabled (after m early) late
@@ -114,7 +114,7 @@ may_split laws m (step ∷ late) early all =
 -- ---- slots are armed, or left alone
 
 abbrev with_armed : Bool → Port → List PlacedTask → DriverSlots → DriverSlots
-with_armed true port tasks s = record s { uses = uses_armed port.0 tasks s.uses }
+with_armed true port tasks s = record s { slot_states = uses_armed port.0 tasks s.slot_states }
 with_armed false port tasks s = s
 
 abbrev arming_of : Port → Bool → ℕ → List Access
@@ -137,18 +137,18 @@ use_of false queued e = cond-false queued Armed Free e
 -- Acts with these accesses lead to armed slots, or to ones that are free still. The device alone makes steps, and other slots go on as they are used.
 record Reaches (port : Port) (tasks : List PlacedTask) (queued : Bool) (accesses : List Access) (s : DriverSlots) (m : Machine) (from armed : Device) : Type 0 where
   acts : List Act
-  done : AreActsDone acts (driver_state s from) m (driver_state (with_armed queued port tasks s) armed)
+  done : AreActsDone acts (driver_state_of_slots s from) m (driver_state_of_slots (with_armed queued port tasks s) armed)
   accesses_are : accesses_of acts ≡ accesses
   device : AllByDevice (act_steps acts)
-  own : (t : PlacedTask) → Contains tasks t → All (λ act. IsUnissued (act.later.uses port.0 t.slot)) acts
-  others : (q k : ℕ) → (q ≡ port.0 → IsSlotOf tasks k → ⊥) → All (λ act. act.later.uses q k ≡ s.uses q k) acts
+  own : (t : PlacedTask) → Contains tasks t → All (λ act. IsUnissued (act.state_after.slot_states port.0 t.slot)) acts
+  others : (q k : ℕ) → (q ≡ port.0 → IsSlotOf tasks k → ⊥) → All (λ act. act.state_after.slot_states q k ≡ s.slot_states q k) acts
 
 abbrev places_for : Port → PlacedTask → List ℕ
-places_for port t = addresses_of port.0 t.task.op t.task.range.count t.frames
+places_for port t = piece_addresses_of port.0 t.task.op t.task.range.count t.frames
 
 module _ (laws : Laws) (port : Port) where
   -- bit by bit
-  all_armed : (ts : List PlacedTask) (uses : SlotStates) (parked : ℕ → List RequestId) (bits : ℕ → Bool) (d : Device) (m : Machine) → HaveOwnSlots ts → AreUnused port.0 ts uses →
+  all_armed : (ts : List PlacedTask) (uses : SlotStates) (parked : ℕ → List RequestId) (bits : ℕ → Bool) (d : Device) (m : Machine) → HaveOwnSlots ts → BatchSlotsAreUnused port.0 ts uses →
       ((t : PlacedTask) → Contains ts t → (d.port port.0).st ≡ true) → DriverRelation m (driver_state_of uses parked (bits_on sact_bits port d bits)) →
       DriverAdvances (driver_state_of uses parked (bits_on sact_bits port d bits)) m [] (driver_state_of (uses_armed port.0 ts uses) parked (bits_on sact_bits port d (with_bits ts bits)))
   all_armed [] uses parked bits d m apart free runs knows = laws.none (driver_state_of uses parked (bits_on sact_bits port d bits)) m knows
@@ -186,7 +186,7 @@ module _ (laws : Laws) (port : Port) where
     all_issued : (ts : List PlacedTask) (es : List Pending) (uses : SlotStates) (parked : ℕ → List RequestId) (bits : ℕ → Bool) (d : Device) (m : Machine) → AllZip ItsTask ts es → HaveOwnSlots ts →
         IsReachable m → DriverRelation m (driver_state_of uses parked (bits_on ci_bits port d bits)) → AllEnabled m (issues_of mode es) →
         ((t : PlacedTask) → Contains ts t → is_queued (meaning_of t.task).operation ≡ t.task.queued) →
-        ((t : PlacedTask) → Contains ts t → IsReadied uses d port.0 t.slot (meaning_of t.task) (places_for port t)) → ((t : PlacedTask) → Contains ts t → HasBlockOf t.task.op t.task.range port.0 d.memory) →
+        ((t : PlacedTask) → Contains ts t → IsReadied uses d port.0 t.slot (meaning_of t.task) (places_for port t)) → ((t : PlacedTask) → Contains ts t → BlockNamesSectors t.task.op t.task.range port.0 d.memory) →
         DriverAdvances (driver_state_of uses parked (bits_on ci_bits port d bits)) m (issues_of mode es) (driver_state_of (uses_served port.0 ts es uses) parked (bits_on ci_bits port d (with_bits ts bits)))
     all_issued [] [] uses parked bits d m zip apart reached knows may kinds readied blocks = laws.none (driver_state_of uses parked (bits_on ci_bits port d bits)) m knows
     all_issued [] (e ∷ es) uses parked bits d m zip apart reached knows may kinds readied blocks = absurd zip
@@ -221,8 +221,8 @@ module _ (laws : Laws) (port : Port) where
         head t e is plain = is.plain_in_slot_0 (is.queued_is ∙ ap not (sym (ap (is_plain mode) is.operation_is) ∙ plain))
 
   -- a trim's block stands still, where no command of the driver's own is in slot 0
-  module _ (uses : SlotStates) (old new : Device) (low : port.0 < 4) (leaves : KeepsTables uses old new) where
-    block_stays : (op : Op) (range : Range) → (op ≡ Trim → uses port.0 0 ≡ Free) → HasBlockOf op range port.0 old.memory → HasBlockOf op range port.0 new.memory
+  module _ (uses : SlotStates) (old new : Device) (low : port.0 < 4) (leaves : KeepsTablesAndScratch uses old new) where
+    block_stays : (op : Op) (range : Range) → (op ≡ Trim → uses port.0 0 ≡ Free) → BlockNamesSectors op range port.0 old.memory → BlockNamesSectors op range port.0 new.memory
     block_stays Read range free block = tt
     block_stays Write range free block = tt
     block_stays Flush range free block = tt
@@ -233,7 +233,7 @@ module _ (laws : Laws) (port : Port) where
           id = record { 0 = 0 };
           port = port;
           asked = record { client = record { 0 = 0 }; grant = 0; op = Trim; first = range.first; count = range.count; frames = record { items = [] } };
-          held_blocks = λ k place. 0;
+          blocks_at_acceptance = λ k place. 0;
         }
 
   -- ---- the whole
@@ -242,19 +242,19 @@ module _ (laws : Laws) (port : Port) where
     abbrev stores_only : (access : Access) → IsStoreForBatch port.0 tasks access → IsStoring access
     stores_only = batch_stores port.0 tasks
 
-    mid_on : IsOn b.mid
-    mid_on = stores_on laws.leaving port (IsStoreForBatch port.0 tasks) stores_only old b.mid b.stores.is_driven b.adapter_is_on
+    mid_on : IsOn b.after_stores
+    mid_on = stores_on laws.leaving port (IsStoreForBatch port.0 tasks) stores_only old b.after_stores b.stores.is_driven b.adapter_is_on
 
-    mid_may : RunsItsList port.0 b.mid
-    mid_may = stores_may laws.leaving port (IsStoreForBatch port.0 tasks) stores_only old b.mid b.stores.is_driven b.adapter_is_on b.list_runs
+    mid_may : RunsItsList port.0 b.after_stores
+    mid_may = stores_may laws.leaving port (IsStoreForBatch port.0 tasks) stores_only old b.after_stores b.stores.is_driven b.adapter_is_on b.list_runs
 
-    mid_there : HasPort b.mid port.0
-    mid_there = stores_there laws.leaving port (IsStoreForBatch port.0 tasks) stores_only old b.mid b.stores.is_driven b.has_port
+    mid_there : HasPort b.after_stores port.0
+    mid_there = stores_there laws.leaving port (IsStoreForBatch port.0 tasks) stores_only old b.after_stores b.stores.is_driven b.has_port
 
-    stored : (t : PlacedTask) → Contains tasks t → IsStored b.mid port.0 t.slot (meaning_of t.task) (places_for port t)
+    stored : (t : PlacedTask) → Contains tasks t → IsStored b.after_stores port.0 t.slot (meaning_of t.task) (places_for port t)
     stored t is =
-        let says = All-contains (λ x. SaysTask port.0 x b.mid.memory) tasks t b.slots_say_tasks is in
-        stored_in port t.slot (meaning_of t.task) (places_for port t) b.mid mid_there (All-contains (λ x. x.slot < 32) tasks t b.slots_in_range is) mid_may says.slot_says_task
+        let says = All-contains (λ x. SaysTask port.0 x b.after_stores.memory) tasks t b.slots_say_tasks is in
+        stored_in port t.slot (meaning_of t.task) (places_for port t) b.after_stores mid_there (All-contains (λ x. x.slot < 32) tasks t b.slots_in_range is) mid_may says.slot_says_task
 
     kind : (t : PlacedTask) → Contains tasks t → is_queued (meaning_of t.task).operation ≡ t.task.queued
     kind = λ t is. All-contains (λ x. is_queued (meaning_of x.task).operation ≡ x.task.queued) tasks t b.operation_is_queued is
@@ -262,164 +262,164 @@ module _ (laws : Laws) (port : Port) where
     its_kind : (t : PlacedTask) → Contains tasks t → t.task.queued ≡ queued
     its_kind = λ t is. All-contains (λ x. x.task.queued ≡ queued) tasks t b.all_are_of_kind is
 
-    unused : (s : DriverSlots) → AreUnused port.0 tasks s.uses → (t : PlacedTask) → Contains tasks t → s.uses port.0 t.slot ≡ Free
-    unused s free t is = All-contains (λ x. s.uses port.0 x.slot ≡ Free) tasks t free is
+    unused : (s : DriverSlots) → BatchSlotsAreUnused port.0 tasks s.slot_states → (t : PlacedTask) → Contains tasks t → s.slot_states port.0 t.slot ≡ Free
+    unused s free t is = All-contains (λ x. s.slot_states port.0 x.slot ≡ Free) tasks t free is
 
     -- ---- arming
 
     -- the write of PxSACT
-    module _ (call : Writes (Px port Sact) own b.mid armed) (s : DriverSlots) (m : Machine) (reached : IsReachable m) (knows : DriverRelation m (driver_state s b.mid)) (free : AreUnused port.0 tasks s.uses) where
+    module _ (call : Writes (Px port Sact) own b.after_stores armed) (s : DriverSlots) (m : Machine) (reached : IsReachable m) (knows : DriverRelation m (driver_state_of_slots s b.after_stores)) (free : BatchSlotsAreUnused port.0 tasks s.slot_states) where
       abbrev later_armed : DriverState
-      later_armed = driver_state (with_armed true port tasks s) armed
+      later_armed = driver_state_of_slots (with_armed true port tasks s) armed
 
-      arm_ends : EndsInSteps (driver_state s b.mid) m [] later_armed
+      arm_ends : EndsInSteps (driver_state_of_slots s b.after_stores) m [] later_armed
       arm_ends =
-          let k : DriverState = driver_state s b.mid in
-          let between : DriverState = driver_state s call.mid in
-          let x : (steps : List Step) × AllByDevice steps × DriverAdvances k m steps between = laws.access k between m (laws.part k call.mid call.steps) reached knows in
-          let bits : ℕ → Bool = (call.mid.port port.0).sact in
-          let y : DriverAdvances (driver_state_of s.uses s.parked (bits_on sact_bits port call.mid bits)) (after m x.0) []
-          (driver_state_of (uses_armed port.0 tasks s.uses) s.parked (bits_on sact_bits port call.mid (with_bits tasks bits))) =
-          all_armed tasks s.uses s.parked bits call.mid (after m x.0) b.slots_are_apart free
-          (λ t is. (laws.stands s.uses m port.0 t.slot (meaning_of t.task) (places_for port t) b.mid call.mid reached knows.state_relation mid_on.no_reset call.steps (stored t is)).st_is_set)
-          (subst (λ (d : Device). DriverRelation (after m x.0) (driver_state_of s.uses s.parked d)) (sym (bits_begin sact_bits port call.mid)) x.2.driver_relation) in
+          let k : DriverState = driver_state_of_slots s b.after_stores in
+          let between : DriverState = driver_state_of_slots s call.at_access in
+          let x : (steps : List Step) × AllByDevice steps × DriverAdvances k m steps between = laws.access k between m (laws.part k call.at_access call.steps) reached knows in
+          let bits : ℕ → Bool = (call.at_access.port port.0).sact in
+          let y : DriverAdvances (driver_state_of s.slot_states s.awaiting_disposition (bits_on sact_bits port call.at_access bits)) (after m x.0) []
+          (driver_state_of (uses_armed port.0 tasks s.slot_states) s.awaiting_disposition (bits_on sact_bits port call.at_access (with_bits tasks bits))) =
+          all_armed tasks s.slot_states s.awaiting_disposition bits call.at_access (after m x.0) b.slots_are_apart free
+          (λ t is. (laws.stands s.slot_states m port.0 t.slot (meaning_of t.task) (places_for port t) b.after_stores call.at_access reached knows.state_relation mid_on.no_reset call.steps (stored t is)).st_is_set)
+          (subst (λ (d : Device). DriverRelation (after m x.0) (driver_state_of s.slot_states s.awaiting_disposition d)) (sym (bits_begin sact_bits port call.at_access)) x.2.driver_relation) in
           let z : DriverAdvances between (after m x.0) [] later_armed =
-          subst (λ (d : Device). DriverAdvances between (after m x.0) [] (driver_state_of (uses_armed port.0 tasks s.uses) s.parked d)) (sym (bits_written sact_bits port call.mid tasks own b.bits) ∙ sym call.effect)
-          (subst (λ (d : Device). DriverAdvances (driver_state_of s.uses s.parked d) (after m x.0) [] (driver_state_of (uses_armed port.0 tasks s.uses) s.parked (bits_on sact_bits port call.mid (with_bits tasks bits))))
-          (bits_begin sact_bits port call.mid) y) in
+          subst (λ (d : Device). DriverAdvances between (after m x.0) [] (driver_state_of (uses_armed port.0 tasks s.slot_states) s.awaiting_disposition d)) (sym (bits_written sact_bits port call.at_access tasks own b.mask_has_slots) ∙ sym call.effect)
+          (subst (λ (d : Device). DriverAdvances (driver_state_of s.slot_states s.awaiting_disposition d) (after m x.0) [] (driver_state_of (uses_armed port.0 tasks s.slot_states) s.awaiting_disposition (bits_on sact_bits port call.at_access (with_bits tasks bits))))
+          (bits_begin sact_bits port call.at_access) y) in
           let g : DriverAdvances k m x.0 later_armed = laws.compose k between later_armed m x.0 [] x.2 z in
-          record { steps = x.0; only = x.1; steps_are_enabled = g.steps_are_enabled; is_backed = g.is_backed; driver_relation = g.driver_relation }
+          record { steps = x.0; all_steps_are_devices = x.1; steps_are_enabled = g.steps_are_enabled; is_backed = g.is_backed; driver_relation = g.driver_relation }
 
-    armed_from : (kind : Bool) → WritesSactIfQueued kind port own b.mid armed → (s : DriverSlots) (m : Machine) → IsReachable m → DriverRelation m (driver_state s b.mid) → AreUnused port.0 tasks s.uses →
-        Reaches port tasks kind (arming_of port kind own) s m b.mid armed
+    armed_from : (kind : Bool) → WritesSactIfQueued kind port own b.after_stores armed → (s : DriverSlots) (m : Machine) → IsReachable m → DriverRelation m (driver_state_of_slots s b.after_stores) → BatchSlotsAreUnused port.0 tasks s.slot_states →
+        Reaches port tasks kind (arming_of port kind own) s m b.after_stores armed
     armed_from true call s m reached knows free =
-        let e : EndsInSteps (driver_state s b.mid) m [] (driver_state (with_armed true port tasks s) armed) = arm_ends call s m reached knows free in
-        let act : Act = record { access = Some (Writing (Px port Sact) own); steps = e.steps; later = driver_state (with_armed true port tasks s) armed } in
+        let e : EndsInSteps (driver_state_of_slots s b.after_stores) m [] (driver_state_of_slots (with_armed true port tasks s) armed) = arm_ends call s m reached knows free in
+        let act : Act = record { access = Some (Writing (Px port Sact) own); steps = e.steps; state_after = driver_state_of_slots (with_armed true port tasks s) armed } in
         record {
           acts = act ∷ [];
-          done = (laws.ends (driver_state s b.mid) (driver_state (with_armed true port tasks s) armed) m (Writing (Px port Sact) own) [] e tt call, refl);
+          done = (laws.ends (driver_state_of_slots s b.after_stores) (driver_state_of_slots (with_armed true port tasks s) armed) m (Writing (Px port Sact) own) [] e tt call, refl);
           accesses_are = refl;
-          device = e.only;
-          own = λ t is. all_one (λ (a : Act). IsUnissued (a.later.uses port.0 t.slot)) act (inr (armed_here laws.put_here laws.put_others port.0 tasks s.uses b.slots_are_apart t.slot (t, is, refl)));
-          others = λ q k other. all_one (λ (a : Act). a.later.uses q k ≡ s.uses q k) act (armed_others laws.put_here laws.put_others port.0 tasks s.uses q k other);
+          device = e.all_steps_are_devices;
+          own = λ t is. all_one (λ (a : Act). IsUnissued (a.state_after.slot_states port.0 t.slot)) act (inr (armed_here laws.put_here laws.put_others port.0 tasks s.slot_states b.slots_are_apart t.slot (t, is, refl)));
+          others = λ q k other. all_one (λ (a : Act). a.state_after.slot_states q k ≡ s.slot_states q k) act (armed_others laws.put_here laws.put_others port.0 tasks s.slot_states q k other);
         }
     armed_from false same s m reached knows free = record {
       acts = [];
-      done = ap (λ (d : Device). driver_state s d) same;
+      done = ap (λ (d : Device). driver_state_of_slots s d) same;
       accesses_are = refl;
       device = tt;
-      own = λ t is. All-nil (λ (a : Act). IsUnissued (a.later.uses port.0 t.slot));
-      others = λ q k other. All-nil (λ (a : Act). a.later.uses q k ≡ s.uses q k);
+      own = λ t is. All-nil (λ (a : Act). IsUnissued (a.state_after.slot_states port.0 t.slot));
+      others = λ q k other. All-nil (λ (a : Act). a.state_after.slot_states q k ≡ s.slot_states q k);
     }
 
-    armed_on : (kind : Bool) → WritesSactIfQueued kind port own b.mid armed → IsOn armed
-    armed_on true call = laws.on (Writing (Px port Sact) own) b.mid armed mid_on (λ v e. absurd cc) call
+    armed_on : (kind : Bool) → WritesSactIfQueued kind port own b.after_stores armed → IsOn armed
+    armed_on true call = laws.on (Writing (Px port Sact) own) b.after_stores armed mid_on (λ v e. absurd cc) call
     armed_on false same = subst IsOn (sym same) mid_on
 
     on_armed : IsOn armed
     on_armed = armed_on queued b.arms
 
-    armed_same : (kind : Bool) → WritesSactIfQueued kind port own b.mid armed → (armed.pi ≡ b.mid.pi) × (armed.cap ≡ b.mid.cap)
-    armed_same true call = let z = laws.same (Writing (Px port Sact) own) b.mid armed call in (z.pi, z.cap)
+    armed_same : (kind : Bool) → WritesSactIfQueued kind port own b.after_stores armed → (armed.pi ≡ b.after_stores.pi) × (armed.cap ≡ b.after_stores.cap)
+    armed_same true call = let z = laws.same (Writing (Px port Sact) own) b.after_stores armed call in (z.pi, z.cap)
     armed_same false same = (ap (λ (d : Device). d.pi) same, ap (λ (d : Device). d.cap) same)
 
-    armed_runs : (kind : Bool) → WritesSactIfQueued kind port own b.mid armed → (armed.port port.0).st ≡ true
-    armed_runs true call = ((laws.controls port (Writing (Px port Sact) own) b.mid armed mid_on.no_reset call).command (λ e. absurd cc)).0 ∙ mid_may.st_is_set
+    armed_runs : (kind : Bool) → WritesSactIfQueued kind port own b.after_stores armed → (armed.port port.0).st ≡ true
+    armed_runs true call = ((laws.controls port (Writing (Px port Sact) own) b.after_stores armed mid_on.no_reset call).command (λ e. absurd cc)).0 ∙ mid_may.st_is_set
     armed_runs false same = ap (λ (d : Device). (d.port port.0).st) same ∙ mid_may.st_is_set
 
-    armed_stored : (kind : Bool) → WritesSactIfQueued kind port own b.mid armed → (uses : SlotStates) (m : Machine) → IsReachable m → StateRelation uses m b.mid → (t : PlacedTask) → Contains tasks t →
+    armed_stored : (kind : Bool) → WritesSactIfQueued kind port own b.after_stores armed → (uses : SlotStates) (m : Machine) → IsReachable m → StateRelation uses m b.after_stores → (t : PlacedTask) → Contains tasks t →
         IsStored armed port.0 t.slot (meaning_of t.task) (places_for port t)
     armed_stored true call uses m reached agrees t is =
-        laws.stays uses m port t.slot (meaning_of t.task) (places_for port t) (Writing (Px port Sact) own) b.mid armed reached agrees mid_on.no_reset (λ v e. absurd cc) (λ e. absurd cc) (λ at bytes e. absurd cc) call (stored t is)
+        laws.stays uses m port t.slot (meaning_of t.task) (places_for port t) (Writing (Px port Sact) own) b.after_stores armed reached agrees mid_on.no_reset (λ v e. absurd cc) (λ e. absurd cc) (λ at bytes e. absurd cc) call (stored t is)
     armed_stored false same uses m reached agrees t is = subst (λ (d : Device). IsStored d port.0 t.slot (meaning_of t.task) (places_for port t)) (sym same) (stored t is)
 
-    armed_used : (kind : Bool) (s : DriverSlots) → AreUnused port.0 tasks s.uses → (t : PlacedTask) → Contains tasks t → (with_armed kind port tasks s).uses port.0 t.slot ≡ unused_use kind
-    armed_used true s free t is = armed_here laws.put_here laws.put_others port.0 tasks s.uses b.slots_are_apart t.slot (t, is, refl)
+    armed_used : (kind : Bool) (s : DriverSlots) → BatchSlotsAreUnused port.0 tasks s.slot_states → (t : PlacedTask) → Contains tasks t → (with_armed kind port tasks s).slot_states port.0 t.slot ≡ unused_use kind
+    armed_used true s free t is = armed_here laws.put_here laws.put_others port.0 tasks s.slot_states b.slots_are_apart t.slot (t, is, refl)
     armed_used false s free t is = unused s free t is
 
     -- a trim isn't queued, so its slot 0 is free
-    trim_free : (s : DriverSlots) → AreUnused port.0 tasks s.uses → (t : PlacedTask) → Contains tasks t → t.task.op ≡ Trim → (with_armed queued port tasks s).uses port.0 0 ≡ Free
+    trim_free : (s : DriverSlots) → BatchSlotsAreUnused port.0 tasks s.slot_states → (t : PlacedTask) → Contains tasks t → t.task.op ≡ Trim → (with_armed queued port tasks s).slot_states port.0 0 ≡ Free
     trim_free s free t is trim =
         let plain : t.task.queued ≡ false = sym (kind t is) ∙ ap (λ (o : Op). is_queued (task_operation t.task.queued o)) trim ∙ never t.task.queued in
-        ap (λ (q : Bool). (with_armed q port tasks s).uses port.0 0) (sym (its_kind t is) ∙ plain)
-        ∙ (ap (s.uses port.0) (sym (All-contains (λ x. x.task.op ≡ Trim → x.slot ≡ 0) tasks t b.trim_in_slot_0 is trim)) ∙ unused s free t is)
+        ap (λ (q : Bool). (with_armed q port tasks s).slot_states port.0 0) (sym (its_kind t is) ∙ plain)
+        ∙ (ap (s.slot_states port.0) (sym (All-contains (λ x. x.task.op ≡ Trim → x.slot ≡ 0) tasks t b.trim_in_slot_0 is trim)) ∙ unused s free t is)
       where
         never : (q : Bool) → is_queued (task_operation q Trim) ≡ false
         never true = refl
         never false = refl
 
     -- a queued task has no block, and a plain one's is as it was
-    armed_block : (kind : Bool) → WritesSactIfQueued kind port own b.mid armed → kind ≡ queued → (t : PlacedTask) → Contains tasks t → (op : Op) → t.task.op ≡ op → HasBlockOf op t.task.range port.0 b.mid.memory → HasBlockOf op t.task.range port.0 armed.memory
+    armed_block : (kind : Bool) → WritesSactIfQueued kind port own b.after_stores armed → kind ≡ queued → (t : PlacedTask) → Contains tasks t → (op : Op) → t.task.op ≡ op → BlockNamesSectors op t.task.range port.0 b.after_stores.memory → BlockNamesSectors op t.task.range port.0 armed.memory
     armed_block true call is_kind t is Trim trim block =
         absurd (let z : true ≡ false = is_kind ∙ sym (its_kind t is) ∙ sym (kind t is) ∙ ap (λ (o : Op). is_queued (task_operation t.task.queued o)) trim ∙ never t.task.queued in cc)
       where
         never : (q : Bool) → is_queued (task_operation q Trim) ≡ false
         never true = refl
         never false = refl
-    armed_block false same is_kind t is Trim trim block = subst (λ (d : Device). HasBlockOf Trim t.task.range port.0 d.memory) (sym same) block
+    armed_block false same is_kind t is Trim trim block = subst (λ (d : Device). BlockNamesSectors Trim t.task.range port.0 d.memory) (sym same) block
     armed_block kind call is_kind t is Read e block = tt
     armed_block kind call is_kind t is Write e block = tt
     armed_block kind call is_kind t is Flush e block = tt
 
-    block_then : (t : PlacedTask) → Contains tasks t → HasBlockOf t.task.op t.task.range port.0 armed.memory
-    block_then t is = let says = All-contains (λ x. SaysTask port.0 x b.mid.memory) tasks t b.slots_say_tasks is in armed_block queued b.arms refl t is t.task.op refl says.block_names_sectors
+    block_then : (t : PlacedTask) → Contains tasks t → BlockNamesSectors t.task.op t.task.range port.0 armed.memory
+    block_then t is = let says = All-contains (λ x. SaysTask port.0 x b.after_stores.memory) tasks t b.slots_say_tasks is in armed_block queued b.arms refl t is t.task.op refl says.block_names_sectors
 
     -- from a machine that agrees, acts lead to the armed slots, which are ready for PxCI
     record Stage (s : DriverSlots) (m : Machine) : Type 0 where
       reaches : Reaches port tasks queued (b.stores.is_driven.accesses ++ arming_of port queued own) s m old armed
-      goes : DriverAdvances (driver_state s old) m (act_steps reaches.acts) (driver_state (with_armed queued port tasks s) armed)
+      goes : DriverAdvances (driver_state_of_slots s old) m (act_steps reaches.acts) (driver_state_of_slots (with_armed queued port tasks s) armed)
       reached : IsReachable (after m (act_steps reaches.acts))
-      readied : (t : PlacedTask) → Contains tasks t → IsReadied (with_armed queued port tasks s).uses armed port.0 t.slot (meaning_of t.task) (places_for port t)
+      readied : (t : PlacedTask) → Contains tasks t → IsReadied (with_armed queued port tasks s).slot_states armed port.0 t.slot (meaning_of t.task) (places_for port t)
 
-    stage : (s : DriverSlots) (m : Machine) → IsReachable m → DriverRelation m (driver_state s old) → AreUnused port.0 tasks s.uses → Stage s m
-    stage s m reached knows free = record { reaches = reaches; goes = goes; reached = laws.acts.reached (driver_state s old) later m (act_steps reaches.acts) reached goes; readied = readied }
+    stage : (s : DriverSlots) (m : Machine) → IsReachable m → DriverRelation m (driver_state_of_slots s old) → BatchSlotsAreUnused port.0 tasks s.slot_states → Stage s m
+    stage s m reached knows free = record { reaches = reaches; goes = goes; reached = laws.acts.reached (driver_state_of_slots s old) later m (act_steps reaches.acts) reached goes; readied = readied }
       where
         later : DriverState
-        later = driver_state (with_armed queued port tasks s) armed
+        later = driver_state_of_slots (with_armed queued port tasks s) armed
 
-        x : ActsReach b.stores.is_driven.accesses (driver_state s old) m (driver_state s b.mid) (OnlyDeviceActs (IsStoreForBatch port.0 tasks) s.uses)
+        x : ActsReach b.stores.is_driven.accesses (driver_state_of_slots s old) m (driver_state_of_slots s b.after_stores) (DeviceStepsKeepSlots (IsStoreForBatch port.0 tasks) s.slot_states)
         x = b.stores.acts_reach s m reached knows free
 
-        g : DriverAdvances (driver_state s old) m (act_steps x.acts) (driver_state s b.mid)
-        g = laws.acts.goes x.acts (driver_state s old) (driver_state s b.mid) m knows x.acts_are_done
+        g : DriverAdvances (driver_state_of_slots s old) m (act_steps x.acts) (driver_state_of_slots s b.after_stores)
+        g = laws.acts.goes x.acts (driver_state_of_slots s old) (driver_state_of_slots s b.after_stores) m knows x.acts_are_done
 
         mid_reached : IsReachable (after m (act_steps x.acts))
-        mid_reached = laws.acts.reached (driver_state s old) (driver_state s b.mid) m (act_steps x.acts) reached g
+        mid_reached = laws.acts.reached (driver_state_of_slots s old) (driver_state_of_slots s b.after_stores) m (act_steps x.acts) reached g
 
-        y : Reaches port tasks queued (arming_of port queued own) s (after m (act_steps x.acts)) b.mid armed
+        y : Reaches port tasks queued (arming_of port queued own) s (after m (act_steps x.acts)) b.after_stores armed
         y = armed_from queued b.arms s (after m (act_steps x.acts)) mid_reached g.driver_relation free
 
-        kept : (q : Port) → All (λ act. act.later.uses q.0 ≡ s.uses q.0) x.acts
-        kept q = x.tells.kept q (λ access is. storing_writes_none (Px q Ci) access (stores_only access is)) (λ access is. storing_writes_none (Px q Sact) access (stores_only access is))
+        kept : (q : Port) → All (λ act. act.state_after.slot_states q.0 ≡ s.slot_states q.0) x.acts
+        kept q = x.acts_are_such.unwritten_ports_keep_slots q (λ access is. storing_writes_none (Px q Ci) access (stores_only access is)) (λ access is. storing_writes_none (Px q Sact) access (stores_only access is))
 
         reaches : Reaches port tasks queued (b.stores.is_driven.accesses ++ arming_of port queued own) s m old armed
         reaches = record {
           acts = x.acts ++ y.acts;
-          done = laws.acts.more x.acts y.acts (driver_state s old) (driver_state s b.mid) later m x.acts_are_done y.done;
+          done = laws.acts.more x.acts y.acts (driver_state_of_slots s old) (driver_state_of_slots s b.after_stores) later m x.acts_are_done y.done;
           accesses_are = laws.acts.accesses x.acts y.acts
-              ∙ (ap (λ (early : List Access). early ++ accesses_of y.acts) x.accesses_are ∙ ap (λ (late : List Access). b.stores.is_driven.accesses ++ late) y.accesses_are);
-          device = subst AllByDevice (sym (laws.acts.steps x.acts y.acts)) (laws.acts.device (act_steps y.acts) (act_steps x.acts) y.device x.tells.only);
-          own = λ t is. let P : Act → Type 0 = λ act. IsUnissued (act.later.uses port.0 t.slot) in
+              ∙ (ap (λ (early : List Access). early ++ accesses_of y.acts) x.accesses_match_acts ∙ ap (λ (late : List Access). b.stores.is_driven.accesses ++ late) y.accesses_are);
+          device = subst AllByDevice (sym (laws.acts.steps x.acts y.acts)) (laws.acts.device (act_steps y.acts) (act_steps x.acts) y.device x.acts_are_such.all_steps_are_devices);
+          own = λ t is. let P : Act → Type 0 = λ act. IsUnissued (act.state_after.slot_states port.0 t.slot) in
               All-append P x.acts y.acts
-              (all_as (λ act. act.later.uses port.0 ≡ s.uses port.0) P (λ act same. inl (ap (λ (f : ℕ → SlotState). f t.slot) same ∙ unused s free t is)) x.acts (kept port)) (y.own t is);
+              (all_as (λ act. act.state_after.slot_states port.0 ≡ s.slot_states port.0) P (λ act same. inl (ap (λ (f : ℕ → SlotState). f t.slot) same ∙ unused s free t is)) x.acts (kept port)) (y.own t is);
           others = λ q k other.
-              let P : Act → Type 0 = λ act. act.later.uses q k ≡ s.uses q k in
+              let P : Act → Type 0 = λ act. act.state_after.slot_states q k ≡ s.slot_states q k in
               All-append P x.acts y.acts
-              (all_as (λ act. act.later.uses q ≡ s.uses q) P (λ act same. ap (λ (f : ℕ → SlotState). f k) same) x.acts (kept (port_at q))) (y.others q k other);
+              (all_as (λ act. act.state_after.slot_states q ≡ s.slot_states q) P (λ act same. ap (λ (f : ℕ → SlotState). f k) same) x.acts (kept (port_at q))) (y.others q k other);
         }
 
-        goes : DriverAdvances (driver_state s old) m (act_steps reaches.acts) later
-        goes = laws.acts.goes reaches.acts (driver_state s old) later m knows reaches.done
+        goes : DriverAdvances (driver_state_of_slots s old) m (act_steps reaches.acts) later
+        goes = laws.acts.goes reaches.acts (driver_state_of_slots s old) later m knows reaches.done
 
-        readied : (t : PlacedTask) → Contains tasks t → IsReadied (with_armed queued port tasks s).uses armed port.0 t.slot (meaning_of t.task) (places_for port t)
+        readied : (t : PlacedTask) → Contains tasks t → IsReadied (with_armed queued port tasks s).slot_states armed port.0 t.slot (meaning_of t.task) (places_for port t)
         readied t is = record {
           slot_state_is = armed_used queued s free t is ∙ sym (use_of queued (is_queued (meaning_of t.task).operation) (kind t is ∙ its_kind t is));
-          stored = armed_stored queued b.arms s.uses (after m (act_steps x.acts)) mid_reached g.driver_relation.state_relation t is;
+          stored = armed_stored queued b.arms s.slot_states (after m (act_steps x.acts)) mid_reached g.driver_relation.state_relation t is;
         }
 
     -- the machine that the caller knows of
     abbrev s0 : DriverSlots
-    s0 = record { uses = b.machine_is_related.0; parked = b.machine_is_related.2.parked }
+    s0 = record { slot_states = b.machine_is_related.0; awaiting_disposition = b.machine_is_related.2.parked }
 
     known_stage : Stage s0 b.machine_is_related.2.machine
     known_stage = stage s0 b.machine_is_related.2.machine b.machine_is_related.2.reached b.machine_is_related.2.driver_relation b.machine_is_related.1
@@ -428,13 +428,13 @@ module _ (laws : Laws) (port : Port) where
     permitted =
         let x = known_stage in
         let same = armed_same queued b.arms in
-        let whole = stores_same laws.leaving port (IsStoreForBatch port.0 tasks) stores_only old b.mid b.stores.is_driven in
-        laws.permitted (with_armed queued port tasks s0).uses (after b.machine_is_related.2.machine (act_steps x.reaches.acts)) armed port own x.reached x.goes.driver_relation.state_relation on_armed
+        let whole = stores_same laws.leaving port (IsStoreForBatch port.0 tasks) stores_only old b.after_stores b.stores.is_driven in
+        laws.permitted (with_armed queued port tasks s0).slot_states (after b.machine_is_related.2.machine (act_steps x.reaches.acts)) armed port own x.reached x.goes.driver_relation.state_relation on_armed
         (b.has_port.0, ap (λ (pi : ℕ). bit pi port.0) (same.0 ∙ whole.pi) ∙ b.has_port.1) (armed_runs queued b.arms)
         (λ slot set.
-        let t : IsSlotOf tasks slot = b.bits.no_other_is_set slot set in
-        subst (IsReadyToIssue (with_armed queued port tasks s0).uses armed port.0) t.2 (record {
-          usable = subst (λ (cap : ℕ). t.0.slot ≤ cap / 256 % 32) (sym (same.1 ∙ whole.cap)) (All-contains (λ z. z.slot ≤ old.cap / 256 % 32) tasks t.0 b.slots_are_usable t.1);
+        let t : IsSlotOf tasks slot = b.mask_has_slots.no_other_is_set slot set in
+        subst (IsReadyToIssue (with_armed queued port tasks s0).slot_states armed port.0) t.2 (record {
+          slot_is_implemented = subst (λ (cap : ℕ). t.0.slot ≤ cap / 256 % 32) (sym (same.1 ∙ whole.cap)) (All-contains (λ z. z.slot ≤ old.cap / 256 % 32) tasks t.0 b.slots_are_usable t.1);
           command = meaning_of t.0.task;
           places = places_for port t.0;
           readied = x.readied t.0 t.1;
@@ -443,7 +443,7 @@ module _ (laws : Laws) (port : Port) where
     -- ---- PxCI is written
 
     module _ (new : Device) (call : Writes (Px port Ci) own armed new) where
-      arming_does : (kind : Bool) → WritesSactIfQueued kind port own b.mid armed → DoesAll (arming_of port kind own) b.mid armed
+      arming_does : (kind : Bool) → WritesSactIfQueued kind port own b.after_stores armed → DoesAll (arming_of port kind own) b.after_stores armed
       arming_does true arms = (armed, arms, refl)
       arming_does false arms = arms
 
@@ -470,7 +470,7 @@ module _ (laws : Laws) (port : Port) where
       driven_all : DoesAll accesses old new
       driven_all =
           does_then (b.stores.is_driven.accesses ++ arming_of port queued own) (Writing (Px port Ci) own ∷ []) old armed new
-          (does_then b.stores.is_driven.accesses (arming_of port queued own) old b.mid armed b.stores.is_driven.all_are_done (arming_does queued b.arms)) (new, call, refl)
+          (does_then b.stores.is_driven.accesses (arming_of port queued own) old b.after_stores armed b.stores.is_driven.all_are_done (arming_does queued b.arms)) (new, call, refl)
 
       writes_are : (kind : Bool) → arming_of port kind own ++ Writing (Px port Ci) own ∷ [] ≡ issuing_writes port kind own
       writes_are true = refl
@@ -479,83 +479,83 @@ module _ (laws : Laws) (port : Port) where
       in_order : StoresThenWritesAll port queued tasks accesses
       in_order = record {
         stores = b.stores.is_driven.accesses;
-        only = b.stores.is_driven.accesses_are_of_kind;
+        all_are_batch_stores = b.stores.is_driven.accesses_are_of_kind;
         mask = own;
-        bits = b.bits;
-        order = append_assoc b.stores.is_driven.accesses (arming_of port queued own) (Writing (Px port Ci) own ∷ [])
+        mask_has_slots = b.mask_has_slots;
+        accesses_are = append_assoc b.stores.is_driven.accesses (arming_of port queued own) (Writing (Px port Ci) own ∷ [])
             ∙ ap (λ (late : List Access). b.stores.is_driven.accesses ++ late) (writes_are queued);
       }
 
       -- ---- from a machine on which the requests may be issued
 
       module _ (mode : QueueMode) (es : List Pending) (zip : AllZip (ItsTask mode) tasks es) where
-        serves_as : (kind : Bool) (s : DriverSlots) → record (with_armed kind port tasks s) { uses = uses_served port.0 tasks es (with_armed kind port tasks s).uses } ≡ with_serving_batch port tasks es s
+        serves_as : (kind : Bool) (s : DriverSlots) → record (with_armed kind port tasks s) { slot_states = uses_served port.0 tasks es (with_armed kind port tasks s).slot_states } ≡ with_serving_batch port tasks es s
         serves_as true s =
-            ap (λ (uses : SlotStates). record s { uses = uses }) (served_armed laws.put_here laws.put_others port.0 (ItsTask mode) tasks es s.uses zip) ∙ serving_batch_is port tasks es s
+            ap (λ (uses : SlotStates). record s { slot_states = uses }) (served_armed laws.put_here laws.put_others port.0 (ItsTask mode) tasks es s.slot_states zip) ∙ serving_batch_is port tasks es s
         serves_as false s = serving_batch_is port tasks es s
 
         -- the write of PxCI
-        module _ (s : DriverSlots) (m : Machine) (reached : IsReachable m) (knows : DriverRelation m (driver_state s armed)) (may : AllEnabled m (issues_of mode es))
-            (readied : (t : PlacedTask) → Contains tasks t → IsReadied s.uses armed port.0 t.slot (meaning_of t.task) (places_for port t)) (trims : (t : PlacedTask) → Contains tasks t → t.task.op ≡ Trim → s.uses port.0 0 ≡ Free) where
+        module _ (s : DriverSlots) (m : Machine) (reached : IsReachable m) (knows : DriverRelation m (driver_state_of_slots s armed)) (may : AllEnabled m (issues_of mode es))
+            (readied : (t : PlacedTask) → Contains tasks t → IsReadied s.slot_states armed port.0 t.slot (meaning_of t.task) (places_for port t)) (trims : (t : PlacedTask) → Contains tasks t → t.task.op ≡ Trim → s.slot_states port.0 0 ≡ Free) where
           abbrev k : DriverState
-          k = driver_state s armed
+          k = driver_state_of_slots s armed
 
           abbrev between : DriverState
-          between = driver_state s call.mid
+          between = driver_state_of_slots s call.at_access
 
           abbrev served : DriverState
-          served = driver_state_of (uses_served port.0 tasks es s.uses) s.parked new
+          served = driver_state_of (uses_served port.0 tasks es s.slot_states) s.awaiting_disposition new
 
           issue_ends : EndsInSteps k m (issues_of mode es) served
           issue_ends =
-              let x : (steps : List Step) × AllByDevice steps × DriverAdvances k m steps between = laws.access k between m (laws.part k call.mid call.steps) reached knows in
-              let bits : ℕ → Bool = (call.mid.port port.0).ci in
-              let leaves : KeepsTables s.uses armed call.mid = laws.leaves_steps s.uses m armed call.mid reached knows.state_relation on_armed.no_reset call.steps in
-              let y : DriverAdvances (driver_state_of s.uses s.parked (bits_on ci_bits port call.mid bits)) (after m x.0) (issues_of mode es)
-              (driver_state_of (uses_served port.0 tasks es s.uses) s.parked (bits_on ci_bits port call.mid (with_bits tasks bits))) =
-              all_issued mode tasks es s.uses s.parked bits call.mid (after m x.0) zip b.slots_are_apart (laws.acts.reached k between m x.0 reached x.2)
-              (subst (λ (d : Device). DriverRelation (after m x.0) (driver_state_of s.uses s.parked d)) (sym (bits_begin ci_bits port call.mid)) x.2.driver_relation)
+              let x : (steps : List Step) × AllByDevice steps × DriverAdvances k m steps between = laws.access k between m (laws.part k call.at_access call.steps) reached knows in
+              let bits : ℕ → Bool = (call.at_access.port port.0).ci in
+              let leaves : KeepsTablesAndScratch s.slot_states armed call.at_access = laws.leaves_steps s.slot_states m armed call.at_access reached knows.state_relation on_armed.no_reset call.steps in
+              let y : DriverAdvances (driver_state_of s.slot_states s.awaiting_disposition (bits_on ci_bits port call.at_access bits)) (after m x.0) (issues_of mode es)
+              (driver_state_of (uses_served port.0 tasks es s.slot_states) s.awaiting_disposition (bits_on ci_bits port call.at_access (with_bits tasks bits))) =
+              all_issued mode tasks es s.slot_states s.awaiting_disposition bits call.at_access (after m x.0) zip b.slots_are_apart (laws.acts.reached k between m x.0 reached x.2)
+              (subst (λ (d : Device). DriverRelation (after m x.0) (driver_state_of s.slot_states s.awaiting_disposition d)) (sym (bits_begin ci_bits port call.at_access)) x.2.driver_relation)
               (laws.due m x.0 reached x.1 x.2.steps_are_enabled (issues_of mode es) (only_issues mode es) may) kind
               (λ t is. record {
                 slot_state_is = (readied t is).slot_state_is;
-                stored = laws.stands s.uses m port.0 t.slot (meaning_of t.task) (places_for port t) armed call.mid reached knows.state_relation on_armed.no_reset call.steps (readied t is).stored;
+                stored = laws.stands s.slot_states m port.0 t.slot (meaning_of t.task) (places_for port t) armed call.at_access reached knows.state_relation on_armed.no_reset call.steps (readied t is).stored;
               })
-              (λ t is. block_stays s.uses armed call.mid b.has_port.0 leaves t.task.op t.task.range (trims t is) (block_then t is)) in
+              (λ t is. block_stays s.slot_states armed call.at_access b.has_port.0 leaves t.task.op t.task.range (trims t is) (block_then t is)) in
               let z : DriverAdvances between (after m x.0) (issues_of mode es) served =
-              subst (λ (d : Device). DriverAdvances between (after m x.0) (issues_of mode es) (driver_state_of (uses_served port.0 tasks es s.uses) s.parked d)) (sym (bits_written ci_bits port call.mid tasks own b.bits) ∙ sym call.effect)
-              (subst (λ (d : Device). DriverAdvances (driver_state_of s.uses s.parked d) (after m x.0) (issues_of mode es) (driver_state_of (uses_served port.0 tasks es s.uses) s.parked (bits_on ci_bits port call.mid (with_bits tasks bits))))
-              (bits_begin ci_bits port call.mid) y) in
+              subst (λ (d : Device). DriverAdvances between (after m x.0) (issues_of mode es) (driver_state_of (uses_served port.0 tasks es s.slot_states) s.awaiting_disposition d)) (sym (bits_written ci_bits port call.at_access tasks own b.mask_has_slots) ∙ sym call.effect)
+              (subst (λ (d : Device). DriverAdvances (driver_state_of s.slot_states s.awaiting_disposition d) (after m x.0) (issues_of mode es) (driver_state_of (uses_served port.0 tasks es s.slot_states) s.awaiting_disposition (bits_on ci_bits port call.at_access (with_bits tasks bits))))
+              (bits_begin ci_bits port call.at_access) y) in
               let g : DriverAdvances k m (issues_of mode es ++ x.0) served = laws.compose k between served m x.0 (issues_of mode es) x.2 z in
-              record { steps = x.0; only = x.1; steps_are_enabled = g.steps_are_enabled; is_backed = g.is_backed; driver_relation = g.driver_relation }
+              record { steps = x.0; all_steps_are_devices = x.1; steps_are_enabled = g.steps_are_enabled; is_backed = g.is_backed; driver_relation = g.driver_relation }
 
-        comes : (s : DriverSlots) (m : Machine) → IsReachable m → DriverRelation m (driver_state s old) → MayServeBatch port tasks mode es s m →
-            ActsReach accesses (driver_state s old) m (driver_state (with_serving_batch port tasks es s) new) (IssuesBatchAtEnd port tasks mode es s.uses)
+        comes : (s : DriverSlots) (m : Machine) → IsReachable m → DriverRelation m (driver_state_of_slots s old) → MayServeBatch port tasks mode es s m →
+            ActsReach accesses (driver_state_of_slots s old) m (driver_state_of_slots (with_serving_batch port tasks es s) new) (IssuesBatchAtEnd port tasks mode es s.slot_states)
         comes s m reached knows fits = record {
           acts = x.reaches.acts ++ act ∷ [];
-          acts_are_done = laws.acts.more x.reaches.acts (act ∷ []) (driver_state s old) before later m x.reaches.done (last, refl);
-          accesses_are = laws.acts.accesses x.reaches.acts (act ∷ []) ∙ ap (λ (early : List Access). early ++ Writing (Px port Ci) own ∷ []) x.reaches.accesses_are;
-          tells = record {
+          acts_are_done = laws.acts.more x.reaches.acts (act ∷ []) (driver_state_of_slots s old) before later m x.reaches.done (last, refl);
+          accesses_match_acts = laws.acts.accesses x.reaches.acts (act ∷ []) ∙ ap (λ (early : List Access). early ++ Writing (Px port Ci) own ∷ []) x.reaches.accesses_are;
+          acts_are_such = record {
             device_steps = ends.steps ++ act_steps x.reaches.acts;
             last_act_issues = (x.reaches.acts, act, refl, x.reaches.device);
-            only_device_before = laws.acts.device ends.steps (act_steps x.reaches.acts) ends.only x.reaches.device;
+            only_device_before = laws.acts.device ends.steps (act_steps x.reaches.acts) ends.all_steps_are_devices x.reaches.device;
             issues_come_last = laws.acts.steps x.reaches.acts (act ∷ []) ∙ append_assoc (issues_of mode es) ends.steps (act_steps x.reaches.acts);
-            own_slots_are = zip_as (λ t e. uses_served port.0 tasks es s.uses port.0 t.slot ≡ Serves e.request.id) (λ t e. All (λ a. IsBeingIssued e.request.id (a.later.uses port.0 t.slot)) (x.reaches.acts ++ act ∷ [])) tasks es
-                (λ t e is serves. let P : Act → Type 0 = λ a. IsBeingIssued e.request.id (a.later.uses port.0 t.slot) in
+            own_slots_are_being_issued = zip_as (λ t e. uses_served port.0 tasks es s.slot_states port.0 t.slot ≡ Serves e.request.id) (λ t e. All (λ a. IsBeingIssued e.request.id (a.state_after.slot_states port.0 t.slot)) (x.reaches.acts ++ act ∷ [])) tasks es
+                (λ t e is serves. let P : Act → Type 0 = λ a. IsBeingIssued e.request.id (a.state_after.slot_states port.0 t.slot) in
                 All-append P x.reaches.acts (act ∷ [])
-                (all_as (λ a. IsUnissued (a.later.uses port.0 t.slot)) P (λ a u. ⊎_elim (λ free. inl free) (λ is_armed. inr (inl is_armed)) u) x.reaches.acts (x.reaches.own t is))
-                (all_one P act (inr (inr (ap (λ (z : DriverSlots). z.uses port.0 t.slot) (sym (serving_batch_is port tasks es s)) ∙ serves)))))
-                (served_here laws.put_here laws.put_others port.0 (ItsTask mode) tasks es s.uses b.slots_are_apart zip);
-            other_slots_are_kept = λ q k other. let P : Act → Type 0 = λ a. a.later.uses q k ≡ s.uses q k in
+                (all_as (λ a. IsUnissued (a.state_after.slot_states port.0 t.slot)) P (λ a u. ⊎_elim (λ free. inl free) (λ is_armed. inr (inl is_armed)) u) x.reaches.acts (x.reaches.own t is))
+                (all_one P act (inr (inr (ap (λ (z : DriverSlots). z.slot_states port.0 t.slot) (sym (serving_batch_is port tasks es s)) ∙ serves)))))
+                (served_here laws.put_here laws.put_others port.0 (ItsTask mode) tasks es s.slot_states b.slots_are_apart zip);
+            other_slots_are_kept = λ q k other. let P : Act → Type 0 = λ a. a.state_after.slot_states q k ≡ s.slot_states q k in
                 All-append P x.reaches.acts (act ∷ []) (x.reaches.others q k other)
-                (all_one P act (ap (λ (z : DriverSlots). z.uses q k) (sym (serving_batch_is port tasks es s)) ∙ served_others laws.put_here laws.put_others port.0 tasks es s.uses q k other));
+                (all_one P act (ap (λ (z : DriverSlots). z.slot_states q k) (sym (serving_batch_is port tasks es s)) ∙ served_others laws.put_here laws.put_others port.0 tasks es s.slot_states q k other));
           };
         }
           where
             before : DriverState
-            before = driver_state (with_armed queued port tasks s) armed
+            before = driver_state_of_slots (with_armed queued port tasks s) armed
 
             later : DriverState
-            later = driver_state (with_serving_batch port tasks es s) new
+            later = driver_state_of_slots (with_serving_batch port tasks es s) new
 
             x : Stage s m
             x = stage s m reached knows fits.slots_are_free
@@ -567,11 +567,11 @@ module _ (laws : Laws) (port : Port) where
             may2 = laws.due m (act_steps x.reaches.acts) reached x.reaches.device x.goes.steps_are_enabled (issues_of mode es) (only_issues mode es) fits.may_be_issued
 
             ends : EndsInSteps before m2 (issues_of mode es) later
-            ends = subst (λ (z : DriverSlots). EndsInSteps before m2 (issues_of mode es) (driver_state z new)) (serves_as queued s)
+            ends = subst (λ (z : DriverSlots). EndsInSteps before m2 (issues_of mode es) (driver_state_of_slots z new)) (serves_as queued s)
                 (issue_ends (with_armed queued port tasks s) m2 x.reached x.goes.driver_relation may2 x.readied (trim_free s fits.slots_are_free))
 
             act : Act
-            act = record { access = Some (Writing (Px port Ci) own); steps = issues_of mode es ++ ends.steps; later = later }
+            act = record { access = Some (Writing (Px port Ci) own); steps = issues_of mode es ++ ends.steps; state_after = later }
 
             last : IsActDone before m2 act
             last = laws.ends before later m2 (Writing (Px port Ci) own) (issues_of mode es) ends (issues_decide port own (issues_of mode es) (issues_on port mode tasks es zip)) call
@@ -579,22 +579,22 @@ module _ (laws : Laws) (port : Port) where
       -- ---- what it leaves
 
       abbrev uses0 : SlotStates
-      uses0 = (with_armed queued port tasks s0).uses
+      uses0 = (with_armed queued port tasks s0).slot_states
 
       abbrev m0 : Machine
       m0 = after b.machine_is_related.2.machine (act_steps known_stage.reaches.acts)
 
       set : (t : PlacedTask) → Contains tasks t → (new.port port.0).ci t.slot ≡ true
       set t is = ap (λ (d : Device). (d.port port.0).ci t.slot) call.effect
-          ∙ (ap (λ (p : DevicePort). p.ci t.slot) (changed_here call.mid.port port.0 _)
-          ∙ or_right ((call.mid.port port.0).ci t.slot) (bit own t.slot) (All-contains (λ x. bit own x.slot ≡ true) tasks t b.bits.slots_are_set is))
+          ∙ (ap (λ (p : DevicePort). p.ci t.slot) (changed_here call.at_access.port port.0 _)
+          ∙ or_right ((call.at_access.port port.0).ci t.slot) (bit own t.slot) (All-contains (λ x. bit own x.slot ≡ true) tasks t b.mask_has_slots.slots_are_set is))
 
       stored_then : (t : PlacedTask) → Contains tasks t → IsStored new port.0 t.slot (meaning_of t.task) (places_for port t)
       stored_then t is =
           laws.stays uses0 m0 port t.slot (meaning_of t.task) (places_for port t) (Writing (Px port Ci) own) armed new known_stage.reached known_stage.goes.driver_relation.state_relation on_armed.no_reset
           (λ v e. absurd cc) (λ e. absurd cc) (λ at bytes e. absurd cc) call (known_stage.readied t is).stored
 
-      block_new : (t : PlacedTask) → Contains tasks t → HasBlockOf t.task.op t.task.range port.0 new.memory
+      block_new : (t : PlacedTask) → Contains tasks t → BlockNamesSectors t.task.op t.task.range port.0 new.memory
       block_new t is =
           block_stays uses0 armed new b.has_port.0 (laws.leaves uses0 m0 armed new known_stage.reached known_stage.goes.driver_relation.state_relation on_armed.no_reset (Px port Ci) own call) t.task.op t.task.range
           (trim_free s0 b.machine_is_related.1 t is) (block_then t is)
@@ -602,13 +602,13 @@ module _ (laws : Laws) (port : Port) where
       -- an armed slot's bit of PxSACT goes as ST does
       active : (t : PlacedTask) → Contains tasks t → t.task.queued ≡ true → (new.port port.0).sact t.slot ≡ true
       active t is its_queued =
-          let f : SimulatesSteps uses0 m0 armed call.mid = laws.follows uses0 m0 armed call.mid known_stage.reached known_stage.goes.driver_relation.state_relation call.steps in
+          let f : SimulatesSteps uses0 m0 armed call.at_access = laws.follows uses0 m0 armed call.at_access known_stage.reached known_stage.goes.driver_relation.state_relation call.steps in
           let used : uses0 port.0 t.slot ≡ Armed = (known_stage.readied t is).slot_state_is ∙ cond-true (is_queued (meaning_of t.task).operation) Armed Free (kind t is ∙ its_queued) in
-          let h : IsArmed (call.mid.port port.0) t.slot = subst (λ (u : SlotState). RelatesSlot (after m0 f.steps) call.mid.memory call.mid.tape (call.mid.port port.0) port.0 t.slot u) used (f.agrees.relates_slots port.0 t.slot) in
+          let h : IsArmed (call.at_access.port port.0) t.slot = subst (λ (u : SlotState). RelatesSlot (after m0 f.steps) call.at_access.memory call.at_access.tape (call.at_access.port port.0) port.0 t.slot u) used (f.state_relation.relates_slots port.0 t.slot) in
           ap (λ (d : Device). (d.port port.0).sact t.slot) call.effect
-          ∙ (ap (λ (p : DevicePort). p.sact t.slot) (changed_here call.mid.port port.0 _)
+          ∙ (ap (λ (p : DevicePort). p.sact t.slot) (changed_here call.at_access.port port.0 _)
           ∙ (h.armed
-          ∙ (sym (ap (λ (d : Device). (d.port port.0).st) call.effect ∙ ap (λ (p : DevicePort). p.st) (changed_here call.mid.port port.0 _)) ∙ (stored_then t is).st_is_set)))
+          ∙ (sym (ap (λ (d : Device). (d.port port.0).st) call.effect ∙ ap (λ (p : DevicePort). p.st) (changed_here call.at_access.port port.0 _)) ∙ (stored_then t is).st_is_set)))
 
       issued : IsBatchIssued port tasks old new
       issued = record {
@@ -619,11 +619,11 @@ module _ (laws : Laws) (port : Port) where
           slots_in_range = b.slots_in_range;
           slots_are_apart = b.slots_are_apart;
           driven = record { accesses = accesses; all_are_done = driven_all; accesses_are_of_kind = driven_only };
-          order = in_order;
+          stores_come_first = in_order;
           machine_follows = λ mode es zip. comes mode es zip;
         };
         stored = all_in (λ t. IsStored new port.0 t.slot (meaning_of t.task) (places_for port t)) tasks stored_then;
-        block_names_sectors = all_in (λ t. HasBlockOf t.task.op t.task.range port.0 new.memory) tasks block_new;
+        block_names_sectors = all_in (λ t. BlockNamesSectors t.task.op t.task.range port.0 new.memory) tasks block_new;
         ci_is_set = all_in (λ t. (new.port port.0).ci t.slot ≡ true) tasks set;
         sact_is_set = all_in (λ t. t.task.queued ≡ true → (new.port port.0).sact t.slot ≡ true) tasks active;
       }

@@ -17,10 +17,10 @@ use Rattle.block_machine.specs.Expected.{after}
 use Rattle.block_machine.specs.State.{Machine, Pending}
 use Rattle.block_machine.specs.Steps.{Step}
 use Rattle.block_machine.specs.declared.due.QueueMode.{QueueMode}
-use Rattle.refinement.specs.Acts.{Act, AreActsDone, ActsReach, DriverSlots, driver_state, act_steps}
-use Rattle.refinement.specs.Fragments.{AnyUse, IsSimulated, SparesOtherPorts, GainsNoMove}
-use Rattle.refinement.specs.Driver.{EndsInSteps, DriverAdvances, IsBacked, DriverState, DriverRelation}
-use Rattle.refinement.specs.Slots.{Own, SlotState, op_of}
+use Rattle.refinement.specs.Acts.{Act, AreActsDone, ActsReach, DriverSlots, driver_state_of_slots, act_steps}
+use Rattle.refinement.specs.Fragments.{AnySlotStates, IsSimulated, SparesOtherPorts, GainsNoMove}
+use Rattle.refinement.specs.Driver.{EndsInSteps, DriverAdvances, TapeBacksSteps, DriverState, DriverRelation}
+use Rattle.refinement.specs.Slots.{Own, SlotState, client_operation_of}
 use Rattle.commands.specs.Masks.{ReadsDone, ReadsCiOrSact}
 use Rattle.commands.specs.Batches.{IsBatchAccess, IsSlotOf, IssuesBatch, IssuesBatchAtEnd, MayServeBatch, PlacedTask, issues_of, with_serving_batch}
 use Rattle.commands.specs.Tasks.{IsBeingIssued, IsTaskOf}
@@ -51,8 +51,8 @@ finding_of port (Loading place bytes) here = absurd here
 -- what laws of acts say
 pub record Laws : Type 0 where
   pub goes : (acts : List Act) (k later : DriverState) (m : Machine) → DriverRelation m k → AreActsDone acts k m later → DriverAdvances k m (act_steps acts) later
-  pub silent : (acts : List Act) (k later : DriverState) (m : Machine) (port : ℕ) (o : Operation) → op_of o ≡ None → IsReachable m → DriverRelation m k → (k.uses port 0 ≡ Own o → ⊥)
-      → All (λ act. act.later.uses port 0 ≡ Own o → ⊥) acts → AreActsDone acts k m later → GainsNoMove port o k.device later.device
+  pub silent : (acts : List Act) (k later : DriverState) (m : Machine) (port : ℕ) (o : Operation) → client_operation_of o ≡ None → IsReachable m → DriverRelation m k → (k.slot_states port 0 ≡ Own o → ⊥)
+      → All (λ act. act.state_after.slot_states port 0 ≡ Own o → ⊥) acts → AreActsDone acts k m later → GainsNoMove port o k.device later.device
 
 -- a slot on its way has no command of the driver's own
 not_own : (id : RequestId) (o : Operation) (u : SlotState) → IsBeingIssued id u → u ≡ Own o → ⊥
@@ -61,48 +61,48 @@ not_own id o u (inr (inl e)) own = absurd cc
 not_own id o u (inr (inr e)) own = absurd cc
 
 module _ (laws : Laws) (port : Port) (tasks : List PlacedTask) (mode : QueueMode) (es : List Pending) (old new : Device) (s : DriverSlots) (m : Machine) (i : IssuesBatch port tasks old new)
-    (is : AllZip (λ t e. IsTaskOf port t.slot t.task t.frames mode e) tasks es) (reached : IsReachable m) (knows : DriverRelation m (driver_state s old)) (fits : MayServeBatch port tasks mode es s m) where
+    (is : AllZip (λ t e. IsTaskOf port t.slot t.task t.frames mode e) tasks es) (reached : IsReachable m) (knows : DriverRelation m (driver_state_of_slots s old)) (fits : MayServeBatch port tasks mode es s m) where
   later : DriverState
-  later = driver_state (with_serving_batch port tasks es s) new
+  later = driver_state_of_slots (with_serving_batch port tasks es s) new
 
-  x : ActsReach i.driven.accesses (driver_state s old) m later (IssuesBatchAtEnd port tasks mode es s.uses)
+  x : ActsReach i.driven.accesses (driver_state_of_slots s old) m later (IssuesBatchAtEnd port tasks mode es s.slot_states)
   unfolding later
   x = i.machine_follows mode es is s m reached knows fits
 
-  g : DriverAdvances (driver_state s old) m (act_steps x.acts) later
-  g = laws.goes x.acts (driver_state s old) later m knows x.acts_are_done
+  g : DriverAdvances (driver_state_of_slots s old) m (act_steps x.acts) later
+  g = laws.goes x.acts (driver_state_of_slots s old) later m knows x.acts_are_done
 
-  pub ends : EndsInSteps (driver_state s old) m (issues_of mode es) (driver_state (with_serving_batch port tasks es s) new)
+  pub ends : EndsInSteps (driver_state_of_slots s old) m (issues_of mode es) (driver_state_of_slots (with_serving_batch port tasks es s) new)
   unfolding later
   ends = record {
-    steps = x.tells.device_steps;
-    only = x.tells.only_device_before;
-    steps_are_enabled = subst (λ (steps : List Step). AllEnabled m steps) x.tells.issues_come_last g.steps_are_enabled;
-    is_backed = subst (λ (steps : List Step). IsBacked old new m steps) x.tells.issues_come_last g.is_backed;
-    driver_relation = subst (λ (steps : List Step). DriverRelation (after m steps) later) x.tells.issues_come_last g.driver_relation;
+    steps = x.acts_are_such.device_steps;
+    all_steps_are_devices = x.acts_are_such.only_device_before;
+    steps_are_enabled = subst (λ (steps : List Step). AllEnabled m steps) x.acts_are_such.issues_come_last g.steps_are_enabled;
+    is_backed = subst (λ (steps : List Step). TapeBacksSteps old new m steps) x.acts_are_such.issues_come_last g.is_backed;
+    driver_relation = subst (λ (steps : List Step). DriverRelation (after m steps) later) x.acts_are_such.issues_come_last g.driver_relation;
   }
 
-  pub silent : (q : ℕ) (o : Operation) → op_of o ≡ None → (s.uses q 0 ≡ Own o → ⊥) → GainsNoMove q o old new
+  pub silent : (q : ℕ) (o : Operation) → client_operation_of o ≡ None → (s.slot_states q 0 ≡ Own o → ⊥) → GainsNoMove q o old new
   unfolding later
-  silent q o own not = laws.silent x.acts (driver_state s old) later m q o own reached knows not (never (cases_eq q port.0) (slot_cases tasks 0)) x.acts_are_done
+  silent q o own not = laws.silent x.acts (driver_state_of_slots s old) later m q o own reached knows not (never (cases_eq q port.0) (slot_cases tasks 0)) x.acts_are_done
     where
       P : Act → Type 0
-      P act = act.later.uses q 0 ≡ Own o → ⊥
+      P act = act.state_after.slot_states q 0 ≡ Own o → ⊥
 
       beside : (q ≡ port.0 → IsSlotOf tasks 0 → ⊥) → All P x.acts
-      beside other = all_as (λ act. act.later.uses q 0 ≡ s.uses q 0) P (λ act same is_own. not (sym same ∙ is_own)) x.acts (x.tells.other_slots_are_kept q 0 other)
+      beside other = all_as (λ act. act.state_after.slot_states q 0 ≡ s.slot_states q 0) P (λ act same is_own. not (sym same ∙ is_own)) x.acts (x.acts_are_such.other_slots_are_kept q 0 other)
 
       never : (q ≡ port.0) ⊎ (q ≡ port.0 → ⊥) → IsSlotOf tasks 0 ⊎ (IsSlotOf tasks 0 → ⊥) → All P x.acts
       never (inl at_port) (inl t) =
-          let z = zip_at (λ t e. All (λ act. IsBeingIssued e.request.id (act.later.uses port.0 t.slot)) x.acts) tasks es x.tells.own_slots_are t.0 t.1 in
-          all_as (λ act. IsBeingIssued z.0.request.id (act.later.uses port.0 t.0.slot)) P
-          (λ act way is_own. not_own z.0.request.id o (act.later.uses port.0 t.0.slot) way (ap (act.later.uses port.0) t.2 ∙ (sym (ap (λ (n : ℕ). act.later.uses n 0) at_port) ∙ is_own))) x.acts z.1
+          let z = zip_at (λ t e. All (λ act. IsBeingIssued e.request.id (act.state_after.slot_states port.0 t.slot)) x.acts) tasks es x.acts_are_such.own_slots_are_being_issued t.0 t.1 in
+          all_as (λ act. IsBeingIssued z.0.request.id (act.state_after.slot_states port.0 t.0.slot)) P
+          (λ act way is_own. not_own z.0.request.id o (act.state_after.slot_states port.0 t.0.slot) way (ap (act.state_after.slot_states port.0) t.2 ∙ (sym (ap (λ (n : ℕ). act.state_after.slot_states n 0) at_port) ∙ is_own))) x.acts z.1
       never (inr other) slots = beside (λ a b. other a)
       never (inl at_port) (inr other) = beside (λ a b. other b)
 
 -- ---- finding
 
-pub finding_followed : (port : Port) (mask done : ℕ) (old new : Device) → ReadsDone port mask done old new → IsSimulated (ReadsCiOrSact port) AnyUse old new
+pub finding_followed : (port : Port) (mask done : ℕ) (old new : Device) → ReadsDone port mask done old new → IsSimulated (ReadsCiOrSact port) AnySlotStates old new
 finding_followed port mask done old new f = record {
   is_driven = f.driven;
   acts_reach = λ s m reached knows any.
@@ -110,10 +110,10 @@ finding_followed port mask done old new f = record {
       record {
         acts = x.acts;
         acts_are_done = x.acts_are_done;
-        accesses_are = x.accesses_are;
-        tells = record {
-          only = x.tells.only_device_steps;
-          kept = λ q issues arms. all_as (λ act. act.later.uses ≡ s.uses) (λ act. act.later.uses q.0 ≡ s.uses q.0) (λ act same. ap (λ (uses : ℕ → ℕ → SlotState). uses q.0) same) x.acts x.tells.slots_are_kept;
+        accesses_match_acts = x.accesses_match_acts;
+        acts_are_such = record {
+          all_steps_are_devices = x.acts_are_such.only_device_steps;
+          unwritten_ports_keep_slots = λ q issues arms. all_as (λ act. act.state_after.slot_states ≡ s.slot_states) (λ act. act.state_after.slot_states q.0 ≡ s.slot_states q.0) (λ act same. ap (λ (uses : ℕ → ℕ → SlotState). uses q.0) same) x.acts x.acts_are_such.slots_are_kept;
         };
       };
 }

@@ -10,27 +10,27 @@ use Rattle.hba_regs.specs.declared.reg.PortReg.TheVariants.{Ci, Sact}
 use Rattle.adapter.specs.Access.{Access, Does, Reads}
 use Rattle.adapter.specs.Access.Access.{Reading, Writing}
 use Rattle.adapter.specs.Device.{DevicePort, Device}
-use Rattle.adapter.specs.KeptBySteps.{Keeps}
+use Rattle.adapter.specs.KeptBySteps.{KeepsOverSteps}
 use Rattle.adapter.specs.Rules.{IsOn}
 use Rattle.adapter.specs.Steps.{Steps}
 use Rattle.block_machine.specs.Events.{AllByDevice}
 use Rattle.block_machine.specs.Histories.{IsReachable, IsSimulatedBySteps}
 use Rattle.block_machine.specs.Expected.{after}
 use Rattle.block_machine.specs.State.{Machine}
-use Rattle.block_machine.specs.Steps.{Step, NoneQuarantined}
-use Rattle.refinement.specs.Acts.{Act, DriverSlots, IsActDone, ActsReach, driver_state}
+use Rattle.block_machine.specs.Steps.{Step, NoneKept}
+use Rattle.refinement.specs.Acts.{Act, DriverSlots, IsActDone, ActsReach, driver_state_of_slots}
 use Rattle.refinement.specs.Relation.{StateRelation}
 use Rattle.refinement.specs.Driver.{DriverState, DriverRelation, IsBackedByDeviceAlone, DriverAdvances}
 use Rattle.refinement.specs.PortFacts.{EndedIn, IsSlotClear}
-use Rattle.refinement.specs.Links.{LeavesControls}
+use Rattle.refinement.specs.PreservedParts.{LeavesControls}
 use Rattle.refinement.specs.Slots.{Serves, SlotStates}
-use Rattle.commands.specs.Masks.{IsDoneMask, ReadsDone, FindsEnds, ReadsCiOrSact, SeesClear}
+use Rattle.commands.specs.Masks.{IsDoneMask, ReadsDone, FindsEnds, ReadsCiOrSact, FindsEachClearSlot}
 use Rattle.commands.proofs.Batch.{changed_here}
 
 -- what laws of the crates below say
 pub record Laws : Type 0 where
   pub access : (k later : DriverState) (m : Machine) (access : Access) → IsSimulatedBySteps DriverRelation k later (IsBackedByDeviceAlone k.device later.device) → IsReachable m → DriverRelation m k
-      → Does access k.device later.device → (steps : List Step) × AllByDevice steps × IsActDone k m (record { access = Some access; steps = steps; later = later })
+      → Does access k.device later.device → (steps : List Step) × AllByDevice steps × IsActDone k m (record { access = Some access; steps = steps; state_after = later })
   pub on : (access : Access) (old new : Device) → IsOn old → ((v : ℕ) → access ≡ Writing Ghc v → (bit v 31 ≡ true) × (bit v 0 ≡ false)) → Does access old new → IsOn new
   pub controls : (port : Port) (access : Access) (old new : Device) → old.hr ≡ false → Does access old new → LeavesControls access port (old.port port.0) (new.port port.0)
   pub ends : (uses : SlotStates) (m : Machine) (d : Device) (port : Port) (slot : ℕ) (id : RequestId) → StateRelation uses m d → uses port.0 slot ≡ Serves id → (d.port port.0).st ≡ true
@@ -39,8 +39,8 @@ pub record Laws : Type 0 where
   pub device : (late early : List Step) → AllByDevice late → AllByDevice early → AllByDevice (late ++ early)
   pub after_both : (m : Machine) (late early : List Step) → after m (late ++ early) ≡ after (after m early) late
   pub reading : (k : DriverState) (r : Reg) (v : ℕ) (new : Device) → Reads r v k.device new → IsSimulatedBySteps DriverRelation k (record k { device = new }) (IsBackedByDeviceAlone k.device new)
-  pub keeps : (old new : Device) → Steps old new → Keeps old new
-  pub kept : (m : Machine) (steps : List Step) (port : Port) → AllByDevice steps → NoneQuarantined m port → NoneQuarantined (after m steps) port
+  pub keeps : (old new : Device) → Steps old new → KeepsOverSteps old new
+  pub kept : (m : Machine) (steps : List Step) (port : Port) → AllByDevice steps → NoneKept m port → NoneKept (after m steps) port
 
 -- clear bits of the mask
 all_clear : (a b c : Bool) → a && not b && not c ≡ true → (b ≡ false) × (c ≡ false)
@@ -63,31 +63,31 @@ module _ (laws : Laws) (port : Port) (mask done issued active : ℕ) (old mid ne
   -- ---- bits
 
   -- a reading leaves the bits as they are
-  mid_ci : (slot : ℕ) → (mid.port port.0).ci slot ≡ (first.mid.port port.0).ci slot
-  mid_ci slot = ap (λ (d : Device). (d.port port.0).ci slot) first.effect ∙ ap (λ (p : DevicePort). p.ci slot) (changed_here first.mid.port port.0 _)
+  mid_ci : (slot : ℕ) → (mid.port port.0).ci slot ≡ (first.at_access.port port.0).ci slot
+  mid_ci slot = ap (λ (d : Device). (d.port port.0).ci slot) first.effect ∙ ap (λ (p : DevicePort). p.ci slot) (changed_here first.at_access.port port.0 _)
 
-  mid_sact : (slot : ℕ) → (mid.port port.0).sact slot ≡ (first.mid.port port.0).sact slot
-  mid_sact slot = ap (λ (d : Device). (d.port port.0).sact slot) first.effect ∙ ap (λ (p : DevicePort). p.sact slot) (changed_here first.mid.port port.0 _)
+  mid_sact : (slot : ℕ) → (mid.port port.0).sact slot ≡ (first.at_access.port port.0).sact slot
+  mid_sact slot = ap (λ (d : Device). (d.port port.0).sact slot) first.effect ∙ ap (λ (p : DevicePort). p.sact slot) (changed_here first.at_access.port port.0 _)
 
-  new_ci : (slot : ℕ) → (new.port port.0).ci slot ≡ (second.mid.port port.0).ci slot
-  new_ci slot = ap (λ (d : Device). (d.port port.0).ci slot) second.effect ∙ ap (λ (p : DevicePort). p.ci slot) (changed_here second.mid.port port.0 _)
+  new_ci : (slot : ℕ) → (new.port port.0).ci slot ≡ (second.at_access.port port.0).ci slot
+  new_ci slot = ap (λ (d : Device). (d.port port.0).ci slot) second.effect ∙ ap (λ (p : DevicePort). p.ci slot) (changed_here second.at_access.port port.0 _)
 
-  new_sact : (slot : ℕ) → (new.port port.0).sact slot ≡ (second.mid.port port.0).sact slot
-  new_sact slot = ap (λ (d : Device). (d.port port.0).sact slot) second.effect ∙ ap (λ (p : DevicePort). p.sact slot) (changed_here second.mid.port port.0 _)
+  new_sact : (slot : ℕ) → (new.port port.0).sact slot ≡ (second.at_access.port port.0).sact slot
+  new_sact slot = ap (λ (d : Device). (d.port port.0).sact slot) second.effect ∙ ap (λ (p : DevicePort). p.sact slot) (changed_here second.at_access.port port.0 _)
 
   -- what was read clear is clear, and what was clear is read so
   ci_clear : (slot : ℕ) → slot < 32 → bit issued slot ≡ false → (new.port port.0).ci slot ≡ false
-  ci_clear slot small read = new_ci slot ∙ ((laws.keeps mid second.mid second.steps).ports_are_kept port.0).ci slot (mid_ci slot ∙ (sym (first.shows slot small) ∙ read))
+  ci_clear slot small read = new_ci slot ∙ ((laws.keeps mid second.at_access second.steps).ports_are_kept port.0).ci_stays_clear slot (mid_ci slot ∙ (sym (first.shows slot small) ∙ read))
 
   sact_clear : (slot : ℕ) → slot < 32 → bit active slot ≡ false → (new.port port.0).sact slot ≡ false
   sact_clear slot small read = new_sact slot ∙ (sym (second.shows slot small) ∙ read)
 
-  sees : SeesClear port mask done old
+  sees : FindsEachClearSlot port mask done old
   sees slot small asked ci sact =
       clear slot small
-      ∙ are_clear (bit mask slot) (bit issued slot) (bit active slot) asked (first.shows slot small ∙ ((laws.keeps old first.mid first.steps).ports_are_kept port.0).ci slot ci)
+      ∙ are_clear (bit mask slot) (bit issued slot) (bit active slot) asked (first.shows slot small ∙ ((laws.keeps old first.at_access first.steps).ports_are_kept port.0).ci_stays_clear slot ci)
       (second.shows slot small
-      ∙ ((laws.keeps mid second.mid second.steps).ports_are_kept port.0).sact slot (mid_sact slot ∙ ((laws.keeps old first.mid first.steps).ports_are_kept port.0).sact slot sact))
+      ∙ ((laws.keeps mid second.at_access second.steps).ports_are_kept port.0).sact_stays_clear slot (mid_sact slot ∙ ((laws.keeps old first.at_access first.steps).ports_are_kept port.0).sact_stays_clear slot sact))
 
   started : (old.port port.0).st ≡ true → (new.port port.0).st ≡ true
   started st =
@@ -99,37 +99,37 @@ module _ (laws : Laws) (port : Port) (mask done issued active : ℕ) (old mid ne
   abbrev accesses : List Access
   accesses = Reading (Px port Ci) issued ∷ Reading (Px port Sact) active ∷ []
 
-  comes : (s : DriverSlots) (m : Machine) → IsReachable m → DriverRelation m (driver_state s old) → Unit {0} → ActsReach accesses (driver_state s old) m (driver_state s new) (FindsEnds port done old new s m)
+  comes : (s : DriverSlots) (m : Machine) → IsReachable m → DriverRelation m (driver_state_of_slots s old) → Unit {0} → ActsReach accesses (driver_state_of_slots s old) m (driver_state_of_slots s new) (FindsEnds port done old new s m)
   comes s m reached knows any = record {
     acts = one ∷ two ∷ [];
     acts_are_done = (x.2, (y.2, refl));
-    accesses_are = refl;
-    tells = record {
+    accesses_match_acts = refl;
+    acts_are_such = record {
       only_device_steps = laws.device y.0 x.0 y.1 x.1;
       slots_are_kept = All-cons P one (two ∷ []) refl (All-cons P two [] refl (All-nil P));
       requests_have_ended = λ st slot id small is serves.
           let bits = all_clear (bit mask slot) (bit issued slot) (bit active slot) (sym (clear slot small) ∙ is) in
-          let found = laws.ends s.uses (after (after m x.0) y.0) new port slot id y.2.driver_advances.driver_relation.state_relation serves (started st) (ci_clear slot small bits.0) (sact_clear slot small bits.1) in
+          let found = laws.ends s.slot_states (after (after m x.0) y.0) new port slot id y.2.driver_advances.driver_relation.state_relation serves (started st) (ci_clear slot small bits.0) (sact_clear slot small bits.1) in
           (found.0.over, subst (λ (n : Machine). EndedIn n port id) (sym (laws.after_both m y.0 x.0)) found.1);
       none_is_quarantined = laws.kept m (y.0 ++ x.0) port (laws.device y.0 x.0 y.1 x.1);
     };
   }
     where
       P : Act → Type 0
-      P act = act.later.uses ≡ s.uses
+      P act = act.state_after.slot_states ≡ s.slot_states
 
-      x : (steps : List Step) × AllByDevice steps × IsActDone (driver_state s old) m (record { access = Some (Reading (Px port Ci) issued); steps = steps; later = driver_state s mid })
-      x = laws.access (driver_state s old) (driver_state s mid) m (Reading (Px port Ci) issued) (laws.reading (driver_state s old) (Px port Ci) issued mid first) reached knows first
+      x : (steps : List Step) × AllByDevice steps × IsActDone (driver_state_of_slots s old) m (record { access = Some (Reading (Px port Ci) issued); steps = steps; state_after = driver_state_of_slots s mid })
+      x = laws.access (driver_state_of_slots s old) (driver_state_of_slots s mid) m (Reading (Px port Ci) issued) (laws.reading (driver_state_of_slots s old) (Px port Ci) issued mid first) reached knows first
 
-      y : (steps : List Step) × AllByDevice steps × IsActDone (driver_state s mid) (after m x.0) (record { access = Some (Reading (Px port Sact) active); steps = steps; later = driver_state s new })
-      y = laws.access (driver_state s mid) (driver_state s new) (after m x.0) (Reading (Px port Sact) active) (laws.reading (driver_state s mid) (Px port Sact) active new second)
-          (laws.reached (driver_state s old) (driver_state s mid) m x.0 reached x.2.driver_advances) x.2.driver_advances.driver_relation second
+      y : (steps : List Step) × AllByDevice steps × IsActDone (driver_state_of_slots s mid) (after m x.0) (record { access = Some (Reading (Px port Sact) active); steps = steps; state_after = driver_state_of_slots s new })
+      y = laws.access (driver_state_of_slots s mid) (driver_state_of_slots s new) (after m x.0) (Reading (Px port Sact) active) (laws.reading (driver_state_of_slots s mid) (Px port Sact) active new second)
+          (laws.reached (driver_state_of_slots s old) (driver_state_of_slots s mid) m x.0 reached x.2.driver_advances) x.2.driver_advances.driver_relation second
 
       one : Act
-      one = record { access = Some (Reading (Px port Ci) issued); steps = x.0; later = driver_state s mid }
+      one = record { access = Some (Reading (Px port Ci) issued); steps = x.0; state_after = driver_state_of_slots s mid }
 
       two : Act
-      two = record { access = Some (Reading (Px port Sact) active); steps = y.0; later = driver_state s new }
+      two = record { access = Some (Reading (Px port Sact) active); steps = y.0; state_after = driver_state_of_slots s new }
 
   finds : ReadsDone port mask done old new
   finds = record {
@@ -146,5 +146,5 @@ module _ (laws : Laws) (port : Port) (mask done issued active : ℕ) (old mid ne
     machine_follows = comes;
   }
 
-  pub finds_done : ReadsDone port mask done old new × SeesClear port mask done old
+  pub finds_done : ReadsDone port mask done old new × FindsEachClearSlot port mask done old
   finds_done = (finds, sees)

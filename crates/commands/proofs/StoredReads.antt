@@ -12,12 +12,12 @@ use Rattle.adapter.specs.Memory.{changed}
 use Rattle.block_machine.specs.State.{Pending}
 use Rattle.block_machine.specs.declared.due.QueueMode.{QueueMode}
 use Rattle.refinement.specs.Relation.{port_at}
-use Rattle.refinement.specs.TwoReads.{ReadsIntoFrame, TwoStoredReads, two_memory}
+use Rattle.refinement.specs.TwoReadsWitness.{ReadsIntoFrame, TwoStoredReads, two_reads_memory}
 use Rattle.refinement.specs.Slots.{Free}
 use Rattle.refinement.specs.ReadWitness.{ready_device}
-use Rattle.commands.specs.Batches.{AreUnused, HasBitsOf, IsSlotOf, IsStoreForBatch, SaysTask, PlacedTask}
+use Rattle.commands.specs.Batches.{BatchSlotsAreUnused, HasBitsOf, IsSlotOf, IsStoreForBatch, SaysTask, PlacedTask}
 use Rattle.commands.specs.Tasks.{IsFitTransfer, IsTaskOf}
-use Rattle.commands.specs.Witness.{BatchMayBeIssued}
+use Rattle.commands.specs.Witness.{BatchIssueWitness}
 use Rattle.commands.proofs.Batch.{all_one, contains_here, contains_there, one_apart}
 use Rattle.commands.proofs.Stores.{simulated_none}
 
@@ -48,7 +48,7 @@ has_bits = record { slots_are_set = both (λ t. bit 3 t.slot ≡ true) refl refl
         (read_in 1 108 101, contains_there (read_in 0 100 100) (read_in 1 108 101 ∷ []) (read_in 1 108 101) (contains_here (read_in 1 108 101) []), refl)
     alone (suc (suc slot)) set = absurd (both_ways (bit 3 (suc (suc slot))) (ap (λ (n : ℕ). n == 1) (bit_at_above 3 2 (suc (suc slot)) (omega arith) (omega arith))) set)
 
-its_task : (mode : QueueMode) (slot first frame : ℕ) (e : Pending) → mode.queued ≡ true → slot < mode.usable → ReadsIntoFrame first frame e → IsTaskOf (port_at 0) slot (read_in slot first frame).task (read_in slot first frame).frames mode e
+its_task : (mode : QueueMode) (slot first frame : ℕ) (e : Pending) → mode.queued ≡ true → slot < mode.usable_slots → ReadsIntoFrame first frame e → IsTaskOf (port_at 0) slot (read_in slot first frame).task (read_in slot first frame).frames mode e
 its_task mode slot first frame e queued usable asks = record {
   port_is = asks.port_is;
   operation_is = asks.operation;
@@ -61,29 +61,29 @@ its_task mode slot first frame e queued usable asks = record {
 }
 
 module _ (known : TwoStoredReads) where
-  pub batch_may_be_issued : BatchMayBeIssued
+  pub batch_may_be_issued : BatchIssueWitness
   unfolding changed
   batch_may_be_issued = record {
     tasks = tasks;
     has_two_tasks = refl;
     stored = record {
-      adapter_is_on = record { ae = refl; no_reset = refl };
+      adapter_is_on = record { ae_is_set = refl; no_reset = refl };
       has_port = (omega arith, refl);
       driver_memory_fits = omega arith;
       list_runs = record { st_is_set = refl; list_is_in_place = refl };
       machine_is_related = (λ port slot. Free, both (λ t. Free ≡ Free) refl refl, record { machine = known.machine; parked = λ port. []; reached = known.reached; driver_relation = known.driver_relation });
       slots_are_apart = AllPairs-cons (λ (a b : PlacedTask). a.slot ≡ b.slot → ⊥) (read_in 0 100 100) (read_in 1 108 101 ∷ []) (all_one (λ (b : PlacedTask). 0 ≡ b.slot → ⊥) (read_in 1 108 101) (λ e. omega (arith, e))) (one_apart (read_in 1 108 101));
       slots_in_range = both (λ t. t.slot < 32) (omega arith) (omega arith);
-      slots_are_usable = both (λ t. t.slot ≤ (ready_device two_memory).cap / 256 % 32) (omega arith) (omega arith);
+      slots_are_usable = both (λ t. t.slot ≤ (ready_device two_reads_memory).cap / 256 % 32) (omega arith) (omega arith);
       transfers_fit = both (λ t. IsFitTransfer t.task t.frames) (fits 0 100 100 (omega arith)) (fits 1 108 101 (omega arith));
       all_are_queued = both (λ t. t.task.queued ≡ true) refl refl;
-      stores = simulated_none (IsStoreForBatch 0 tasks) (AreUnused 0 tasks) (ready_device two_memory);
-      slots_say_tasks = both (λ t. SaysTask 0 t two_memory) (record { slot_says_task = known.first_says; block_names_sectors = tt }) (record { slot_says_task = known.second_says; block_names_sectors = tt });
+      stores = simulated_none (IsStoreForBatch 0 tasks) (BatchSlotsAreUnused 0 tasks) (ready_device two_reads_memory);
+      slots_say_tasks = both (λ t. SaysTask 0 t two_reads_memory) (record { slot_says_task = known.first_says; block_names_sectors = tt }) (record { slot_says_task = known.second_says; block_names_sectors = tt });
     };
     mask = 3;
-    bits = has_bits;
+    mask_has_slots = has_bits;
     mode = known.mode;
     requests = known.first_request ∷ known.second_request ∷ [];
-    are_tasks = (its_task known.mode 0 100 100 known.first_request known.queued (let u = known.usable in omega (arith, u)) known.first_asks, (its_task known.mode 1 108 101 known.second_request known.queued known.usable known.second_asks, tt));
-    may = record { slots_are_free = both (λ t. Free ≡ Free) refl refl; may_be_issued = known.may };
+    are_tasks = (its_task known.mode 0 100 100 known.first_request known.queued (let u = known.two_slots_are_usable in omega (arith, u)) known.first_asks, (its_task known.mode 1 108 101 known.second_request known.queued known.two_slots_are_usable known.second_asks, tt));
+    may_serve_batch = record { slots_are_free = both (λ t. Free ≡ Free) refl refl; may_be_issued = known.issues_are_enabled };
   }

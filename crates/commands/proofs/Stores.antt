@@ -16,14 +16,14 @@ use Rattle.block_machine.specs.Histories.{IsReachable}
 use Rattle.block_machine.specs.Expected.{after}
 use Rattle.block_machine.specs.State.{Machine}
 use Rattle.block_machine.specs.Steps.{Step}
-use Rattle.refinement.specs.Acts.{Act, AreActsDone, driver_state, accesses_of, act_steps}
+use Rattle.refinement.specs.Acts.{Act, AreActsDone, driver_state_of_slots, accesses_of, act_steps}
 use Rattle.refinement.specs.Fragments.{AnyAccess, IsDrivenBy, IsSimulated, LeavesPort, SparesOtherPorts}
 use Rattle.refinement.specs.Driver.{DriverAdvances, DriverRelation, DriverState}
-use Rattle.refinement.specs.Links.{SameAdapter, DoesNotWrite}
-use Rattle.refinement.specs.MemoryLayout.{list_of}
+use Rattle.refinement.specs.PreservedParts.{SameAdapter, DoesNotWrite}
+use Rattle.refinement.specs.MemoryLayout.{command_list_address}
 use Rattle.refinement.specs.ReadySlots.{IsStored}
 use Rattle.refinement.specs.Slots.{SlotDecodesTo, SlotStates}
-use Rattle.command_table.specs.TableStores.{IsStoreWithBlock, IsTableStore}
+use Rattle.command_table.specs.TableStores.{IsHeaderTableOrBlockStore, IsHeaderOrTableStore}
 use Rattle.commands.specs.Batches.{IsStoreForBatch, PlacedTask}
 use Rattle.commands.specs.Tasks.{IsStoreFor, RunsItsList}
 use Rattle.commands.proofs.Batch.{all_as}
@@ -35,14 +35,14 @@ abbrev pub IsStoring : Access → Type 0
 IsStoring (Storing at bytes) = Unit {0}
 IsStoring access = ⊥
 
-with_block_stores : (port slot : ℕ) (access : Access) → IsStoreWithBlock port slot access → IsStoring access
+with_block_stores : (port slot : ℕ) (access : Access) → IsHeaderTableOrBlockStore port slot access → IsStoring access
 with_block_stores port slot (Storing place bytes) here = tt
 with_block_stores port slot (Loading place bytes) here = elim here [ inl x ↦ x | inr x ↦ x ]
 with_block_stores port slot (Reading q v) here = elim here [ inl x ↦ x | inr x ↦ x ]
 with_block_stores port slot (Writing q v) here = elim here [ inl x ↦ x | inr x ↦ x ]
 
 -- what is stored for a task is header and table, or a block
-pub store_for : (op : Op) (port slot : ℕ) (access : Access) → IsStoreFor op port slot access → IsStoreWithBlock port slot access
+pub store_for : (op : Op) (port slot : ℕ) (access : Access) → IsStoreFor op port slot access → IsHeaderTableOrBlockStore port slot access
 store_for Trim port slot access here = here
 store_for Read port slot access here = inl here
 store_for Write port slot access here = inl here
@@ -51,7 +51,7 @@ store_for Flush port slot access here = inl here
 pub batch_stores : (port : ℕ) (tasks : List PlacedTask) (access : Access) → IsStoreForBatch port tasks access → IsStoring access
 batch_stores port tasks access here = with_block_stores port here.0.slot access (store_for here.0.task.op port here.0.slot access here.2)
 
-pub table_stores : (port slot : ℕ) (access : Access) → IsTableStore port slot access → IsStoring access
+pub table_stores : (port slot : ℕ) (access : Access) → IsHeaderOrTableStore port slot access → IsStoring access
 table_stores port slot (Storing place bytes) here = tt
 table_stores port slot (Loading place bytes) here = here
 table_stores port slot (Reading q v) here = here
@@ -102,11 +102,11 @@ module _ (laws : Leaving) (port : Port) (May : Access → Type 0) (stores : (acc
 
   pub stores_may : IsOn old → RunsItsList port.0 old → RunsItsList port.0 mid
   stores_may on may = record {
-    st_is_set = (stores_left on).controls.st ∙ may.st_is_set;
-    list_is_in_place = ap (λ (x : Bases). x.clb) (stores_left on).keeps.bases ∙ may.list_is_in_place;
+    st_is_set = (stores_left on).controls.st_is_kept ∙ may.st_is_set;
+    list_is_in_place = ap (λ (x : Bases). x.clb) (stores_left on).port_is_kept_by_device.bases_are_kept ∙ may.list_is_in_place;
   }
 
-pub stored_in : (port : Port) (slot : ℕ) (c : Meaning) (places : List ℕ) (d : Device) → HasPort d port.0 → slot < 32 → RunsItsList port.0 d → SlotDecodesTo d.memory (list_of port.0) port.0 slot c places → IsStored d port.0 slot c places
+pub stored_in : (port : Port) (slot : ℕ) (c : Meaning) (places : List ℕ) (d : Device) → HasPort d port.0 → slot < 32 → RunsItsList port.0 d → SlotDecodesTo d.memory (command_list_address port.0) port.0 slot c places → IsStored d port.0 slot c places
 stored_in port slot c places d there small may told = record {
   st_is_set = may.st_is_set;
   list_is_in_place = record { port_below = there.0; slot_below = small; list = may.list_is_in_place };
@@ -135,8 +135,8 @@ simulated_none May Fits d = record {
   acts_reach = λ s m reached knows fits. record {
     acts = [];
     acts_are_done = refl;
-    accesses_are = refl;
-    tells = record { only = tt; kept = λ q issues arms. All-nil (λ (act : Act). act.later.uses q.0 ≡ s.uses q.0) };
+    accesses_match_acts = refl;
+    acts_are_such = record { all_steps_are_devices = tt; unwritten_ports_keep_slots = λ q issues arms. All-nil (λ (act : Act). act.state_after.slot_states q.0 ≡ s.slot_states q.0) };
   };
 }
 
@@ -146,12 +146,12 @@ pub simulated_as : (May More : Access → Type 0) (Fits Fewer : SlotStates → T
 simulated_as May More Fits Fewer old new more fewer x = record {
   is_driven = record { accesses = x.is_driven.accesses; all_are_done = x.is_driven.all_are_done; accesses_are_of_kind = all_as May More more x.is_driven.accesses x.is_driven.accesses_are_of_kind };
   acts_reach = λ s m reached knows fits.
-      let y = x.acts_reach s m reached knows (fewer s.uses fits) in
+      let y = x.acts_reach s m reached knows (fewer s.slot_states fits) in
       record {
         acts = y.acts;
         acts_are_done = y.acts_are_done;
-        accesses_are = y.accesses_are;
-        tells = record { only = y.tells.only; kept = λ q issues arms. y.tells.kept q (λ access is. issues access (more access is)) (λ access is. arms access (more access is)) };
+        accesses_match_acts = y.accesses_match_acts;
+        acts_are_such = record { all_steps_are_devices = y.acts_are_such.all_steps_are_devices; unwritten_ports_keep_slots = λ q issues arms. y.acts_are_such.unwritten_ports_keep_slots q (λ access is. issues access (more access is)) (λ access is. arms access (more access is)) };
       };
 }
 
@@ -164,16 +164,16 @@ simulated_then laws May Fits old mid new a b = record {
   };
   acts_reach = λ s m reached knows fits.
       let x = a.acts_reach s m reached knows fits in
-      let g = laws.goes x.acts (driver_state s old) (driver_state s mid) m knows x.acts_are_done in
-      let y = b.acts_reach s (after m (act_steps x.acts)) (laws.reached (driver_state s old) (driver_state s mid) m (act_steps x.acts) reached g) g.driver_relation fits in
+      let g = laws.goes x.acts (driver_state_of_slots s old) (driver_state_of_slots s mid) m knows x.acts_are_done in
+      let y = b.acts_reach s (after m (act_steps x.acts)) (laws.reached (driver_state_of_slots s old) (driver_state_of_slots s mid) m (act_steps x.acts) reached g) g.driver_relation fits in
       record {
         acts = x.acts ++ y.acts;
-        acts_are_done = laws.more x.acts y.acts (driver_state s old) (driver_state s mid) (driver_state s new) m x.acts_are_done y.acts_are_done;
-        accesses_are = laws.accesses x.acts y.acts
-            ∙ (ap (λ (early : List Access). early ++ accesses_of y.acts) x.accesses_are ∙ ap (λ (late : List Access). a.is_driven.accesses ++ late) y.accesses_are);
-        tells = record {
-          only = subst AllByDevice (sym (laws.steps x.acts y.acts)) (laws.device (act_steps y.acts) (act_steps x.acts) y.tells.only x.tells.only);
-          kept = λ q issues arms. All-append (λ (act : Act). act.later.uses q.0 ≡ s.uses q.0) x.acts y.acts (x.tells.kept q issues arms) (y.tells.kept q issues arms);
+        acts_are_done = laws.more x.acts y.acts (driver_state_of_slots s old) (driver_state_of_slots s mid) (driver_state_of_slots s new) m x.acts_are_done y.acts_are_done;
+        accesses_match_acts = laws.accesses x.acts y.acts
+            ∙ (ap (λ (early : List Access). early ++ accesses_of y.acts) x.accesses_match_acts ∙ ap (λ (late : List Access). a.is_driven.accesses ++ late) y.accesses_match_acts);
+        acts_are_such = record {
+          all_steps_are_devices = subst AllByDevice (sym (laws.steps x.acts y.acts)) (laws.device (act_steps y.acts) (act_steps x.acts) y.acts_are_such.all_steps_are_devices x.acts_are_such.all_steps_are_devices);
+          unwritten_ports_keep_slots = λ q issues arms. All-append (λ (act : Act). act.state_after.slot_states q.0 ≡ s.slot_states q.0) x.acts y.acts (x.acts_are_such.unwritten_ports_keep_slots q issues arms) (y.acts_are_such.unwritten_ports_keep_slots q issues arms);
         };
       };
 }

@@ -20,11 +20,11 @@ use Rattle.block_machine.specs.DueRequests.{is_plain}
 use Rattle.block_machine.specs.State.{Accepted, Pending}
 use Rattle.block_machine.specs.declared.due.QueueMode.{QueueMode}
 use Rattle.refinement.specs.Fragments.{IsSimulated}
-use Rattle.refinement.specs.MemoryLayout.{place_in}
-use Rattle.refinement.specs.Slots.{AreRequestPlaces, HasTrimBlock, MeansRequest, op_of}
+use Rattle.refinement.specs.MemoryLayout.{sector_address}
+use Rattle.refinement.specs.Slots.{AreRequestPlaces, HasBlockIfTrim, MeansRequest, client_operation_of}
 use Rattle.command_table.specs.SectorPlaces.{place_of, places_of}
-use Rattle.command_table.specs.TableStores.{IsTableFor, IsTableStore, IsUnused}
-use Rattle.commands.specs.Tasks.{HasBlockOf, IsStoreFor, IsTransfer, IsTaskOf, addresses_of, value_in_fis, meaning_of, task_operation}
+use Rattle.command_table.specs.TableStores.{IsTableFor, IsHeaderOrTableStore, IsUnused}
+use Rattle.commands.specs.Tasks.{BlockNamesSectors, IsStoreFor, IsTransfer, IsTaskOf, piece_addresses_of, fis_value_of_range, meaning_of, task_operation}
 use Rattle.commands.specs.declared.ncq.Task.{Task}
 
 -- what holds of a read and of a write holds of a transfer
@@ -46,14 +46,14 @@ ranged = of_command (λ queued op. is_ranged (task_operation queued op) ≡ true
 moves_all : (count : ℕ) (queued : Bool) (op : Op) → IsTransfer op → piece_count (task_operation queued op) count ≡ count
 moves_all count = of_command (λ queued op. piece_count (task_operation queued op) count ≡ count) refl refl refl refl
 
-pub in_its_fis : (n : ℕ) (op : Op) → IsTransfer op → value_in_fis op n ≡ n
-in_its_fis n = of_transfer (λ op. value_in_fis op n ≡ n) refl refl
+pub in_its_fis : (n : ℕ) (op : Op) → IsTransfer op → fis_value_of_range op n ≡ n
+in_its_fis n = of_transfer (λ op. fis_value_of_range op n ≡ n) refl refl
 
-pub in_frames : (port count : ℕ) (frames : List Frame) (op : Op) → IsTransfer op → addresses_of port op count frames ≡ places_of frames count
-in_frames port count frames = of_transfer (λ op. addresses_of port op count frames ≡ places_of frames count) refl refl
+pub in_frames : (port count : ℕ) (frames : List Frame) (op : Op) → IsTransfer op → piece_addresses_of port op count frames ≡ places_of frames count
+in_frames port count frames = of_transfer (λ op. piece_addresses_of port op count frames ≡ places_of frames count) refl refl
 
 -- what is stored for a transfer is header and table
-pub stored_for : (port slot : ℕ) (old new : Device) (op : Op) → IsTransfer op → IsSimulated (IsTableStore port slot) (IsUnused port slot) old new →
+pub stored_for : (port slot : ℕ) (old new : Device) (op : Op) → IsTransfer op → IsSimulated (IsHeaderOrTableStore port slot) (IsUnused port slot) old new →
     IsSimulated (IsStoreFor op port slot) (IsUnused port slot) old new
 stored_for port slot old new op is followed = of_transfer (λ op. IsSimulated (IsStoreFor op port slot) (IsUnused port slot) old new) followed followed op is
 
@@ -61,8 +61,8 @@ pub never_trim : (slot : ℕ) (op : Op) → IsTransfer op → op ≡ Trim → sl
 never_trim slot = of_transfer (λ op. op ≡ Trim → slot ≡ 0) (λ (h : Read ≡ Trim). absurd cc) (λ (h : Write ≡ Trim). absurd cc)
 
 -- a transfer has no block
-pub no_block : (range : Range) (port : ℕ) (memory : ℕ → ℕ) (op : Op) → IsTransfer op → HasBlockOf op range port memory
-no_block range port memory = of_transfer (λ op. HasBlockOf op range port memory) tt tt
+pub no_block : (range : Range) (port : ℕ) (memory : ℕ → ℕ) (op : Op) → IsTransfer op → BlockNamesSectors op range port memory
+no_block range port memory = of_transfer (λ op. BlockNamesSectors op range port memory) tt tt
 
 -- ---- the table of a transfer
 
@@ -71,10 +71,10 @@ as_many frames count = length-map-range_with_len (place_of frames) 0 count
 
 pub table_says : (r : Task) (frames : List Frame) (port slot : ℕ) → IsTransfer r.op → 1 ≤ r.range.count → r.range.count ≤ MOST_REQUEST_SECTORS → r.range.first.0 < 2 ^ 48 → (command : Command) (prds : List Prd) →
     command ≡ command_of (task_operation r.queued r.op) slot r.range.first.0 r.range.count → All IsWholePieces prds → pieces prds ≡ places_of frames r.range.count →
-    IsTableFor slot command prds (meaning_of r) (addresses_of port r.op r.range.count frames)
+    IsTableFor slot command prds (meaning_of r) (piece_addresses_of port r.op r.range.count frames)
 table_says r frames port slot transfers some few first command prds fields whole places =
-    subst (λ (first : ℕ). IsTableFor slot command prds (record { operation = task_operation r.queued r.op; first = first; count = value_in_fis r.op r.range.count }) (addresses_of port r.op r.range.count frames)) (sym (in_its_fis r.range.first.0 r.op transfers))
-    (subst (λ (count : ℕ). IsTableFor slot command prds (record { operation = task_operation r.queued r.op; first = r.range.first.0; count = count }) (addresses_of port r.op r.range.count frames)) (sym (in_its_fis r.range.count r.op transfers))
+    subst (λ (first : ℕ). IsTableFor slot command prds (record { operation = task_operation r.queued r.op; first = first; count = fis_value_of_range r.op r.range.count }) (piece_addresses_of port r.op r.range.count frames)) (sym (in_its_fis r.range.first.0 r.op transfers))
+    (subst (λ (count : ℕ). IsTableFor slot command prds (record { operation = task_operation r.queued r.op; first = r.range.first.0; count = count }) (piece_addresses_of port r.op r.range.count frames)) (sym (in_its_fis r.range.count r.op transfers))
     (subst (IsTableFor slot command prds (record { operation = task_operation r.queued r.op; first = r.range.first.0; count = r.range.count })) (sym (in_frames port r.range.count frames r.op transfers)) (record {
       meaning = record {
         ranged = λ _. (some, omega (arith, few), first);
@@ -88,7 +88,7 @@ table_says r frames port slot transfers some few first command prds fields whole
 
 -- ---- the request of a task
 
-op_is : (queued : Bool) (op : Op) → op_of (task_operation queued op) ≡ Some op
+op_is : (queued : Bool) (op : Op) → client_operation_of (task_operation queued op) ≡ Some op
 op_is true Read = refl
 op_is true Write = refl
 op_is false Read = refl
@@ -98,16 +98,16 @@ op_is queued Flush = refl
 
 -- a transfer's sectors stand at their places
 in_order : (count : ℕ) (frames : List Frame) (r : Accepted) → r.asked.count ≡ count → r.asked.frames.items ≡ frames →
-    (length (places_of frames count) ≡ r.asked.count) × ((i : ℕ) → i < r.asked.count → slice_index (places_of frames count) i ≡ place_in r.asked.frames.items i)
+    (length (places_of frames count) ≡ r.asked.count) × ((i : ℕ) → i < r.asked.count → slice_index (places_of frames count) i ≡ sector_address r.asked.frames.items i)
 in_order count frames r counts same = (
   as_many frames count ∙ sym counts,
   λ i small.
       get_or-map-range_with_len (place_of frames) 0 count i i 0 (subst (λ (n : ℕ). i < n) counts small) (omega arith)
-      ∙ ap (λ (fs : List Frame). place_in fs i) (sym same),
+      ∙ ap (λ (fs : List Frame). sector_address fs i) (sym same),
 )
 
 -- the addresses that the slot's bytes say are those of the request's sectors, or of its block
-are_places : (op : Op) (port count : ℕ) (frames : List Frame) (r : Accepted) → r.asked.count ≡ count → r.asked.frames.items ≡ frames → AreRequestPlaces op port r (addresses_of port op count frames)
+are_places : (op : Op) (port count : ℕ) (frames : List Frame) (r : Accepted) → r.asked.count ≡ count → r.asked.frames.items ≡ frames → AreRequestPlaces op port r (piece_addresses_of port op count frames)
 are_places Trim port count frames r counts same = refl
 are_places Flush port count frames r counts same = refl
 are_places Read port count frames r counts same = in_order count frames r counts same
@@ -118,7 +118,7 @@ module _ (port : Port) (slot : ℕ) (r : Task) (frames : List Frame) (mode : Que
   head : r.op ≡ Trim → slot ≡ 0
   head trim = is.plain_in_slot_0 (is.queued_is ∙ ap (λ (op : Op). not (is_plain mode op)) trim)
 
-  names_first : (queued : Bool) (op : Op) → is_ranged (task_operation queued op) ≡ true → value_in_fis op r.range.first.0 ≡ e.request.asked.first.0
+  names_first : (queued : Bool) (op : Op) → is_ranged (task_operation queued op) ≡ true → fis_value_of_range op r.range.first.0 ≡ e.request.asked.first.0
   names_first true Read named = sym (ap (λ (s : Sector). s.0) is.first_is)
   names_first false Read named = sym (ap (λ (s : Sector). s.0) is.first_is)
   names_first true Write named = sym (ap (λ (s : Sector). s.0) is.first_is)
@@ -126,23 +126,23 @@ module _ (port : Port) (slot : ℕ) (r : Task) (frames : List Frame) (mode : Que
   names_first queued Trim named = absurd (true≢false (sym named))
   names_first queued Flush named = absurd (true≢false (sym named))
 
-  pub task_means : MeansRequest port.0 slot e.request (meaning_of r) (addresses_of port.0 r.op r.range.count frames)
+  pub task_means : MeansRequest port.0 slot e.request (meaning_of r) (piece_addresses_of port.0 r.op r.range.count frames)
   task_means = record {
     op_is = op_is r.queued r.op ∙ ap Some (sym is.operation_is);
     first_sector_is = names_first r.queued r.op;
     places_are =
-        subst (λ (o : Op). AreRequestPlaces o port.0 e.request (addresses_of port.0 r.op r.range.count frames)) (sym is.operation_is)
+        subst (λ (o : Op). AreRequestPlaces o port.0 e.request (piece_addresses_of port.0 r.op r.range.count frames)) (sym is.operation_is)
         (are_places r.op port.0 r.range.count frames e.request is.count_is is.frames_are);
     trim_is_in_slot_0 = λ trim. head (sym is.operation_is ∙ trim);
   }
 
   -- its block is the request's
-  block_of : (op : Op) (memory : ℕ → ℕ) → HasBlockOf op r.range port.0 memory → HasTrimBlock op memory port.0 e.request
+  block_of : (op : Op) (memory : ℕ → ℕ) → BlockNamesSectors op r.range port.0 memory → HasBlockIfTrim op memory port.0 e.request
   block_of Trim memory block =
       block ∙ (ap (λ (s : Sector). consecutive s.0 r.range.count) (sym is.first_is) ∙ ap (consecutive e.request.asked.first.0) (sym is.count_is))
   block_of Read memory block = tt
   block_of Write memory block = tt
   block_of Flush memory block = tt
 
-  pub task_block : (memory : ℕ → ℕ) → HasBlockOf r.op r.range port.0 memory → HasTrimBlock e.request.asked.op memory port.0 e.request
-  task_block memory block = subst (λ (o : Op). HasTrimBlock o memory port.0 e.request) (sym is.operation_is) (block_of r.op memory block)
+  pub task_block : (memory : ℕ → ℕ) → BlockNamesSectors r.op r.range port.0 memory → HasBlockIfTrim e.request.asked.op memory port.0 e.request
+  task_block memory block = subst (λ (o : Op). HasBlockIfTrim o memory port.0 e.request) (sym is.operation_is) (block_of r.op memory block)

@@ -18,17 +18,17 @@ use Rattle.block_machine.specs.State.{Accepted, Machine, Pending}
 use Rattle.block_machine.specs.Steps.{Issue, IsEnabled, Step}
 use Rattle.block_machine.specs.declared.due.QueueMode.{QueueMode}
 use Rattle.refinement.specs.Driver.{IsPrepared, idle_driver_state}
-use Rattle.refinement.specs.Slots.{AreRequestPlaces, op_of}
+use Rattle.refinement.specs.Slots.{AreRequestPlaces, client_operation_of}
 use Rattle.refinement.specs.ReadWitness.{PreparedReadWitness, prepared_read}
 use Rattle.commands.specs.Tasks.{IsFitTransfer}
-use Rattle.commands.specs.Witness.{FirstMayBeIssued}
+use Rattle.commands.specs.Witness.{TransferIssueWitness}
 use Rattle.commands.specs.declared.ncq.Task.{Task}
 
 -- a request that was accepted has as many frames as it needs
 frames_fit : (start : Machine) (history : List Step) (r : Accepted) → WasAccepted start history r → length r.asked.frames.items ≡ frame_count_for r.asked.op r.asked.count
 frames_fit start [] r was = absurd was
 frames_fit start (step ∷ past) r was = ⊎_elim
-    (λ first. ⊎_elim (λ same. same) (λ other. absurd (first.1.unbroken FrameCount other)) (cases_eq (length r.asked.frames.items) (frame_count_for r.asked.op r.asked.count)))
+    (λ first. ⊎_elim (λ same. same) (λ other. absurd (first.1.breaks_no_rule FrameCount other)) (cases_eq (length r.asked.frames.items) (frame_count_for r.asked.op r.asked.count)))
     (λ before. frames_fit start past r before)
     was
 
@@ -36,7 +36,7 @@ frames_fit start (step ∷ past) r was = ⊎_elim
 module _ (known : PreparedReadWitness) (one : (memory : ℕ → ℕ) (list slot : ℕ) (m n : Meaning) (xs ys : List ℕ) → DecodesTo memory list slot m xs → DecodesTo memory list slot n ys → (m ≡ n) × (xs ≡ ys))
     (says : DecodesTo first_read_device.memory 0 0 (read_of 100 8) (piece_addresses 0x64000 8))
     (issued : (start : Machine) (history : List Step) (mode : QueueMode) (e : Pending) → IsInitial start → IsLegal start history → IsEnabled (after start history) (Issue mode e) → WasAccepted start history e.request) where
-  prepared : IsPrepared (idle_driver_state prepared_read).uses known.machine prepared_read 0 0 known.mode known.request 1
+  prepared : IsPrepared (idle_driver_state prepared_read).slot_states known.machine prepared_read 0 0 known.mode known.request 1
   prepared = known.prepared
 
   abbrev request : Accepted
@@ -48,7 +48,7 @@ module _ (known : PreparedReadWitness) (one : (memory : ℕ → ℕ) (list slot 
   same = one first_read_device.memory 0 0 prepared.command (read_of 100 8) prepared.places (piece_addresses 0x64000 8) prepared.slot_decodes_to.decodes_to says
 
   read_is : request.asked.op ≡ Read
-  read_is = some_read (sym prepared.means.op_is ∙ ap (λ (m : Meaning). op_of m.operation) same.0)
+  read_is = some_read (sym prepared.means.op_is ∙ ap (λ (m : Meaning). client_operation_of m.operation) same.0)
     where
       some_read : {op : Op} → Some op ≡ Some Read → op ≡ Read
       some_read e = cc
@@ -62,11 +62,11 @@ module _ (known : PreparedReadWitness) (one : (memory : ℕ → ℕ) (list slot 
   number_is : length request.asked.frames.items ≡ (request.asked.count + 7) / 8
   number_is =
       frames_fit known.reached.initial_machine known.reached.steps_since request
-      (issued known.reached.initial_machine known.reached.steps_since known.mode known.request known.reached.is_initial known.reached.is_legal (subst (λ (m : Machine). IsEnabled m (Issue known.mode known.request)) known.reached.leads_to_machine prepared.may))
+      (issued known.reached.initial_machine known.reached.steps_since known.mode known.request known.reached.is_initial known.reached.is_legal (subst (λ (m : Machine). IsEnabled m (Issue known.mode known.request)) known.reached.leads_to_machine prepared.issue_is_enabled))
       ∙ ap (λ (op : Op). frame_count_for op request.asked.count) read_is
 
   is_plain_read : is_plain known.mode request.asked.op ≡ true
-  is_plain_read = is_true (is_plain known.mode request.asked.op) (sym (ap (λ (m : Meaning). is_queued m.operation) same.0) ∙ prepared.kind)
+  is_plain_read = is_true (is_plain known.mode request.asked.op) (sym (ap (λ (m : Meaning). is_queued m.operation) same.0) ∙ prepared.queued_as_request)
     where
       is_true : (b : Bool) → false ≡ not b → b ≡ true
       is_true true e = refl
@@ -84,13 +84,13 @@ module _ (known : PreparedReadWitness) (one : (memory : ℕ → ℕ) (list slot 
     frame_count_is = number_is;
   }
 
-  pub first_may_be_issued : FirstMayBeIssued
+  pub first_may_be_issued : TransferIssueWitness
   unfolding changed
   first_may_be_issued = record {
-    adapter_is_on = record { ae = refl; no_reset = refl };
+    adapter_is_on = record { ae_is_set = refl; no_reset = refl };
     has_port = (lit< tt, refl);
     driver_memory_fits = omega arith;
-    may = record { st_is_set = refl; list_is_in_place = refl };
+    list_runs = record { st_is_set = refl; list_is_in_place = refl };
     machine_is_related = record {
       machine = known.machine;
       parked = λ port. [];
@@ -99,7 +99,7 @@ module _ (known : PreparedReadWitness) (one : (memory : ℕ → ℕ) (list slot 
     };
     mode = known.mode;
     request = known.request;
-    due = prepared.may;
+    issue_is_enabled = prepared.issue_is_enabled;
     transfer = transfer;
     frames = request.asked.frames.items;
     fits = fits;
@@ -111,7 +111,7 @@ module _ (known : PreparedReadWitness) (one : (memory : ℕ → ℕ) (list slot 
       count_is = refl;
       frames_are = refl;
       queued_is = sym (ap (λ (b : Bool). not b) is_plain_read);
-      slot_is_usable = prepared.usable;
+      slot_is_usable = prepared.slot_is_usable;
       plain_in_slot_0 = λ q. refl;
     };
   }

@@ -18,12 +18,12 @@ use Rattle.block_machine.specs.State.{Machine, Pending}
 use Rattle.block_machine.specs.Steps.{Step, Issue}
 use Rattle.block_machine.specs.declared.due.QueueMode.{QueueMode}
 use Rattle.refinement.specs.Acts.{Act, ActsReachWith, DriverSlots, act_steps}
-use Rattle.refinement.specs.Fragments.{IsDrivenBy, IsSimulated, RelatesWith}
-use Rattle.refinement.specs.MemoryLayout.{list_of}
+use Rattle.refinement.specs.Fragments.{IsDrivenBy, IsSimulated, SomeMachineAgreesWith}
+use Rattle.refinement.specs.MemoryLayout.{command_list_address}
 use Rattle.refinement.specs.ReadySlots.{IsStored}
 use Rattle.refinement.specs.Slots.{Free, SlotDecodesTo, SlotStates}
-use Rattle.command_table.specs.TableStores.{IsStoreWithBlock, IsTableStore, IsUnused}
-use Rattle.commands.specs.Tasks.{HasBlockOf, IsBeingIssued, IsFitTransfer, IsStoreFor, IsTaskOf, RunsItsList, addresses_of, meaning_of, with_serving, issuing_writes}
+use Rattle.command_table.specs.TableStores.{IsHeaderTableOrBlockStore, IsHeaderOrTableStore, IsUnused}
+use Rattle.commands.specs.Tasks.{BlockNamesSectors, IsBeingIssued, IsFitTransfer, IsStoreFor, IsTaskOf, RunsItsList, piece_addresses_of, meaning_of, with_serving, issuing_writes}
 use Rattle.commands.specs.declared.ncq.Task.{Task}
 
 -- ---- a batch
@@ -47,8 +47,8 @@ abbrev pub HaveOwnSlots : List PlacedTask → Type 0
 HaveOwnSlots tasks = AllPairs (λ a b. a.slot ≡ b.slot → ⊥) tasks
 
 -- the slot of none is in use
-abbrev pub AreUnused : ℕ → List PlacedTask → SlotStates → Type 0
-AreUnused port tasks uses = All (λ t. uses port t.slot ≡ Free) tasks
+abbrev pub BatchSlotsAreUnused : ℕ → List PlacedTask → SlotStates → Type 0
+BatchSlotsAreUnused port tasks uses = All (λ t. uses port t.slot ≡ Free) tasks
 
 -- the value has the bits of their slots, and no other
 pub record HasBitsOf (tasks : List PlacedTask) (v : ℕ) : Type 0 where
@@ -57,9 +57,9 @@ pub record HasBitsOf (tasks : List PlacedTask) (v : ℕ) : Type 0 where
 
 -- the slot's header and table say what the task is to do, and a trim's block names its sectors
 pub record SaysTask (port : ℕ) (t : PlacedTask) (memory : ℕ → ℕ) : Type 0 where
-  pub slot_says_task : SlotDecodesTo memory (list_of port) port t.slot (meaning_of t.task)
-      (addresses_of port t.task.op t.task.range.count t.frames)
-  pub block_names_sectors : HasBlockOf t.task.op t.task.range port memory
+  pub slot_says_task : SlotDecodesTo memory (command_list_address port) port t.slot (meaning_of t.task)
+      (piece_addresses_of port t.task.op t.task.range.count t.frames)
+  pub block_names_sectors : BlockNamesSectors t.task.op t.task.range port memory
 
 -- ---- it is stored
 
@@ -70,23 +70,23 @@ IsStoreForBatch port tasks access = (t : PlacedTask) × Contains tasks t × IsSt
 -- What a transfer's command needs was stored in its slot, and nothing else was done: header and table, which say it.
 pub record StoresTransfer (port : Port) (t : PlacedTask) (old new : Device) : Type 0 where
   pub adapter_is_on : IsOn new
-  pub stores : IsSimulated (IsTableStore port.0 t.slot) (IsUnused port.0 t.slot) old new
-  pub says : SaysTask port.0 t new.memory
+  pub stores : IsSimulated (IsHeaderOrTableStore port.0 t.slot) (IsUnused port.0 t.slot) old new
+  pub slot_says_task : SaysTask port.0 t new.memory
 
 -- Accesses that store for queued transfers led there, and no others: each transfer has a slot of its own that the
 -- adapter has (AHCI 1.3.1, 3.1.1, CAP.NCS) and that wasn't in use, and the slot says it. The port runs.
 pub record IsBatchStored (port : Port) (tasks : List PlacedTask) (old stored : Device) : Type 0 where
   pub adapter_is_on : IsOn old
   pub has_port : HasPort old port.0
-  pub driver_memory_fits : DRIVER_BYTES ≤ old.size
+  pub driver_memory_fits : DRIVER_BYTES ≤ old.memory_size
   pub list_runs : RunsItsList port.0 old
-  pub machine_is_related : RelatesWith (AreUnused port.0 tasks) old
+  pub machine_is_related : SomeMachineAgreesWith (BatchSlotsAreUnused port.0 tasks) old
   pub slots_are_apart : HaveOwnSlots tasks
   pub slots_in_range : All (λ t. t.slot < 32) tasks
   pub slots_are_usable : All (λ t. t.slot ≤ old.cap / 256 % 32) tasks
   pub transfers_fit : All (λ t. IsFitTransfer t.task t.frames) tasks
   pub all_are_queued : All (λ t. t.task.queued ≡ true) tasks
-  pub stores : IsSimulated (IsStoreForBatch port.0 tasks) (AreUnused port.0 tasks) old stored
+  pub stores : IsSimulated (IsStoreForBatch port.0 tasks) (BatchSlotsAreUnused port.0 tasks) old stored
   pub slots_say_tasks : All (λ t. SaysTask port.0 t stored.memory) tasks
 
 -- ---- it is issued
@@ -94,17 +94,18 @@ pub record IsBatchStored (port : Port) (tasks : List PlacedTask) (old stored : D
 -- it stores header or table of a slot of the port, or a block, or writes the port's PxSACT or PxCI
 abbrev pub IsBatchAccess : Port → Access → Type 0
 IsBatchAccess port (Writing r v) = (r ≡ Px port Sact) ⊎ (r ≡ Px port Ci)
-IsBatchAccess port (Storing at bytes) = (slot : ℕ) × (slot < 32) × IsStoreWithBlock port.0 slot (Storing at bytes)
+IsBatchAccess port (Storing at bytes) = (slot : ℕ) × (slot < 32)
+    × IsHeaderTableOrBlockStore port.0 slot (Storing at bytes)
 IsBatchAccess port access = ⊥
 
 -- Stores of what the commands need come first, and then the writes of their slots' bits, all at once.
 pub record StoresThenWritesAll (port : Port) (queued : Bool) (tasks : List PlacedTask) (accesses : List Access) : Type 0
   where
     pub stores : List Access
-    pub only : All (IsStoreForBatch port.0 tasks) stores
+    pub all_are_batch_stores : All (IsStoreForBatch port.0 tasks) stores
     pub mask : ℕ
-    pub bits : HasBitsOf tasks mask
-    pub order : accesses ≡ stores ++ issuing_writes port queued mask
+    pub mask_has_slots : HasBitsOf tasks mask
+    pub accesses_are : accesses ≡ stores ++ issuing_writes port queued mask
 
 -- the requests' issues, the last one first
 abbrev pub issues_of : QueueMode → List Pending → List Step
@@ -115,7 +116,7 @@ issues_of mode (e ∷ es) = issues_of mode es ++ Issue mode e ∷ []
 pub record MayServeBatch (port : Port) (tasks : List PlacedTask) (mode : QueueMode) (es : List Pending) (s :
     DriverSlots)
     (m : Machine) : Type 0 where
-  pub slots_are_free : AreUnused port.0 tasks s.uses
+  pub slots_are_free : BatchSlotsAreUnused port.0 tasks s.slot_states
   pub may_be_issued : AllEnabled m (issues_of mode es)
 
 -- each slot serves the request in its place
@@ -133,10 +134,11 @@ pub record IssuesBatchAtEnd (port : Port) (tasks : List PlacedTask) (mode : Queu
   pub device_steps : List Step
   pub only_device_before : AllByDevice device_steps
   pub issues_come_last : act_steps acts ≡ issues_of mode es ++ device_steps
-  pub own_slots_are : AllZip (λ t e. All (λ act. IsBeingIssued e.request.id (act.later.uses port.0 t.slot)) acts) tasks
+  pub own_slots_are_being_issued : AllZip
+      (λ t e. All (λ act. IsBeingIssued e.request.id (act.state_after.slot_states port.0 t.slot)) acts) tasks
       es
   pub other_slots_are_kept : (q k : ℕ) → (q ≡ port.0 → IsSlotOf tasks k → ⊥)
-      → All (λ act. act.later.uses q k ≡ uses q k) acts
+      → All (λ act. act.state_after.slot_states q k ≡ uses q k) acts
 
 -- Such accesses led there, in this order. And from each machine that agrees with the slots free, and on which requests
 -- that are these tasks may be issued one after another, acts with these accesses lead to one that agrees with a driver
@@ -147,18 +149,18 @@ pub record IssuesBatch (port : Port) (tasks : List PlacedTask) (old new : Device
   pub slots_in_range : All (λ t. t.slot < 32) tasks
   pub slots_are_apart : HaveOwnSlots tasks
   pub driven : IsDrivenBy (IsBatchAccess port) old new
-  pub order : StoresThenWritesAll port queued tasks driven.accesses
+  pub stores_come_first : StoresThenWritesAll port queued tasks driven.accesses
   pub machine_follows : (mode : QueueMode) (es : List Pending)
       → AllZip (λ t e. IsTaskOf port t.slot t.task t.frames mode e) tasks es
       → ActsReachWith driven.accesses (MayServeBatch port tasks mode es) (with_serving_batch port tasks es)
-      (λ s m. IssuesBatchAtEnd port tasks mode es s.uses) old new
+      (λ s m. IssuesBatchAtEnd port tasks mode es s.slot_states) old new
 
 -- What the write of PxCI makes of a batch: each slot's bytes say its task, and its bits are set.
 pub record IsBatchIssued (port : Port) (tasks : List PlacedTask) (old new : Device) : Type 0 where
   pub adapter_is_on : IsOn new
   pub issues : IssuesBatch port tasks old new
   pub stored : All (λ t. IsStored new port.0 t.slot (meaning_of t.task)
-      (addresses_of port.0 t.task.op t.task.range.count t.frames)) tasks
-  pub block_names_sectors : All (λ t. HasBlockOf t.task.op t.task.range port.0 new.memory) tasks
+      (piece_addresses_of port.0 t.task.op t.task.range.count t.frames)) tasks
+  pub block_names_sectors : All (λ t. BlockNamesSectors t.task.op t.task.range port.0 new.memory) tasks
   pub ci_is_set : All (λ t. (new.port port.0).ci t.slot ≡ true) tasks
   pub sact_is_set : All (λ t. t.task.queued ≡ true → (new.port port.0).sact t.slot ≡ true) tasks

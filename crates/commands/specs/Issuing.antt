@@ -8,9 +8,9 @@ use Rattle.ata_types.specs.declared.request.Op.TheVariants.{Trim}
 use Rattle.adapter.specs.Commands.{is_queued}
 use Rattle.adapter.specs.Device.{Device}
 use Rattle.adapter.specs.Rules.{IsOn, HasPort}
-use Rattle.refinement.specs.Fragments.{RelatesWith, IsSimulated}
+use Rattle.refinement.specs.Fragments.{SomeMachineAgreesWith, IsSimulated}
 use Rattle.command_table.specs.TableStores.{IsUnused}
-use Rattle.commands.specs.Batches.{AreUnused, HasBitsOf, HaveOwnSlots, IsBatchIssued, IsStoreForBatch, SaysTask, PlacedTask, batch_of_one}
+use Rattle.commands.specs.Batches.{BatchSlotsAreUnused, HasBitsOf, HaveOwnSlots, IsBatchIssued, IsStoreForBatch, SaysTask, PlacedTask, batch_of_one}
 use Rattle.commands.specs.Tasks.{WritesSactIfQueued, IsFitTransfer, RunsItsList, meaning_of}
 use Rattle.commands.specs.declared.ncq.Task.{Task}
 
@@ -19,37 +19,37 @@ use Rattle.commands.specs.declared.ncq.Task.{Task}
 pub record MayIssueTask (port : Port) (slot : ℕ) (d : Device) : Type 0 where
   pub adapter_is_on : IsOn d
   pub has_port : HasPort d port.0
-  pub driver_memory_fits : DRIVER_BYTES ≤ d.size
-  pub machine_is_related : RelatesWith (IsUnused port.0 slot) d
+  pub driver_memory_fits : DRIVER_BYTES ≤ d.memory_size
+  pub machine_is_related : SomeMachineAgreesWith (IsUnused port.0 slot) d
   pub list_runs : RunsItsList port.0 d
 
 -- A transfer's command may be issued in the port's slot: the slot is one that the adapter has (AHCI 1.3.1, 3.1.1,
 -- CAP.NCS), and the transfer fits its frames.
 pub record MayIssueTransfer (port : Port) (slot : ℕ) (r : Task) (frames : List Frame) (d : Device) : Type 0 where
-  pub may : MayIssueTask port slot d
+  pub may_issue_task : MayIssueTask port slot d
   pub slot_in_range : slot < 32
-  pub usable : slot ≤ d.cap / 256 % 32
-  pub fits : IsFitTransfer r frames
+  pub slot_is_usable : slot ≤ d.cap / 256 % 32
+  pub transfer_fits : IsFitTransfer r frames
 
 -- The commands of these tasks might be issued in their slots, all queued or none, and a trim's in slot 0. What they
 -- need was stored, and says them; and the slots' bits of PxSACT were set for queued commands.
-pub record IsArmedFor (port : Port) (queued : Bool) (tasks : List PlacedTask) (own : ℕ) (old armed : Device) : Type 0
+pub record IsArmedFor (port : Port) (queued : Bool) (tasks : List PlacedTask) (mask : ℕ) (old armed : Device) : Type 0
   where
     pub adapter_is_on : IsOn old
     pub has_port : HasPort old port.0
     pub list_runs : RunsItsList port.0 old
-    pub machine_is_related : RelatesWith (AreUnused port.0 tasks) old
+    pub machine_is_related : SomeMachineAgreesWith (BatchSlotsAreUnused port.0 tasks) old
     pub slots_are_apart : HaveOwnSlots tasks
     pub slots_in_range : All (λ t. t.slot < 32) tasks
     pub slots_are_usable : All (λ t. t.slot ≤ old.cap / 256 % 32) tasks
     pub all_are_of_kind : All (λ t. t.task.queued ≡ queued) tasks
     pub operation_is_queued : All (λ t. is_queued (meaning_of t.task).operation ≡ t.task.queued) tasks
     pub trim_in_slot_0 : All (λ t. t.task.op ≡ Trim → t.slot ≡ 0) tasks
-    pub mid : Device
-    pub stores : IsSimulated (IsStoreForBatch port.0 tasks) (AreUnused port.0 tasks) old mid
-    pub slots_say_tasks : All (λ t. SaysTask port.0 t mid.memory) tasks
-    pub bits : HasBitsOf tasks own
-    pub arms : WritesSactIfQueued queued port own mid armed
+    pub after_stores : Device
+    pub stores : IsSimulated (IsStoreForBatch port.0 tasks) (BatchSlotsAreUnused port.0 tasks) old after_stores
+    pub slots_say_tasks : All (λ t. SaysTask port.0 t after_stores.memory) tasks
+    pub mask_has_slots : HasBitsOf tasks mask
+    pub arms : WritesSactIfQueued queued port mask after_stores armed
 
 -- What the write of PxCI makes of one task.
 abbrev pub IsIssued : Port → ℕ → Task → List Frame → Device → Device → Type 0

@@ -11,7 +11,7 @@ use Rattle.adapter.specs.Device.{Device}
 use Rattle.block_machine.specs.Events.{AllByDevice}
 use Rattle.block_machine.specs.Expected.{after}
 use Rattle.block_machine.specs.State.{Machine}
-use Rattle.block_machine.specs.Steps.{NoneQuarantined}
+use Rattle.block_machine.specs.Steps.{NoneKept}
 use Rattle.refinement.specs.Acts.{Act, DriverSlots, ActsReachWith, act_steps}
 use Rattle.refinement.specs.Fragments.{IsDrivenBy}
 use Rattle.refinement.specs.PortFacts.{EndedIn}
@@ -27,10 +27,11 @@ ReadsCiOrSact port access = ⊥
 pub record FindsEnds (port : Port) (done : ℕ) (old new : Device) (s : DriverSlots) (m : Machine)
     (acts : List Act) : Type 0 where
   pub only_device_steps : AllByDevice (act_steps acts)
-  pub slots_are_kept : All (λ act. act.later.uses ≡ s.uses) acts
+  pub slots_are_kept : All (λ act. act.state_after.slot_states ≡ s.slot_states) acts
   pub requests_have_ended : (old.port port.0).st ≡ true → (slot : ℕ) (id : RequestId) → slot < 32 → bit done slot ≡ true
-      → s.uses port.0 slot ≡ Serves id → IsOver (new.port port.0) slot × EndedIn (after m (act_steps acts)) port id
-  pub none_is_quarantined : NoneQuarantined m port → NoneQuarantined (after m (act_steps acts)) port
+      → s.slot_states port.0 slot ≡ Serves id → IsOver (new.port port.0) slot
+      × EndedIn (after m (act_steps acts)) port id
+  pub none_is_quarantined : NoneKept m port → NoneKept (after m (act_steps acts)) port
 
 -- the bits of the mask that are clear in what was read of PxCI and of PxSACT
 abbrev pub IsDoneMask : ℕ → ℕ → ℕ → ℕ → Type 0
@@ -48,6 +49,7 @@ pub record ReadsDone (port : Port) (mask done : ℕ) (old new : Device) : Type 0
   pub machine_follows : ActsReachWith driven.accesses (λ s m. Unit {0}) (λ s. s) (FindsEnds port done old new) old new
 
 -- a slot of the mask whose bits were clear when the call began is done
-abbrev pub SeesClear : Port → ℕ → ℕ → Device → Type 0
-SeesClear port mask done old = (slot : ℕ) → slot < 32 → bit mask slot ≡ true → (old.port port.0).ci slot ≡ false
+abbrev pub FindsEachClearSlot : Port → ℕ → ℕ → Device → Type 0
+FindsEachClearSlot port mask done old = (slot : ℕ) → slot < 32 → bit mask slot ≡ true
+    → (old.port port.0).ci slot ≡ false
     → (old.port port.0).sact slot ≡ false → bit done slot ≡ true

@@ -22,9 +22,9 @@ use Rattle.block_machine.specs.DueRequests.{is_plain}
 use Rattle.block_machine.specs.State.{Pending}
 use Rattle.block_machine.specs.declared.due.QueueMode.{QueueMode}
 use Rattle.refinement.specs.Acts.{DriverSlots}
-use Rattle.refinement.specs.MemoryLayout.{list_of, scratch_of}
+use Rattle.refinement.specs.MemoryLayout.{command_list_address, scratch_frame_address}
 use Rattle.refinement.specs.Slots.{SlotState, Free, Armed, Serves, set_slot_state}
-use Rattle.command_table.specs.TableStores.{IsStoreWithBlock, IsTableStore}
+use Rattle.command_table.specs.TableStores.{IsHeaderTableOrBlockStore, IsHeaderOrTableStore}
 use Rattle.command_table.specs.SectorPlaces.{places_of}
 use Rattle.commands.specs.declared.ncq.Task.{Task}
 
@@ -53,34 +53,35 @@ task_operation queued Trim = operation.Trim
 task_operation queued Flush = operation.Flush
 
 -- of a range, what the command's FIS says: a trim's sectors stand in its block, and a flush has none
-abbrev pub value_in_fis : Op → ℕ → ℕ
-value_in_fis Read n = n
-value_in_fis Write n = n
-value_in_fis Trim n = 0
-value_in_fis Flush n = 0
+abbrev pub fis_value_of_range : Op → ℕ → ℕ
+fis_value_of_range Read n = n
+fis_value_of_range Write n = n
+fis_value_of_range Trim n = 0
+fis_value_of_range Flush n = 0
 
 -- what the task's command says
 abbrev pub meaning_of : Task → Meaning
 meaning_of r = record {
   operation = task_operation r.queued r.op;
-  first = value_in_fis r.op r.range.first.0;
-  count = value_in_fis r.op
+  first = fis_value_of_range r.op r.range.first.0;
+  count = fis_value_of_range r.op
       r.range.count;
 }
 
 -- The addresses that the slot's bytes say, on this port: a transfer's sectors are in its frames, and a trim's block is
 -- in the scratch frame.
-abbrev pub addresses_of : ℕ → Op → ℕ → List Frame → List ℕ
-addresses_of port Read count frames = places_of frames count
-addresses_of port Write count frames = places_of frames count
-addresses_of port Trim count frames = scratch_of port ∷ []
-addresses_of port Flush count frames = []
+abbrev pub piece_addresses_of : ℕ → Op → ℕ → List Frame → List ℕ
+piece_addresses_of port Read count frames = places_of frames count
+piece_addresses_of port Write count frames = places_of frames count
+piece_addresses_of port Trim count frames = scratch_frame_address port ∷ []
+piece_addresses_of port Flush count frames = []
 
 -- a trim's block stands in the port's scratch frame, and names its sectors (ACS-3)
-abbrev pub HasBlockOf : Op → Range → ℕ → (ℕ → ℕ) → Type 0
-HasBlockOf Trim range port memory = trim_sectors (bytes_at memory (scratch_of port) 512) ≡ consecutive range.first.0
+abbrev pub BlockNamesSectors : Op → Range → ℕ → (ℕ → ℕ) → Type 0
+BlockNamesSectors Trim range port memory = trim_sectors (bytes_at memory (scratch_frame_address port) 512)
+    ≡ consecutive range.first.0
     range.count
-HasBlockOf _ range port memory = Unit {0}
+BlockNamesSectors _ range port memory = Unit {0}
 
 -- The request is this task, on this port, and its mode asks for this kind of command. The slot is usable, and a plain
 -- one's is slot 0.
@@ -92,7 +93,7 @@ pub record IsTaskOf (port : Port) (slot : ℕ) (r : Task) (frames : List Frame) 
   pub count_is : e.request.asked.count ≡ r.range.count
   pub frames_are : e.request.asked.frames.items ≡ frames
   pub queued_is : r.queued ≡ not (is_plain mode r.op)
-  pub slot_is_usable : slot < mode.usable
+  pub slot_is_usable : slot < mode.usable_slots
   pub plain_in_slot_0 : r.queued ≡ false → slot ≡ 0
 
 -- ---- issuing
@@ -100,12 +101,12 @@ pub record IsTaskOf (port : Port) (slot : ℕ) (r : Task) (frames : List Frame) 
 -- the port runs, with its command list in its place
 pub record RunsItsList (port : ℕ) (d : Device) : Type 0 where
   pub st_is_set : (d.port port).st ≡ true
-  pub list_is_in_place : (d.port port).bases.clb ≡ list_of port
+  pub list_is_in_place : (d.port port).bases.clb ≡ command_list_address port
 
 -- what is stored for a task: the slot's header and table, and a trim's block
 abbrev pub IsStoreFor : Op → ℕ → ℕ → Access → Type 0
-IsStoreFor Trim port slot access = IsStoreWithBlock port slot access
-IsStoreFor _ port slot access = IsTableStore port slot access
+IsStoreFor Trim port slot access = IsHeaderTableOrBlockStore port slot access
+IsStoreFor _ port slot access = IsHeaderOrTableStore port slot access
 
 -- What stands behind the stores: for a queued command PxSACT is written before PxCI (AHCI 1.3.1, 5.5.1).
 abbrev pub issuing_writes : Port → Bool → ℕ → List Access
@@ -119,7 +120,7 @@ WritesSactIfQueued false port v old new = new ≡ old
 
 -- the slot serves the request
 abbrev pub with_serving : Port → ℕ → RequestId → DriverSlots → DriverSlots
-with_serving port slot id s = record s { uses = set_slot_state s.uses port.0 slot (Serves id) }
+with_serving port slot id s = record s { slot_states = set_slot_state s.slot_states port.0 slot (Serves id) }
 
 -- on its way from being free to serving this request
 abbrev pub IsBeingIssued : RequestId → SlotState → Type 0

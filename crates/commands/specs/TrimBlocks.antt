@@ -11,14 +11,14 @@ abbrev pub entry_length : List ℕ → ℕ → ℕ
 entry_length block place = little_from (8 * place + 6) 2 block
 
 -- the entry at this place of a range: those before it are full, and those after the range are zero
-abbrev pub entry_length_for : (count place : ℕ) → ℕ
-entry_length_for count place = min (count - 65535 * place) 65535
+abbrev pub wanted_entry_length : (count place : ℕ) → ℕ
+wanted_entry_length count place = min (count - 65535 * place) 65535
 
-abbrev pub entry_first_for : (first count place : ℕ) → ℕ
-entry_first_for first count place = if nat_lt (65535 * place) count then first + 65535 * place else 0
+abbrev pub wanted_entry_first : (first count place : ℕ) → ℕ
+wanted_entry_first first count place = if nat_lt (65535 * place) count then first + 65535 * place else 0
 
 -- each entry is so
 abbrev pub IsRangeCut : List ℕ → ℕ → ℕ → Type 0
 IsRangeCut block first count =
-    (place : ℕ) → place < 64 → (entry_first block place ≡ entry_first_for first count place)
-    × (entry_length block place ≡ entry_length_for count place)
+    (place : ℕ) → place < 64 → (entry_first block place ≡ wanted_entry_first first count place)
+    × (entry_length block place ≡ wanted_entry_length count place)

@@ -8,9 +8,9 @@ use Rattle.block_machine.specs.State.{Pending}
 use Rattle.block_machine.specs.Steps.{Issue, IsEnabled}
 use Rattle.block_machine.specs.declared.due.QueueMode.{QueueMode}
 use Rattle.refinement.specs.Relation.{port_at}
-use Rattle.refinement.specs.Fragments.{IsRelated}
+use Rattle.refinement.specs.Fragments.{SomeMachineAgrees}
 use Rattle.refinement.specs.Slots.{Free}
-use Rattle.refinement.specs.TwoReads.{two_memory}
+use Rattle.refinement.specs.TwoReadsWitness.{two_reads_memory}
 use Rattle.refinement.specs.ReadWitness.{prepared_read, ready_device}
 use Rattle.commands.specs.Batches.{HasBitsOf, IsBatchStored, MayServeBatch, PlacedTask}
 use Rattle.commands.specs.Tasks.{IsFitTransfer, IsTaskOf, RunsItsList}
@@ -19,15 +19,15 @@ use Rattle.commands.specs.declared.ncq.Task.{Task}
 -- What is asked of the adapter before a transfer is issued holds of port 0 of the first read's, before its bit of PxCI
 -- was written: with a machine that agrees where no slot is used, and on which a request of that port is due that is a
 -- plain transfer, which slot 0 may take.
-pub record FirstMayBeIssued : Type 0 where
+pub record TransferIssueWitness : Type 0 where
   pub adapter_is_on : IsOn prepared_read
   pub has_port : HasPort prepared_read 0
-  pub driver_memory_fits : DRIVER_BYTES ≤ prepared_read.size
-  pub may : RunsItsList 0 prepared_read
-  pub machine_is_related : IsRelated (λ port slot. Free) prepared_read
+  pub driver_memory_fits : DRIVER_BYTES ≤ prepared_read.memory_size
+  pub list_runs : RunsItsList 0 prepared_read
+  pub machine_is_related : SomeMachineAgrees (λ port slot. Free) prepared_read
   pub mode : QueueMode
   pub request : Pending
-  pub due : IsEnabled machine_is_related.machine (Issue mode request)
+  pub issue_is_enabled : IsEnabled machine_is_related.machine (Issue mode request)
   pub transfer : Task
   pub frames : List Frame
   pub fits : IsFitTransfer transfer frames
@@ -37,15 +37,15 @@ pub record FirstMayBeIssued : Type 0 where
 -- Two queued transfers are stored in slots of port 0, with a machine that agrees, on which both requests may be
 -- issued; and a value has the slots' bits. So what is asked before a batch is issued can be met, and what is said of
 -- issuing it speaks of something.
-pub record BatchMayBeIssued : Type 0 where
+pub record BatchIssueWitness : Type 0 where
   pub tasks : List PlacedTask
   pub has_two_tasks : length tasks ≡ 2
-  pub stored : IsBatchStored (port_at 0) tasks (ready_device two_memory) (ready_device two_memory)
+  pub stored : IsBatchStored (port_at 0) tasks (ready_device two_reads_memory) (ready_device two_reads_memory)
   pub mask : ℕ
-  pub bits : HasBitsOf tasks mask
+  pub mask_has_slots : HasBitsOf tasks mask
   pub mode : QueueMode
   pub requests : List Pending
   pub are_tasks : AllZip (λ t e. IsTaskOf (port_at 0) t.slot t.task t.frames mode e) tasks requests
-  pub may : MayServeBatch (port_at 0) tasks mode requests
-      (record { uses = stored.machine_is_related.0; parked = stored.machine_is_related.2.parked })
+  pub may_serve_batch : MayServeBatch (port_at 0) tasks mode requests
+      (record { slot_states = stored.machine_is_related.0; awaiting_disposition = stored.machine_is_related.2.parked })
       stored.machine_is_related.2.machine

@@ -4,17 +4,11 @@
 //! block names exactly the sectors of its range, in order, and stands at the head of the port's
 //! scratch frame.
 ghost use Rattle.std.specs.Prelude.{◌≡◌, ◌+◌, ◌^◌, ◌<◌, ◌≤◌, List};
-ghost use Rattle.ata_types.specs.declared.range.Range.{Range};
-ghost use Rattle.ata_types.specs.declared.request.Frame.{Frame};
-ghost use Rattle.ata_types.specs.declared.request.Op.TheVariants.{Trim, Flush};
-ghost use Rattle.adapter.specs.Commands.{command_of};
-ghost use Rattle.adapter.specs.Trim.{consecutive, trim_sectors};
-ghost use Rattle.adapter.specs.declared.command.Operation.TheVariants as operation;
-ghost use Rattle.commands.specs.Issuing.{IsIssued, MayIssueTask};
-ghost use Rattle.commands.specs.TrimBlocks.{IsRangeCut, entry_first, entry_length, entry_first_for, entry_length_for};
-ghost use Rattle.commands.specs.PlainTasks.{flush_task, trim_task};
-ghost use Rattle.adapter.specs.AccessBounds.{MakesAtMost};
+ghost use Rattle.ata_types.specs.{declared.range.Range.{Range}, declared.request.Frame.{Frame}, declared.request.Op.TheVariants.{Trim, Flush}};
+ghost use Rattle.adapter.specs.{Commands.{command_of}, Trim.{consecutive, trim_sectors}, AccessBounds.{MakesAtMost}};
+ghost use Rattle.commands.specs.{Issuing.{IsIssued, MayIssueTask}, TrimBlocks.{IsRangeCut, entry_first, entry_length, wanted_entry_first, wanted_entry_length}, PlainTasks.{flush_task, trim_task}};
 ghost use Rattle.command_table.specs.Costs.{TABLE_WITH_BLOCK_ACCESSES, TABLE_ACCESSES};
+ghost use Rattle.adapter.specs.declared.command.Operation.TheVariants as operation;
 
 use super::ncq::bit_of;
 use crate::laws::law_writing_issues;
@@ -45,8 +39,8 @@ const ENTRY_SECTORS: u32 = 65_535;
 fn entry_of(range: &Range, place: usize) -> [u8; ENTRY_BYTES]
     requires place { place < 64 }
     requires sectors { 0 < range.now.count → range.now.first.0 + range.now.count ≤ 2 ^ 48 }
-    ensures first { entry_first result 0 ≡ entry_first_for range.now.first.0 range.now.count place }
-    ensures length { entry_length result 0 ≡ entry_length_for range.now.count place }
+    ensures first { entry_first result 0 ≡ wanted_entry_first range.now.first.0 range.now.count place }
+    ensures length { entry_length result 0 ≡ wanted_entry_length range.now.count place }
 {
     let before = ENTRY_SECTORS * place as u32;
     let length = range.count.saturating_sub(before).min(ENTRY_SECTORS);

@@ -1,38 +1,23 @@
 // Laws of the definitions, for callers: the clause is the theorem. Nothing that runs calls these functions.
-ghost use Rattle.std.specs.Prelude.{ℕ, Bool, true, None, ◌≡◌, ◌≢◌, ◌^◌, ◌<◌, ◌≤◌, ◌/◌, ◌%◌, ◌++◌, List, [], ◌∷◌};
-ghost use Rattle.std.specs.List.{AllZip};
-ghost use Rattle.ata_types.specs.declared.Port.{Port};
-ghost use Rattle.ata_types.specs.declared.memory.TheConstants.{DRIVER_BYTES};
-ghost use Rattle.hba_regs.specs.Bits.{bit};
-ghost use Rattle.hba_regs.specs.declared.reg.Reg.TheVariants.{Px};
-ghost use Rattle.hba_regs.specs.declared.reg.PortReg.TheVariants.{Ci};
-ghost use Rattle.adapter.specs.Access.{Access, Writes};
-ghost use Rattle.adapter.specs.Device.{Device};
-ghost use Rattle.adapter.specs.Rules.{HasPort, IsOn, MayWrite, IsStable};
-ghost use Rattle.adapter.specs.declared.command.Operation.{Operation};
-ghost use Rattle.block_machine.specs.Histories.{IsReachable};
-ghost use Rattle.block_machine.specs.State.{Machine, Pending};
-ghost use Rattle.block_machine.specs.declared.due.QueueMode.{QueueMode};
-ghost use Rattle.refinement.specs.Acts.{DriverSlots, driver_state};
-ghost use Rattle.refinement.specs.Fragments.{AnyUse, IsSimulated, RelatesWith, SparesOtherPorts, GainsNoMove};
-ghost use Rattle.refinement.specs.Driver.{EndsInSteps, DriverRelation};
-ghost use Rattle.refinement.specs.Slots.{Own, op_of};
-ghost use Rattle.commands.specs.Batches.{AreUnused, HasBitsOf, IsBatchIssued, IsBatchStored, IsBatchAccess, IsSlotOf, IssuesBatch, MayServeBatch, PlacedTask, StoresTransfer, issues_of, with_serving_batch};
-ghost use Rattle.commands.specs.Issuing.{IsArmedFor, MayIssueTransfer};
-ghost use Rattle.commands.specs.Masks.{ReadsDone, ReadsCiOrSact};
-ghost use Rattle.commands.specs.Tasks.{IsFitTransfer, IsTaskOf, RunsItsList};
-ghost use Rattle.commands.specs.Witness.{BatchMayBeIssued, FirstMayBeIssued};
+ghost use Rattle.std.specs.{Prelude.{ℕ, Bool, true, None, ◌≡◌, ◌≢◌, ◌^◌, ◌<◌, ◌≤◌, ◌/◌, ◌%◌, ◌++◌, List, [], ◌∷◌}, List.{AllZip}};
+ghost use Rattle.ata_types.specs.{declared.Port.{Port}, declared.memory.TheConstants.{DRIVER_BYTES}};
+ghost use Rattle.hba_regs.specs.{Bits.{bit}, declared.reg.Reg.TheVariants.{Px}, declared.reg.PortReg.TheVariants.{Ci}};
+ghost use Rattle.adapter.specs.{Access.{Access, Writes}, Device.{Device}, Rules.{HasPort, IsOn, MayWrite, IsStable}, declared.command.Operation.{Operation}};
+ghost use Rattle.block_machine.specs.{Histories.{IsReachable}, State.{Machine, Pending}, declared.due.QueueMode.{QueueMode}};
+ghost use Rattle.refinement.specs.{Acts.{DriverSlots, driver_state_of_slots}, Fragments.{AnySlotStates, IsSimulated, SomeMachineAgreesWith, SparesOtherPorts, GainsNoMove}, Driver.{EndsInSteps, DriverRelation}, Slots.{Own, client_operation_of}};
+ghost use Rattle.commands.specs.{Batches.{BatchSlotsAreUnused, HasBitsOf, IsBatchIssued, IsBatchStored, IsBatchAccess, IsSlotOf, IssuesBatch, MayServeBatch, PlacedTask, StoresTransfer, issues_of, with_serving_batch}, Issuing.{IsArmedFor, MayIssueTransfer}, Masks.{ReadsDone, ReadsCiOrSact}, Tasks.{IsFitTransfer, IsTaskOf, RunsItsList}, Witness.{BatchIssueWitness, TransferIssueWitness}};
 
 use adapter::laws::{law_a_first_read_exists, law_decoding_is_unique};
-use block_machine::laws::law_issues_keep_the_rules;
+use block_machine::laws::law_issues_keep_rules_but_frames;
 use refinement::acts::{
     law_accesses_and_decisions_are_acts, law_acts_advance_driver, law_acts_compose,
 };
-use refinement::fragments::law_other_ports_are_left;
+use refinement::fragments::law_other_ports_are_untouched;
 use refinement::laws::{
     law_a_prepared_read_agrees, law_advances_compose, law_device_is_followed,
-    law_device_steps_are_parts, law_due_stays, law_free_slots_are_left, law_histories_compose,
-    law_putting_is_of_one_slot, law_stored_commands_stay, law_two_reads_are_stored,
+    law_device_steps_are_parts, law_enabled_issues_stay, law_free_slots_are_untouched,
+    law_histories_compose, law_setting_changes_one_slot, law_stored_commands_stay,
+    law_two_reads_are_stored,
 };
 use refinement::port_facts::{law_adapter_stays, law_controls_stay};
 use refinement::readying::{
@@ -43,7 +28,7 @@ use refinement::readying::{
 /// No call touches a register of another port, nor another port's bit of IS: so what is said of such accesses
 /// (`SparesOtherPorts`) is so of each.
 pub fn law_calls_are_of_one_port()
-    ensures issuing_on { (port : Port) (access : Access) → IsBatchAccess port access → SparesOtherPorts port access }
+    ensures issuing { (port : Port) (access : Access) → IsBatchAccess port access → SparesOtherPorts port access }
     ensures finding { (port : Port) (access : Access) → ReadsCiOrSact port access → SparesOtherPorts port access }
 {}
 
@@ -62,12 +47,12 @@ pub fn law_writing_issues()
     law_controls_stay();
     law_device_is_followed();
     law_device_steps_are_parts();
-    law_due_stays();
-    law_free_slots_are_left();
+    law_enabled_issues_stay();
+    law_free_slots_are_untouched();
     law_advances_compose();
     law_histories_compose();
-    law_other_ports_are_left();
-    law_putting_is_of_one_slot();
+    law_other_ports_are_untouched();
+    law_setting_changes_one_slot();
     law_readied_is_issued();
     law_stored_stays();
     law_stored_commands_stay();
@@ -76,10 +61,11 @@ pub fn law_writing_issues()
 /// A batch begins empty, on a port that runs. And a queued transfer more may be prepared in a slot of its own that was
 /// unused when the batch began, as all of its slots were; that makes it one of the batch.
 pub fn law_batches_grow()
-    ensures empty_batch { (port : Port) (d : Device) → IsOn d → HasPort d port.0 → DRIVER_BYTES ≤ d.size
-        → RunsItsList port.0 d → RelatesWith (AreUnused port.0 []) d → IsBatchStored port [] d d }
+    ensures empty_batch { (port : Port) (d : Device) → IsOn d → HasPort d port.0 → DRIVER_BYTES ≤ d.memory_size
+        → RunsItsList port.0 d → SomeMachineAgreesWith (BatchSlotsAreUnused port.0 []) d → IsBatchStored port [] d d }
     ensures one_more_task { (port : Port) (tasks : List PlacedTask) (t : PlacedTask) (start mid : Device)
-        → IsBatchStored port tasks start mid → RelatesWith (AreUnused port.0 (tasks ++ t ∷ [])) start
+        → IsBatchStored port tasks start mid
+        → SomeMachineAgreesWith (BatchSlotsAreUnused port.0 (tasks ++ t ∷ [])) start
         → (IsSlotOf tasks t.slot → ⊥) → t.slot < 32 → t.slot ≤ start.cap / 256 % 32
         → IsFitTransfer t.task t.frames → t.task.queued ≡ true
         → MayIssueTransfer port t.slot t.task t.frames mid
@@ -89,8 +75,8 @@ pub fn law_batches_grow()
     law_acts_advance_driver();
     law_advances_compose();
     law_histories_compose();
-    law_other_ports_are_left();
-    law_putting_is_of_one_slot();
+    law_other_ports_are_untouched();
+    law_setting_changes_one_slot();
     law_stored_commands_stay();
     law_stored_stays_over_acts();
 }
@@ -107,18 +93,20 @@ pub fn law_batch_masks_grow()
 /// the tasks may be issued one after another: by its two ends it is the device's steps, and then the requests' issues;
 /// and no disk sends a page meanwhile, but to a slot 0 that has a command of the driver's own.
 pub fn law_batch_issues_come_last()
-    ensures ends { (port : Port) (tasks : List PlacedTask) (mode : QueueMode) (es : List Pending) (old new : Device)
+    ensures ends_in_issues { (port : Port) (tasks : List PlacedTask) (mode : QueueMode) (es : List Pending)
+        (old new : Device)
         (s : DriverSlots) (m : Machine) → IssuesBatch port tasks old new
         → AllZip (λ t e. IsTaskOf port t.slot t.task t.frames mode e) tasks es → IsReachable m
-        → DriverRelation m (driver_state s old) → MayServeBatch port tasks mode es s m
-        → EndsInSteps (driver_state s old) m (issues_of mode es)
-        (driver_state (with_serving_batch port tasks es s) new) }
-    ensures silent { (port : Port) (tasks : List PlacedTask) (mode : QueueMode) (es : List Pending) (old new : Device)
+        → DriverRelation m (driver_state_of_slots s old) → MayServeBatch port tasks mode es s m
+        → EndsInSteps (driver_state_of_slots s old) m (issues_of mode es)
+        (driver_state_of_slots (with_serving_batch port tasks es s) new) }
+    ensures no_page_moves { (port : Port) (tasks : List PlacedTask) (mode : QueueMode) (es : List Pending)
+        (old new : Device)
         (s : DriverSlots) (m : Machine) → IssuesBatch port tasks old new
         → AllZip (λ t e. IsTaskOf port t.slot t.task t.frames mode e) tasks es → IsReachable m
-        → DriverRelation m (driver_state s old) → MayServeBatch port tasks mode es s m
-        → (q : ℕ) (o : Operation) → op_of o ≡ None
-        → (s.uses q 0 ≡ Own o → ⊥) → GainsNoMove q o old new }
+        → DriverRelation m (driver_state_of_slots s old) → MayServeBatch port tasks mode es s m
+        → (q : ℕ) (o : Operation) → client_operation_of o ≡ None
+        → (s.slot_states q 0 ≡ Own o → ⊥) → GainsNoMove q o old new }
 {
     law_acts_advance_driver();
 }
@@ -126,23 +114,23 @@ pub fn law_batch_issues_come_last()
 /// What is found done is a fragment that is followed, with each slot used as it was.
 pub fn law_finding_is_followed()
     ensures { (port : Port) (mask done : ℕ) (old new : Device) → ReadsDone port mask done old new
-        → IsSimulated (ReadsCiOrSact port) AnyUse old new }
+        → IsSimulated (ReadsCiOrSact port) AnySlotStates old new }
 {}
 
 /// There is an adapter on which a plain transfer may be issued in slot 0, so that the clauses on issuing speak of
 /// something.
 pub fn law_a_transfer_may_be_issued()
-    ensures { FirstMayBeIssued }
+    ensures { TransferIssueWitness }
 {
     law_a_prepared_read_agrees();
     law_decoding_is_unique();
     law_a_first_read_exists();
-    law_issues_keep_the_rules();
+    law_issues_keep_rules_but_frames();
 }
 
 /// There is one on which a batch of two queued reads is stored and may be issued.
 pub fn law_a_batch_may_be_issued()
-    ensures { BatchMayBeIssued }
+    ensures { BatchIssueWitness }
 {
     law_two_reads_are_stored();
 }

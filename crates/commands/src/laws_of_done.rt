@@ -2,12 +2,9 @@
 // it.
 ghost use Rattle.std.specs.Prelude.{ℕ};
 ghost use Rattle.ata_types.specs.declared.Port.{Port};
-ghost use Rattle.hba_regs.specs.declared.reg.Reg.TheVariants.{Px};
-ghost use Rattle.hba_regs.specs.declared.reg.PortReg.TheVariants.{Ci, Sact};
-ghost use Rattle.adapter.specs.Access.{Reads};
-ghost use Rattle.adapter.specs.Device.{Device};
-ghost use Rattle.adapter.specs.Rules.{IsOn};
-ghost use Rattle.commands.specs.Masks.{IsDoneMask, ReadsDone, SeesClear};
+ghost use Rattle.hba_regs.specs.{declared.reg.Reg.TheVariants.{Px}, declared.reg.PortReg.TheVariants.{Ci, Sact}};
+ghost use Rattle.adapter.specs.{Access.{Reads}, Device.{Device}, Rules.{IsOn}};
+ghost use Rattle.commands.specs.Masks.{IsDoneMask, ReadsDone, FindsEachClearSlot};
 
 use adapter::laws::law_step_lists_keep_what_steps_keep;
 use refinement::acts::law_accesses_and_decisions_are_acts;
@@ -20,7 +17,7 @@ use refinement::port_facts::{law_adapter_stays, law_controls_stay, law_ended_is_
 pub fn law_reading_finds_done()
     ensures { (port : Port) (mask done issued active : ℕ) (old mid new : Device) → IsOn old
         → Reads (Px port Ci) issued old mid → Reads (Px port Sact) active mid new → IsDoneMask mask issued active done
-        → ReadsDone port mask done old new × SeesClear port mask done old }
+        → ReadsDone port mask done old new × FindsEachClearSlot port mask done old }
 {
     law_accesses_and_decisions_are_acts();
     law_adapter_stays();

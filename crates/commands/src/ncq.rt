@@ -7,19 +7,11 @@
 //! clears them, too. What issuing leaves of the port beside its slot follows from the kinds of its
 //! accesses, by laws of `refinement`. It knows no client and no book.
 ghost use Rattle.std.specs.Prelude.{◌≡◌, ◌≤◌, ◌<◌, ◌*◌, ◌/◌, ◌%◌, List, length, true, false};
-ghost use Rattle.adapter.specs.Commands.{command_of};
-ghost use Rattle.adapter.specs.Device.{Device};
-ghost use Rattle.adapter.specs.Rules.{IsOn, HasPort};
+ghost use Rattle.adapter.specs.{Commands.{command_of}, Device.{Device}, Rules.{IsOn, HasPort}, AccessBounds.{MakesAtMost}};
 ghost use Rattle.refinement.specs.Fragments.{IsSoleBit};
-ghost use Rattle.hba_regs.specs.declared.reg.PortReg.TheVariants.{Ci, Sact};
-ghost use Rattle.hba_regs.specs.declared.reg.Reg.TheVariants.{Px};
-ghost use Rattle.commands.specs.Batches.{HasBitsOf, IsBatchIssued, IsBatchStored, PlacedTask, StoresTransfer};
-ghost use Rattle.commands.specs.Issuing.{IsIssued, MayIssueTask, MayIssueTransfer};
-ghost use Rattle.commands.specs.Masks.{IsDoneMask, ReadsDone, SeesClear};
-ghost use Rattle.commands.specs.Tasks.{WritesSactIfQueued, IsFitTransfer, IsTransfer, task_operation};
-ghost use Rattle.adapter.specs.AccessBounds.{MakesAtMost};
+ghost use Rattle.hba_regs.specs.{declared.reg.PortReg.TheVariants.{Ci, Sact}, declared.reg.Reg.TheVariants.{Px}};
+ghost use Rattle.commands.specs.{Batches.{HasBitsOf, IsBatchIssued, IsBatchStored, PlacedTask, StoresTransfer}, Issuing.{IsIssued, MayIssueTask, MayIssueTransfer}, Masks.{IsDoneMask, ReadsDone, FindsEachClearSlot}, Tasks.{WritesSactIfQueued, IsFitTransfer, IsTransfer, task_operation}, Costs.{BATCH_WRITE_ACCESSES, DONE_ACCESSES, ISSUE_ACCESSES}};
 ghost use Rattle.command_table.specs.Costs.{TABLE_ACCESSES};
-ghost use Rattle.commands.specs.Costs.{BATCH_ACCESSES, DONE_ACCESSES, ISSUE_ACCESSES};
 
 use crate::laws::law_writing_issues;
 use crate::laws_of_done::law_reading_finds_done;
@@ -30,8 +22,8 @@ use ata_types::{
 };
 use command_table::{prds_in, write_table};
 use hba_regs::{PortReg, Reg, with_bit};
-use refinement::fragments::law_other_ports_are_left;
-use refinement::laws::law_writing_is_permitted;
+use refinement::fragments::law_other_ports_are_untouched;
+use refinement::laws::law_writing_stays_permitted;
 use refinement::port_facts::law_adapter_stays;
 
 /// Where a queued command has its tag, which is its slot: bits 7:3 of the count field (ACS-3).
@@ -96,13 +88,13 @@ pub fn bit_of(slot: Slot) -> u32
 
 /// Sets the slot's bit of PxSACT for a queued command; nothing is done for a plain one.
 fn arm<A: Adapter>(adapter: &mut A, port: Port, own: u32, queued: bool)
-    requires on { IsOn (A.device adapter.old) }
-    requires there { HasPort (A.device adapter.old) port.0 }
+    requires adapter_is_on { IsOn (A.device adapter.old) }
+    requires has_port { HasPort (A.device adapter.old) port.0 }
     requires started { ((A.device adapter.old).port port.0).st ≡ true }
     ensures arms { WritesSactIfQueued queued port own (A.device adapter.old) (A.device adapter.new) }
     ensures cost { MakesAtMost 1 (A.access_count adapter.old) (A.access_count adapter.new) }
 {
-    law_writing_is_permitted();
+    law_writing_stays_permitted();
     if queued {
         adapter.write(Reg::Px(port, PortReg::Sact), own);
     }
@@ -158,13 +150,13 @@ fn store_transfer_in<A: Adapter, const ROOM: usize>(
 /// FPDMA QUEUED, for which the slot's bit of PxSACT is set first, and a plain one as READ or WRITE DMA EXT.
 pub fn issue<A: Adapter>(adapter: &mut A, port: Port, slot: Slot, transfer: &Task, frames: &[Frame])
     requires may { MayIssueTask port slot.0 (A.device adapter.old) }
-    requires slot { slot.0 < 32 }
-    requires usable { slot.0 ≤ (A.device adapter.old).cap / 256 % 32 }
+    requires slot_in_range { slot.0 < 32 }
+    requires adapter_has_slot { slot.0 ≤ (A.device adapter.old).cap / 256 % 32 }
     requires fits { IsFitTransfer transfer.now frames.now }
     ensures issued { IsIssued port slot.0 transfer.now frames.now (A.device adapter.old) (A.device adapter.new) }
     ensures cost { MakesAtMost ISSUE_ACCESSES (A.access_count adapter.old) (A.access_count adapter.new) }
 {
-    law_other_ports_are_left();
+    law_other_ports_are_untouched();
     store_transfer(adapter, port, slot, transfer, frames);
     let own = bit_of(slot);
     arm(adapter, port, own, transfer.queued);
@@ -180,10 +172,10 @@ pub fn issue_all<A: Adapter>(adapter: &mut A, port: Port, mask: u32)
     ensures issued { (start : Device) (tasks : List PlacedTask)
         → IsBatchStored port tasks start (A.device adapter.old) → HasBitsOf tasks mask
         → IsBatchIssued port tasks start (A.device adapter.new) }
-    ensures cost { MakesAtMost BATCH_ACCESSES (A.access_count adapter.old) (A.access_count adapter.new) }
+    ensures cost { MakesAtMost BATCH_WRITE_ACCESSES (A.access_count adapter.old) (A.access_count adapter.new) }
 {
-    law_other_ports_are_left();
-    law_writing_is_permitted();
+    law_other_ports_are_untouched();
+    law_writing_stays_permitted();
     adapter.write(Reg::Px(port, PortReg::Sact), mask);
     law_writing_issues();
     adapter.write(Reg::Px(port, PortReg::Ci), mask);
@@ -200,11 +192,11 @@ fn clear_in_both(mask: u32, issued: u32, active: u32) -> u32
 /// one has a command, that is done. Bit k is slot k. While ST is one, the device alone clears these bits; a queued
 /// command leaves PxCI when it is taken, and PxSACT when it ends.
 pub fn done<A: Adapter>(adapter: &mut A, port: Port, mask: u32) -> u32
-    requires on { IsOn (A.device adapter.old) }
-    requires there { HasPort (A.device adapter.old) port.0 }
-    ensures on { IsOn (A.device adapter.new) }
+    requires adapter_is_on { IsOn (A.device adapter.old) }
+    requires has_port { HasPort (A.device adapter.old) port.0 }
+    ensures adapter_is_on { IsOn (A.device adapter.new) }
     ensures finds { ReadsDone port mask result (A.device adapter.old) (A.device adapter.new) }
-    ensures seen { SeesClear port mask result (A.device adapter.old) }
+    ensures finds_each_that_was_clear { FindsEachClearSlot port mask result (A.device adapter.old) }
     ensures cost { MakesAtMost DONE_ACCESSES (A.access_count adapter.old) (A.access_count adapter.new) }
 {
     law_adapter_stays();

@@ -12,4 +12,4 @@ blank-document text is = rw is refl
 
 pub blank-keys : HasAllKeys no_members → ⊥
 unfolding HasKeys
-blank-keys h = let bad : false ≡ true = h.itself.0 0 (required_key (codes "frames") Integer) (omega arith) refl in cc
+blank-keys h = let bad : false ≡ true = h.document_passes.0 0 (required_key (codes "frames") Integer) (omega arith) refl in cc

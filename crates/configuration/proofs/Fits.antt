@@ -19,7 +19,7 @@ use Rattle.dma_frames.specs.FrameTables.{FrameExtent, ExtentsApart}
 use Rattle.identify.specs.declared.wanted.Wanted.{Wanted}
 use Rattle.identify.specs.declared.wanted.Wanted.TheVariants.{Nothing}
 use Rattle.configuration.specs.PlanParts.{AreWantedOf, wanted_disk, row_of, owner_extent}
-use Rattle.configuration.specs.Plan.{AreClientExtents, HasClientFrames, IsClientNumber, IsPlan, IsPlanOf, IsServedGrant, PlanView}
+use Rattle.configuration.specs.Plan.{AreClientExtents, HasClientFrames, IsClientNumber, IsServablePlan, IsPlanOf, IsServableGrant, PlanView}
 
 -- what each two elements have in common, each two of their images have
 AllPairs-map : {X Y : Type 0} (R : Y → Y → Type 0) (f : X → Y) (xs : List X) → AllPairs (λ x y. R (f x) (f y)) xs
@@ -59,11 +59,11 @@ module _ (c : Config) (sound : LacksEveryFault c) where
   clients_within = λ k d low.
       let is = in_range.parts.clients k d low in
       record {
-        least = is.least;
-        most = is.most;
-        first_frame = is.first_frame;
-        some = is.some;
-        within = omega (arith, is.within, in_range.numbers.frames.1);
+        id_is_positive = is.id_is_positive;
+        id_is_a_clients = is.id_is_a_clients;
+        first_frame_is_no_drivers = is.first_frame_is_no_drivers;
+        has_a_frame = is.has_a_frame;
+        frames_end_in_memory = omega (arith, is.frames_end_in_memory, in_range.numbers.frames.1);
       }
 
   pub few_clients : length c.client.items ≤ 8
@@ -71,47 +71,47 @@ module _ (c : Config) (sound : LacksEveryFault c) where
       let clients = c.client.items in
       let id = λ (client : ClientConfig). client.id in
       let range = All-map (λ n. (1 ≤ n) × (n ≤ 8)) id clients
-      (λ k d low. ((in_range.parts.clients k d low).least, (in_range.parts.clients k d low).most)) in
+      (λ k d low. ((in_range.parts.clients k d low).id_is_positive, (in_range.parts.clients k d low).id_is_a_clients)) in
       let once = AllPairs-map (λ a b. a ≢ b) id clients (sound Duplicate).clients in
       omega (arith, eight (map id clients) range once, length-map clients id)
 
   runs : AreClientExtents c.frames (map owner_extent c.client.items)
   runs = record {
-    owners = All-map (λ (run : FrameExtent). IsClientNumber run.0) owner_extent c.client.items
-        (λ k d low. ((in_range.parts.clients k d low).least, (in_range.parts.clients k d low).most));
-    within = All-map (HasClientFrames c.frames) owner_extent c.client.items
-        (λ k d low. let is = in_range.parts.clients k d low in (is.first_frame, is.some, is.within));
-    apart = AllPairs-map ExtentsApart owner_extent c.client.items
-        (λ i j d before high f a b. (sound SharedFrames i j d before high).none f.0 a b);
+    owners_are_clients = All-map (λ (run : FrameExtent). IsClientNumber run.0) owner_extent c.client.items
+        (λ k d low. ((in_range.parts.clients k d low).id_is_positive, (in_range.parts.clients k d low).id_is_a_clients));
+    frames_are_clients_frames = All-map (HasClientFrames c.frames) owner_extent c.client.items
+        (λ k d low. let is = in_range.parts.clients k d low in (is.first_frame_is_no_drivers, is.has_a_frame, is.frames_end_in_memory));
+    extents_share_no_frame = AllPairs-map ExtentsApart owner_extent c.client.items
+        (λ i j d before high f a b. (sound SharedFrames i j d before high).no_common_frame f.0 a b);
   }
 
-  served : (wanted : List Wanted) → AreWantedOf c.port.items wanted → All (λ g. IsServedGrant wanted (row_of g)) c.grant.items
+  served : (wanted : List Wanted) → AreWantedOf c.port.items wanted → All (λ g. IsServableGrant wanted (row_of g)) c.grant.items
   unfolding ConfiguresPort
   served wanted are k d low =
       let g = get_or c.grant.items k d in
       let is = in_range.parts.grants k d low in
       let port = sound UnknownPort k d low in
       let disk = are g.port (omega (arith, is.port)) in
-      let named = disk.2.named port.0 port.1 port.2 (ap (λ p. p.number) port.3 ∙ port.4) in
+      let named = disk.2.configured_port_wants_disk port.0 port.1 port.2 (ap (λ p. p.number) port.3 ∙ port.4) in
       record {
-        client = (is.least, is.most);
+        client = (is.client_is_positive, is.client_is_a_clients);
         number = is.number;
         port = is.port;
-        disk = (disk.0, disk.1, λ nothing. some_disk _ (sym named ∙ nothing));
-        count_is_positive = is.some;
-        sectors = is.within;
+        disk_is_wanted = (disk.0, disk.1, λ nothing. some_disk _ (sym named ∙ nothing));
+        count_is_positive = is.has_a_sector;
+        sectors_end_by_2_48 = is.sectors_end_by_2_48;
       }
 
   names : AllPairs DifferInName (map row_of c.grant.items)
   names = AllPairs-map DifferInName row_of c.grant.items
       (λ i j d before high same. (sound Duplicate).grants i j d before high (sym (ap (λ client. client.0) same.0)) (sym same.1))
 
-  pub plan_fits : (p : PlanView) → IsPlanOf c p → IsPlan p
+  pub plan_fits : (p : PlanView) → IsPlanOf c p → IsServablePlan p
   plan_fits p is = record {
     memory = subst (λ n. (FEWEST_FRAMES ≤ n) × (n ≤ MOST_FRAMES)) (sym is.frames) in_range.numbers.frames;
     runs = subst (λ n. AreClientExtents n p.owners) (sym is.frames) (subst (AreClientExtents c.frames) (sym is.owners) runs);
-    few = omega (arith, ap length is.grants, length-map c.grant.items row_of, in_range.numbers.few_grants);
-    grants = subst (All (IsServedGrant p.wanted)) (sym is.grants)
-        (All-map (IsServedGrant p.wanted) row_of c.grant.items (served p.wanted is.wanted));
-    names = subst (AllPairs DifferInName) (sym is.grants) names;
+    at_most_64_grants = omega (arith, ap length is.grants, length-map c.grant.items row_of, in_range.numbers.at_most_64_grants);
+    grants = subst (All (IsServableGrant p.wanted)) (sym is.grants)
+        (All-map (IsServableGrant p.wanted) row_of c.grant.items (served p.wanted is.wanted));
+    grants_differ_in_name = subst (AllPairs DifferInName) (sym is.grants) names;
   }

@@ -61,11 +61,11 @@ pub rights_by_left : (text rest : List ℕ) (is_empty is_right : Bool) → rest 
 rights_by_left text rest is_empty is_right left_is empty_is some is =
     let empty = λ (xs : List ℕ) (no : xs ≡ []). ap (λ ys. length ys == 0) no in (
       (λ yes. record {
-        some = λ no. let e = empty text no in cc;
-        choice = choice_of text (sym left_is ∙ no_length rest (sym is ∙ yes));
+        is_not_empty = λ no. let e = empty text no in cc;
+        is_choice_of_rwtf = choice_of text (sym left_is ∙ no_length rest (sym is ∙ yes));
       }),
       (λ h.
-          let p = h.choice in
+          let p = h.is_choice_of_rwtf in
           let none = left_is ∙ ap left p.4 ∙ left_of_choice p.0 p.1 p.2 p.3 in
           is ∙ empty rest none),
     )

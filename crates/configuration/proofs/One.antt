@@ -4,7 +4,7 @@ use Rattle.toml.specs.Data.{Members}
 use Rattle.configuration.specs.declared.Config.{Config}
 use Rattle.configuration.specs.declared.FaultKind.{FaultKind}
 use Rattle.configuration.specs.declared.FaultKind.TheVariants.{NotToml, WrongKeys, WrongTypes, OutOfRange, Duplicate, SharedFrames, UnknownClient, UnknownPort}
-use Rattle.configuration.specs.Document.{IsDocument, IsDocumentFault, DocumentReadsAs, TextReadsAs, IsTextFault, document, keys, negative, rule, types, unreadable}
+use Rattle.configuration.specs.Document.{IsDocument, IsDocumentFault, DocumentReadsAs, TextReadsAs, IsTextFault, document_fault, wrong_keys, negative_number, broken_rule, wrong_types, not_a_document}
 use Rattle.configuration.specs.Rules.{IsLeastFault, kind_number}
 use Rattle.configuration.specs.TomlTables.{Spells}
 use Rattle.configuration.proofs.Same.{meets-alike, same-values}
@@ -48,41 +48,41 @@ broken-alike m c d k a b h = (
 )
 
 pub one-fault : (m : Members) (k l : FaultKind) → IsDocumentFault m k → IsDocumentFault m l → k ≡ l
-one-fault m _ _ (keys wrong) (keys wrong') = refl
-one-fault m _ _ (keys wrong) (types right wrong') = absurd (wrong right)
-one-fault m _ _ (keys wrong) (negative right t none) = absurd (wrong right)
-one-fault m _ _ (keys wrong) (rule k c right t s b) = absurd (wrong right)
-one-fault m _ _ (types right wrong) (keys wrong') = absurd (wrong' right)
-one-fault m _ _ (types right wrong) (types right' wrong') = refl
-one-fault m _ _ (types right wrong) (negative right' t none) = absurd (wrong t)
-one-fault m _ _ (types right wrong) (rule k c right' t s b) = absurd (wrong t)
-one-fault m _ _ (negative right t none) (keys wrong) = absurd (wrong right)
-one-fault m _ _ (negative right t none) (types right' wrong) = absurd (wrong t)
-one-fault m _ _ (negative right t none) (negative right' t' none') = refl
-one-fault m _ _ (negative right t none) (rule k c right' t' s b) = absurd (none c s)
-one-fault m _ _ (rule k c right t s b) (keys wrong) = absurd (wrong right)
-one-fault m _ _ (rule k c right t s b) (types right' wrong) = absurd (wrong t)
-one-fault m _ _ (rule k c right t s b) (negative right' t' none) = absurd (none c s)
-one-fault m _ _ (rule k c right t s b) (rule l d right' t' s' b') = first-broken c k l b (broken-alike m c d l s s' b')
+one-fault m _ _ (wrong_keys wrong) (wrong_keys wrong') = refl
+one-fault m _ _ (wrong_keys wrong) (wrong_types right wrong') = absurd (wrong right)
+one-fault m _ _ (wrong_keys wrong) (negative_number right t none) = absurd (wrong right)
+one-fault m _ _ (wrong_keys wrong) (broken_rule k c right t s b) = absurd (wrong right)
+one-fault m _ _ (wrong_types right wrong) (wrong_keys wrong') = absurd (wrong' right)
+one-fault m _ _ (wrong_types right wrong) (wrong_types right' wrong') = refl
+one-fault m _ _ (wrong_types right wrong) (negative_number right' t none) = absurd (wrong t)
+one-fault m _ _ (wrong_types right wrong) (broken_rule k c right' t s b) = absurd (wrong t)
+one-fault m _ _ (negative_number right t none) (wrong_keys wrong) = absurd (wrong right)
+one-fault m _ _ (negative_number right t none) (wrong_types right' wrong) = absurd (wrong t)
+one-fault m _ _ (negative_number right t none) (negative_number right' t' none') = refl
+one-fault m _ _ (negative_number right t none) (broken_rule k c right' t' s b) = absurd (none c s)
+one-fault m _ _ (broken_rule k c right t s b) (wrong_keys wrong) = absurd (wrong right)
+one-fault m _ _ (broken_rule k c right t s b) (wrong_types right' wrong) = absurd (wrong t)
+one-fault m _ _ (broken_rule k c right t s b) (negative_number right' t' none) = absurd (none c s)
+one-fault m _ _ (broken_rule k c right t s b) (broken_rule l d right' t' s' b') = first-broken c k l b (broken-alike m c d l s s' b')
 
 one-document : (text : List ℕ) (m n : Members) → IsDocument text m → IsDocument text n → m ≡ n
-one-document text m n a b = let both = sym a.is ∙ b.is in cc
+one-document text m n a b = let both = sym a.parses_as_document ∙ b.parses_as_document in cc
 
 pub told-kind-is-one : (text : List ℕ) (k l : FaultKind) → IsTextFault text k → IsTextFault text l → k ≡ l
-told-kind-is-one text _ _ (unreadable wrong) (unreadable wrong') = refl
-told-kind-is-one text _ _ (unreadable wrong) (document l m is fault) = absurd (wrong m is)
-told-kind-is-one text _ _ (document k m is fault) (unreadable wrong) = absurd (wrong m is)
-told-kind-is-one text _ _ (document k m is fault) (document l n is' fault') =
+told-kind-is-one text _ _ (not_a_document wrong) (not_a_document wrong') = refl
+told-kind-is-one text _ _ (not_a_document wrong) (document_fault l m is fault) = absurd (wrong m is)
+told-kind-is-one text _ _ (document_fault k m is fault) (not_a_document wrong) = absurd (wrong m is)
+told-kind-is-one text _ _ (document_fault k m is fault) (document_fault l n is' fault') =
     one-fault m k l fault (subst (λ o. IsDocumentFault o l) (one-document text n m is' is) fault')
 
 read-has-no-fault : (m : Members) (c : Config) (k : FaultKind) → DocumentReadsAs m c → IsDocumentFault m k → ⊥
-read-has-no-fault m c _ read (keys wrong) = wrong read.keys
-read-has-no-fault m c _ read (types right wrong) = wrong read.types
-read-has-no-fault m c _ read (negative right t none) = none c read.values
-read-has-no-fault m c _ read (rule k d right t s b) =
-    b.0 (meets-alike c d k (same-values m c d read.values s) (read.sound k))
+read-has-no-fault m c _ read (wrong_keys wrong) = wrong read.has_all_keys
+read-has-no-fault m c _ read (wrong_types right wrong) = wrong read.has_all_types
+read-has-no-fault m c _ read (negative_number right t none) = none c read.spells_config
+read-has-no-fault m c _ read (broken_rule k d right t s b) =
+    b.0 (meets-alike c d k (same-values m c d read.spells_config s) (read.lacks_every_fault k))
 
 pub read-text-has-no-fault : (text : List ℕ) (c : Config) (k : FaultKind) → TextReadsAs text c → IsTextFault text k → ⊥
-read-text-has-no-fault text c _ read (unreadable wrong) = wrong read.0 read.1
-read-text-has-no-fault text c _ read (document k m is fault) =
+read-text-has-no-fault text c _ read (not_a_document wrong) = wrong read.0 read.1
+read-text-has-no-fault text c _ read (document_fault k m is fault) =
     read-has-no-fault m c k (subst (λ o. DocumentReadsAs o c) (one-document text read.0 m read.1 is) read.2) fault

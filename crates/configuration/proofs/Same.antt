@@ -107,12 +107,12 @@ port-alike p q same h = record {
 
 grant-alike : (g h : GrantConfig) → SameGrant g h → IsGrantInRange g → IsGrantInRange h
 grant-alike g h same is = record {
-  least = subst (λ n. 1 ≤ n) same.client is.least;
-  most = subst (λ n. n ≤ CLIENTS) same.client is.most;
+  client_is_positive = subst (λ n. 1 ≤ n) same.client is.client_is_positive;
+  client_is_a_clients = subst (λ n. n ≤ CLIENTS) same.client is.client_is_a_clients;
   number = subst (λ n. n ≤ 63) same.number is.number;
   port = subst (λ n. n ≤ 3) same.port is.port;
-  some = subst (λ n. 1 ≤ n) same.count is.some;
-  within = rw (sym same.first, sym same.count) is.within;
+  has_a_sector = subst (λ n. 1 ≤ n) same.count is.has_a_sector;
+  sectors_end_by_2_48 = rw (sym same.first, sym same.count) is.sectors_end_by_2_48;
   rights = subst IsRightsText same.rights is.rights;
 }
 
@@ -127,8 +127,8 @@ meets-alike c d OutOfRange same h = record {
     frames = subst (λ n. (FEWEST_FRAMES ≤ n) × (n ≤ MOST_FRAMES)) same.frames h.numbers.frames;
     slots = subst (λ n. (1 ≤ n) × (n ≤ SLOTS)) same.slots h.numbers.slots;
     depth = subst (λ n. (1 ≤ n) × (n ≤ SLOTS)) same.depth h.numbers.depth;
-    few_grants = subst (λ n. n ≤ MOST_GRANTS) (same-length SameGrant c.grant.items d.grant.items same.grants)
-        h.numbers.few_grants;
+    at_most_64_grants = subst (λ n. n ≤ MOST_GRANTS) (same-length SameGrant c.grant.items d.grant.items same.grants)
+        h.numbers.at_most_64_grants;
   };
   trim = subst IsTrimWord same.trim h.trim;
   parts = record {

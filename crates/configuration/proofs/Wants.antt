@@ -21,13 +21,13 @@ pub wanted_at : (ports : List PortConfig) (number i : ℕ) (p : PortConfig) → 
     → get_or ports i p ≡ p → p.number ≡ number → IsWantedIn ports number (wanted_disk (option_map string_bytes p.serial))
 unfolding ConfiguresPort
 wanted_at ports number i p once within there is = record {
-  named = λ k d low same.
+  configured_port_wants_disk = λ k d low same.
       let here : get_or ports k d ≡ get_or ports k p = get_or_default ports k d p low in
       let numbers = ap (λ (q : PortConfig). q.number) there ∙ is ∙ sym same ∙ ap (λ (q : PortConfig). q.number) here in
       let place : i ≡ k = one_place ports i k p once within low numbers in
       let one : p ≡ get_or ports k d = sym there ∙ ap (λ n. get_or ports n p) place ∙ sym here in
       ap (λ (q : PortConfig). wanted_disk (option_map string_bytes q.serial)) one;
-  other = λ none. absurd (none (i, p, within, there, is));
+  other_port_wants_nothing = λ none. absurd (none (i, p, within, there, is));
 }
 
 -- what holds of each of four disks at its number

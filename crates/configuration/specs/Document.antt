@@ -14,25 +14,25 @@ use Rattle.configuration.specs.TomlTables.{Spells}
 
 -- the document has the right keys and types, and these values, which meet every rule
 pub record DocumentReadsAs (document : Members) (c : Config) : Type 0 where
-  pub keys : HasAllKeys document
-  pub types : HasAllTypes document
-  pub values : Spells document c
-  pub sound : LacksEveryFault c
+  pub has_all_keys : HasAllKeys document
+  pub has_all_types : HasAllTypes document
+  pub spells_config : Spells document c
+  pub lacks_every_fault : LacksEveryFault c
 
 -- The least kind of fault that a document has. Where its keys and types are right, and it has the values of no
 -- `Config`, whose numbers aren't negative, one of its numbers is negative, and so out of range.
 pub data IsDocumentFault (document : Members) : FaultKind → Type 0 where
-  keys : (HasAllKeys document → ⊥) → IsDocumentFault document WrongKeys
-  types : HasAllKeys document → (HasAllTypes document → ⊥) → IsDocumentFault document WrongTypes
-  negative : HasAllKeys document → HasAllTypes document → ((c : Config) → Spells document c → ⊥)
+  wrong_keys : (HasAllKeys document → ⊥) → IsDocumentFault document WrongKeys
+  wrong_types : HasAllKeys document → (HasAllTypes document → ⊥) → IsDocumentFault document WrongTypes
+  negative_number : HasAllKeys document → HasAllTypes document → ((c : Config) → Spells document c → ⊥)
       → IsDocumentFault document OutOfRange
-  rule : (kind : FaultKind) (c : Config) → HasAllKeys document → HasAllTypes document → Spells document c
+  broken_rule : (kind : FaultKind) (c : Config) → HasAllKeys document → HasAllTypes document → Spells document c
       → IsLeastFault c kind → IsDocumentFault document kind
 
 -- the text is UTF-8 and a TOML document, which is this one
 pub record IsDocument (text : List ℕ) (document : Members) : Type 0 where
-  pub utf8 : IsUtf8 text
-  pub is : parse_document text ≡ Some document
+  pub is_utf8 : IsUtf8 text
+  pub parses_as_document : parse_document text ≡ Some document
 
 -- the text is a document with these values, which meet every rule
 abbrev pub TextReadsAs : List ℕ → Config → Type 0
@@ -40,8 +40,8 @@ TextReadsAs text c = (document : Members) × IsDocument text document × Documen
 
 -- the least kind of fault that a text has
 pub data IsTextFault (text : List ℕ) : FaultKind → Type 0 where
-  unreadable : ((document : Members) → IsDocument text document → ⊥) → IsTextFault text NotToml
-  document : (kind : FaultKind) (document : Members) → IsDocument text document → IsDocumentFault document kind
+  not_a_document : ((document : Members) → IsDocument text document → ⊥) → IsTextFault text NotToml
+  document_fault : (kind : FaultKind) (document : Members) → IsDocument text document → IsDocumentFault document kind
       → IsTextFault text kind
 
 -- memory ran out, or the kind is so

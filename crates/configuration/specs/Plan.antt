@@ -40,27 +40,27 @@ HasClientFrames frames run = (DRIVER_FRAMES ≤ run.1.0) × (1 ≤ run.2) × (ru
 
 -- Runs of client frames, each of a client, and no frame in two of them.
 pub record AreClientExtents (frames : ℕ) (runs : List FrameExtent) : Type 0 where
-  pub owners : All (λ run. IsClientNumber run.0) runs
-  pub within : All (HasClientFrames frames) runs
-  pub apart : AllPairs ExtentsApart runs
+  pub owners_are_clients : All (λ run. IsClientNumber run.0) runs
+  pub frames_are_clients_frames : All (HasClientFrames frames) runs
+  pub extents_share_no_frame : AllPairs ExtentsApart runs
 
 -- A grant that a server can serve where these disks are wanted: of a client 1 to 8, under a number of 63 or less, on
 -- one of the ports 0 to 3 in which a disk is wanted, of one sector at least, all of them below 2^48.
-pub record IsServedGrant (wanted : List Wanted) (row : GrantRow) : Type 0 where
+pub record IsServableGrant (wanted : List Wanted) (row : GrantRow) : Type 0 where
   pub client : IsClientNumber row.client
   pub number : row.number ≤ 63
   pub port : row.port.0 ≤ 3
-  pub disk : (w : Wanted) × (slice_get wanted row.port.0 ≡ Some w) × (w ≢ Nothing)
+  pub disk_is_wanted : (w : Wanted) × (slice_get wanted row.port.0 ≡ Some w) × (w ≢ Nothing)
   pub count_is_positive : 1 ≤ row.count
-  pub sectors : row.first.0 + row.count ≤ 2 ^ 48
+  pub sectors_end_by_2_48 : row.first.0 + row.count ≤ 2 ^ 48
 
 -- A server can serve the plan: at most 64 grants, no two of one client under one number.
-pub record IsPlan (p : PlanView) : Type 0 where
+pub record IsServablePlan (p : PlanView) : Type 0 where
   pub memory : IsUsableMemory p.frames
   pub runs : AreClientExtents p.frames p.owners
-  pub few : length p.grants ≤ MOST_GRANTS
-  pub grants : All (IsServedGrant p.wanted) p.grants
-  pub names : AllPairs DifferInName p.grants
+  pub at_most_64_grants : length p.grants ≤ MOST_GRANTS
+  pub grants : All (IsServableGrant p.wanted) p.grants
+  pub grants_differ_in_name : AllPairs DifferInName p.grants
 
 -- ---- what a configuration stands for
 

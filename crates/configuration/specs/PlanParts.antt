@@ -50,8 +50,9 @@ wanted_disk (Some serial) = Serial (filled_serial serial)
 
 -- in the port with this number the disk is wanted that the port asks for; nothing, if there is no such port
 pub record IsWantedIn (ports : List PortConfig) (number : ℕ) (wanted : Wanted) : Type 0 where
-  pub named : All (λ p. p.number ≡ number → wanted ≡ wanted_disk (option_map string_bytes p.serial)) ports
-  pub other : (ConfiguresPort ports number → ⊥) → wanted ≡ Nothing
+  pub configured_port_wants_disk : All (λ p. p.number ≡ number
+      → wanted ≡ wanted_disk (option_map string_bytes p.serial)) ports
+  pub other_port_wants_nothing : (ConfiguresPort ports number → ⊥) → wanted ≡ Nothing
 
 -- what is wanted in each of the ports 0 to 3
 abbrev pub AreWantedOf : List PortConfig → List Wanted → Type 0

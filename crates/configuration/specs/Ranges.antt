@@ -8,8 +8,8 @@ use Rattle.configuration.specs.declared.GrantConfig.{GrantConfig}
 
 -- 1 to 20 printable ASCII characters, of which the space is one
 pub record IsSerialText (text : List ℕ) : Type 0 where
-  pub some : 1 ≤ length text
-  pub few : length text ≤ 20
+  pub is_not_empty : 1 ≤ length text
+  pub at_most_20 : length text ≤ 20
   pub printable : All (λ c. (32 ≤ c) × (c ≤ 126)) text
 
 pub record IsPortInRange (p : PortConfig) : Type 0 where
@@ -18,11 +18,11 @@ pub record IsPortInRange (p : PortConfig) : Type 0 where
 
 -- The client's frames begin behind the driver's and end within the memory's.
 pub record IsClientInRange (memory_frames : ℕ) (c : ClientConfig) : Type 0 where
-  pub least : 1 ≤ c.id
-  pub most : c.id ≤ CLIENTS
-  pub first_frame : DRIVER_FRAMES ≤ c.first_frame
-  pub some : 1 ≤ c.frames
-  pub within : c.first_frame + c.frames ≤ memory_frames
+  pub id_is_positive : 1 ≤ c.id
+  pub id_is_a_clients : c.id ≤ CLIENTS
+  pub first_frame_is_no_drivers : DRIVER_FRAMES ≤ c.first_frame
+  pub has_a_frame : 1 ≤ c.frames
+  pub frames_end_in_memory : c.first_frame + c.frames ≤ memory_frames
 
 -- what is left of a text after a letter that it may begin with
 abbrev pub without_first_letter : ℕ → List ℕ → List ℕ
@@ -35,16 +35,16 @@ letter_if is_chosen letter = if is_chosen then letter else []
 
 -- a choice of r, w, t and f, in this order, that isn't empty
 pub record IsRightsText (text : List ℕ) : Type 0 where
-  pub some : text ≢ []
-  pub choice : (r : Bool) × (w : Bool) × (t : Bool) × (f : Bool)
+  pub is_not_empty : text ≢ []
+  pub is_choice_of_rwtf : (r : Bool) × (w : Bool) × (t : Bool) × (f : Bool)
       × (text ≡ letter_if r (codes "r") ++ (letter_if w (codes "w") ++ (letter_if t (codes "t") ++ letter_if f (codes
       "f"))))
 
 pub record IsGrantInRange (g : GrantConfig) : Type 0 where
-  pub least : 1 ≤ g.client
-  pub most : g.client ≤ CLIENTS
+  pub client_is_positive : 1 ≤ g.client
+  pub client_is_a_clients : g.client ≤ CLIENTS
   pub number : g.number ≤ 63
   pub port : g.port ≤ 3
-  pub some : 1 ≤ g.count
-  pub within : g.first + g.count ≤ 2 ^ 48
+  pub has_a_sector : 1 ≤ g.count
+  pub sectors_end_by_2_48 : g.first + g.count ≤ 2 ^ 48
   pub rights : IsRightsText (string_bytes g.rights)

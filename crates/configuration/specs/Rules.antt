@@ -12,11 +12,11 @@ use Rattle.configuration.specs.declared.FaultKind.{FaultKind}
 use Rattle.configuration.specs.declared.FaultKind.TheVariants.{NotToml, WrongKeys, WrongTypes, OutOfRange, Duplicate, SharedFrames, UnknownClient, UnknownPort}
 use Rattle.configuration.specs.Ranges.{IsPortInRange, IsClientInRange, IsGrantInRange}
 
-pub record HasNumbersInRange (c : Config) : Type 0 where
+pub record HasOwnNumbersInRange (c : Config) : Type 0 where
   pub frames : (FEWEST_FRAMES ≤ c.frames) × (c.frames ≤ MOST_FRAMES)
   pub slots : (1 ≤ c.slots) × (c.slots ≤ SLOTS)
   pub depth : (1 ≤ c.depth) × (c.depth ≤ SLOTS)
-  pub few_grants : length c.grant.items ≤ MOST_GRANTS
+  pub at_most_64_grants : length c.grant.items ≤ MOST_GRANTS
 
 abbrev pub IsTrimWord : List ℕ → Type 0
 IsTrimWord text = (text ≡ codes "full") ⊎ ((text ≡ codes "weak") ⊎ (text ≡ codes "none"))
@@ -28,7 +28,7 @@ pub record HasPartsInRange (c : Config) : Type 0 where
 
 -- every number and text is in its range, and there are at most 64 grants
 pub record IsInRange (c : Config) : Type 0 where
-  pub numbers : HasNumbersInRange c
+  pub numbers : HasOwnNumbersInRange c
   pub trim : IsTrimWord (string_bytes c.trim)
   pub parts : HasPartsInRange c
 
@@ -43,7 +43,7 @@ abbrev pub DifferInGrant : GrantConfig → GrantConfig → Type 0
 DifferInGrant g h = g.client ≡ h.client → g.number ≢ h.number
 
 -- no port, client, or number of a client's grant stands twice
-pub record NamesOnce (c : Config) : Type 0 where
+pub record HasNoDuplicate (c : Config) : Type 0 where
   pub ports : AllPairs DifferInNumber c.port.items
   pub clients : AllPairs DifferInId c.client.items
   pub grants : AllPairs DifferInGrant c.grant.items
@@ -53,7 +53,7 @@ ClientHasFrame c frame = (c.first_frame ≤ frame) × (frame < c.first_frame + c
 
 -- no frame belongs to both
 pub record FramesApart (c d : ClientConfig) : Type 0 where
-  pub none : (frame : ℕ) → ClientHasFrame c frame → ClientHasFrame d frame → ⊥
+  pub no_common_frame : (frame : ℕ) → ClientHasFrame c frame → ClientHasFrame d frame → ⊥
 
 -- the client, or the port, is there
 unfoldable pub HasClient : List ClientConfig → ℕ → Type 0
@@ -68,7 +68,7 @@ LacksFault c NotToml = Unit {0}
 LacksFault c WrongKeys = Unit {0}
 LacksFault c WrongTypes = Unit {0}
 LacksFault c OutOfRange = IsInRange c
-LacksFault c Duplicate = NamesOnce c
+LacksFault c Duplicate = HasNoDuplicate c
 LacksFault c SharedFrames = AllPairs FramesApart c.client.items
 LacksFault c UnknownClient = All (λ g. HasClient c.client.items g.client) c.grant.items
 LacksFault c UnknownPort = All (λ g. ConfiguresPort c.port.items g.port) c.grant.items

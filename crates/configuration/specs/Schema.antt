@@ -3,6 +3,8 @@ use Rattle.std.specs.Prelude.{◌≡◌, ℕ, Bool, true, false, List, [], ◌�
 use Rattle.toml.specs.Data.{Data, Items, Members, no_items, item, get_member, as_integer, as_bool, as_str, as_array, as_table}
 use Rattle.configuration.specs.TomlTables.{names_of, tables_at}
 use Rattle.configuration.specs.declared.schema.Key.{Key}
+use Rattle.configuration.specs.declared.schema.KeyCheck.{KeyCheck}
+use Rattle.configuration.specs.declared.schema.KeyCheck.TheVariants.{Names, Types}
 use Rattle.configuration.specs.declared.schema.ValueType.{ValueType}
 use Rattle.configuration.specs.declared.schema.ValueType.TheVariants.{Integer, Boolean, Text, Tables}
 
@@ -75,16 +77,22 @@ HasKeys keys members = All (IsPresent members) keys × All (IsKnown keys) (names
 unfoldable pub HasTypes : List KeyRule → Members → Type 0
 HasTypes keys members = All (HasItsType members) keys
 
+-- the table passes this check
+abbrev pub Passes : KeyCheck → List KeyRule → Members → Type 0
+Passes Names = HasKeys
+Passes Types = HasTypes
+
+-- the document passes it, and each table in it
+pub record AllPass (check : KeyCheck) (document : Members) : Type 0 where
+  pub document_passes : Passes check document_keys document
+  pub ports : All (Passes check port_keys) (tables_at (codes "port") document)
+  pub clients : All (Passes check client_keys) (tables_at (codes "client") document)
+  pub grants : All (Passes check grant_keys) (tables_at (codes "grant") document)
+
 -- the document, and each table in it, has its keys and no others
-pub record HasAllKeys (document : Members) : Type 0 where
-  pub itself : HasKeys document_keys document
-  pub ports : All (HasKeys port_keys) (tables_at (codes "port") document)
-  pub clients : All (HasKeys client_keys) (tables_at (codes "client") document)
-  pub grants : All (HasKeys grant_keys) (tables_at (codes "grant") document)
+abbrev pub HasAllKeys : Members → Type 0
+HasAllKeys = AllPass Names
 
 -- each value has its type
-pub record HasAllTypes (document : Members) : Type 0 where
-  pub itself : HasTypes document_keys document
-  pub ports : All (HasTypes port_keys) (tables_at (codes "port") document)
-  pub clients : All (HasTypes client_keys) (tables_at (codes "client") document)
-  pub grants : All (HasTypes grant_keys) (tables_at (codes "grant") document)
+abbrev pub HasAllTypes : Members → Type 0
+HasAllTypes = AllPass Types

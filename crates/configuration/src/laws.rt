@@ -1,9 +1,7 @@
 //! Laws of what is told of a text.
 
 ghost use Rattle.std.specs.Prelude.{◌≡◌, ℕ, List};
-ghost use Rattle.configuration.specs.Document.{TextReadsAs, IsTextFault};
-ghost use Rattle.configuration.specs.declared.Config.{Config};
-ghost use Rattle.configuration.specs.declared.FaultKind.{FaultKind};
+ghost use Rattle.configuration.specs.{Document.{TextReadsAs, IsTextFault}, declared.Config.{Config}, declared.FaultKind.{FaultKind}};
 
 /// A text has one least kind of fault at most.
 pub fn law_fault_kind_is_unique()

@@ -1,13 +1,11 @@
 //! Reading a configuration from its text.
 
 ghost use Rattle.std.specs.Prelude.{◌≡◌, ◌↔◌, IsTrue, IfOk, IfErr, All, codes};
-ghost use Rattle.toml.specs.Errors.{IsBlank};
-ghost use Rattle.toml.specs.View.{table_view};
-ghost use Rattle.configuration.specs.TomlTables.{tables_at};
-ghost use Rattle.configuration.specs.Schema.{HasAllKeys, HasAllTypes, HasKeys, HasTypes, document_keys, port_keys, client_keys, grant_keys};
+ghost use Rattle.toml.specs.{Errors.{IsBlank}, View.{table_view}};
+ghost use Rattle.configuration.specs.{TomlTables.{tables_at}, Schema.{AllPass, HasAllKeys, HasAllTypes, Passes, document_keys, port_keys, client_keys, grant_keys}};
 
 use super::read::ReadFault;
-use super::schema::{Key, ValueType, tables_have_keys, tables_have_types};
+use super::schema::{Key, KeyCheck, ValueType};
 use super::{Config, ConfigFault, FaultKind};
 use std::alloc::Global;
 use toml::Table;
@@ -124,72 +122,38 @@ const GRANT_KEYS: [Key; 6] = [
     },
 ];
 
-fn document_has_keys(table: &Table) -> bool
-    ensures { IsTrue result ↔ HasKeys document_keys (table_view table.now) }
+fn document_passes(check: KeyCheck, table: &Table) -> bool
+    ensures { IsTrue result ↔ Passes check document_keys (table_view table.now) }
 {
-    Key::are_keys_of(&DOCUMENT_KEYS, table)
+    check.passes(&DOCUMENT_KEYS, table)
 }
 
-fn ports_have_keys(table: &Table) -> bool
-    ensures { IsTrue result ↔ All (HasKeys port_keys) (tables_at (codes "port") (table_view table.now)) }
+fn ports_pass(check: KeyCheck, table: &Table) -> bool
+    ensures { IsTrue result ↔ All (Passes check port_keys) (tables_at (codes "port") (table_view table.now)) }
 {
-    tables_have_keys(&PORT_KEYS, table, "port")
+    check.tables_pass(&PORT_KEYS, table, "port")
 }
 
-fn clients_have_keys(table: &Table) -> bool
-    ensures { IsTrue result ↔ All (HasKeys client_keys) (tables_at (codes "client") (table_view table.now)) }
+fn clients_pass(check: KeyCheck, table: &Table) -> bool
+    ensures { IsTrue result ↔ All (Passes check client_keys) (tables_at (codes "client") (table_view table.now)) }
 {
-    tables_have_keys(&CLIENT_KEYS, table, "client")
+    check.tables_pass(&CLIENT_KEYS, table, "client")
 }
 
-fn grants_have_keys(table: &Table) -> bool
-    ensures { IsTrue result ↔ All (HasKeys grant_keys) (tables_at (codes "grant") (table_view table.now)) }
+fn grants_pass(check: KeyCheck, table: &Table) -> bool
+    ensures { IsTrue result ↔ All (Passes check grant_keys) (tables_at (codes "grant") (table_view table.now)) }
 {
-    tables_have_keys(&GRANT_KEYS, table, "grant")
+    check.tables_pass(&GRANT_KEYS, table, "grant")
 }
 
-/// Whether the document and each table in it have the required keys and no others.
-fn has_all_keys(table: &Table) -> bool
-    ensures { IsTrue result ↔ HasAllKeys (table_view table.now) }
+/// Whether the document and each table in it pass a check.
+fn all_pass(check: KeyCheck, table: &Table) -> bool
+    ensures { IsTrue result ↔ AllPass check (table_view table.now) }
 {
-    document_has_keys(table)
-        && ports_have_keys(table)
-        && clients_have_keys(table)
-        && grants_have_keys(table)
-}
-
-fn document_has_types(table: &Table) -> bool
-    ensures { IsTrue result ↔ HasTypes document_keys (table_view table.now) }
-{
-    Key::are_types_of(&DOCUMENT_KEYS, table)
-}
-
-fn ports_have_types(table: &Table) -> bool
-    ensures { IsTrue result ↔ All (HasTypes port_keys) (tables_at (codes "port") (table_view table.now)) }
-{
-    tables_have_types(&PORT_KEYS, table, "port")
-}
-
-fn clients_have_types(table: &Table) -> bool
-    ensures { IsTrue result ↔ All (HasTypes client_keys) (tables_at (codes "client") (table_view table.now)) }
-{
-    tables_have_types(&CLIENT_KEYS, table, "client")
-}
-
-fn grants_have_types(table: &Table) -> bool
-    ensures { IsTrue result ↔ All (HasTypes grant_keys) (tables_at (codes "grant") (table_view table.now)) }
-{
-    tables_have_types(&GRANT_KEYS, table, "grant")
-}
-
-/// Whether each value has its type.
-fn has_all_types(table: &Table) -> bool
-    ensures { IsTrue result ↔ HasAllTypes (table_view table.now) }
-{
-    document_has_types(table)
-        && ports_have_types(table)
-        && clients_have_types(table)
-        && grants_have_types(table)
+    document_passes(check, table)
+        && ports_pass(check, table)
+        && clients_pass(check, table)
+        && grants_pass(check, table)
 }
 
 impl Config {
@@ -202,10 +166,10 @@ impl Config {
         ensures memory { result ≡ Err ConfigFault.NoMemory
             → HasAllKeys (table_view table.now) × HasAllTypes (table_view table.now) }
     {
-        if !has_all_keys(table) {
+        if !all_pass(KeyCheck::Names, table) {
             return Err(ConfigFault::Refused(FaultKind::WrongKeys));
         }
-        if !has_all_types(table) {
+        if !all_pass(KeyCheck::Types, table) {
             return Err(ConfigFault::Refused(FaultKind::WrongTypes));
         }
         let config = match Config::from_table(alloc, table) {
@@ -227,7 +191,7 @@ impl Config {
         ensures refused { IfErr result (IsNoMemoryOr (IsTextFault text.now)) }
 
         // When memory runs out is no matter of the text; but a text with white space and comments alone takes none.
-        ensures memory { result ≡ Err ConfigFault.NoMemory → IsBlank text.now → ⊥ }
+        ensures blank_wants_no_memory { result ≡ Err ConfigFault.NoMemory → IsBlank text.now → ⊥ }
     {
         match toml::table_from_slice(alloc, text) {
             Ok(table) => Config::from_document(alloc, &table),

@@ -4,9 +4,7 @@
 //! `Grants::from_rows` as it is.
 ghost use Rattle.std.specs.Prelude.{◌≡◌, ◌≤◌, OnOk, IfOk, IfErr, All, AllPairs, length, map, option_map, string_bytes};
 ghost use Rattle.ata_types.specs.declared.limits.TheConstants.{CLIENTS, MOST_GRANTS};
-ghost use Rattle.configuration.specs.Ranges.{IsClientInRange, IsGrantInRange, IsPortInRange, IsSerialText};
-ghost use Rattle.configuration.specs.Rules.{DifferInNumber};
-ghost use Rattle.configuration.specs.PlanParts.{owner_extent, rights_of, row_of, filled_serial, wanted_disk, AreWantedOf, IsWantedIn};
+ghost use Rattle.configuration.specs.{Ranges.{IsClientInRange, IsGrantInRange, IsPortInRange, IsSerialText}, Rules.{DifferInNumber}, PlanParts.{owner_extent, rights_of, row_of, filled_serial, wanted_disk, AreWantedOf, IsWantedIn}};
 
 use crate::{ClientConfig, Config, FaultKind, GrantConfig, PortConfig};
 use arrayvec::ArrayVec;
@@ -30,27 +28,26 @@ pub struct Plan {
 }
 
 impl Model for Plan {
-    ghost use Rattle.configuration.specs.Plan.{PlanView, plan_view_of, IsPlan};
+    ghost use Rattle.configuration.specs.Plan.{PlanView, plan_view_of, IsServablePlan};
 
     ghost Value = { PlanView };
 
     ghost view = { λ p. plan_view_of p.frames p.owners.items p.grants.items p.wanted };
 
-    ghost invariant = { λ p. IsPlan (plan_view_of p.frames p.owners.items p.grants.items p.wanted) };
+    ghost invariant = { λ p. IsServablePlan (plan_view_of p.frames p.owners.items p.grants.items p.wanted) };
 }
 
 impl Plan {
-    ghost use Rattle.configuration.specs.Rules.{LacksEveryFault, IsLeastFault};
-    ghost use Rattle.configuration.specs.Plan.{IsPlan, IsPlanOf};
+    ghost use Rattle.configuration.specs.{Rules.{LacksEveryFault, IsLeastFault}, Plan.{IsServablePlan, IsPlanOf}};
 
     /// The plan of a configuration: a run of frames for each client and a row for each grant, in their order, and of
     /// each port that it names the disk with the serial number that it asks for, or any disk. A configuration that
     /// breaks a rule has no plan: the least of its kinds of fault is told. No memory is taken.
     #[inline(never)]
     pub fn of(config: &Config) -> Result<Plan, FaultKind>
-        ensures sound { OnOk result (LacksEveryFault config.now) }
-        ensures made { IfOk result (IsPlanOf config.now) }
-        ensures fits { IfOk result IsPlan }
+        ensures config_has_no_fault { OnOk result (LacksEveryFault config.now) }
+        ensures is_plan_of { IfOk result (IsPlanOf config.now) }
+        ensures is_servable { IfOk result IsServablePlan }
         ensures refused { IfErr result (IsLeastFault config.now) }
     {
         config.check()?;
@@ -72,7 +69,7 @@ impl Plan {
     /// The runs of frames: owner, first frame and number of frames.
     pub fn owners(&self) -> &[(ClientId, Frame, u16)]
         ensures owners { result.now ≡ self.now.owners }
-        ensures fits { IsPlan self.now }
+        ensures is_servable { IsServablePlan self.now }
     {
         self.owners.as_slice()
     }
@@ -80,7 +77,7 @@ impl Plan {
     /// The grants.
     pub fn grants(&self) -> &[GrantRow]
         ensures grants { result.now ≡ self.now.grants }
-        ensures fits { IsPlan self.now }
+        ensures is_servable { IsServablePlan self.now }
     {
         self.grants.as_slice()
     }
@@ -88,7 +85,7 @@ impl Plan {
     /// The disks that are wanted, by port.
     pub fn wanted(&self) -> &[Wanted; PORTS]
         ensures wanted { result.now ≡ self.now.wanted }
-        ensures fits { IsPlan self.now }
+        ensures fits { IsServablePlan self.now }
     {
         &self.wanted
     }

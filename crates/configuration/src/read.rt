@@ -1,9 +1,7 @@
 //! The values of a configuration, read from the tables of a document.
 
-ghost use Rattle.std.specs.Prelude.{◌≡◌, ℕ, Bool, List, Option, Some, None, IfOk, option_map, string_bytes};
-ghost use Rattle.std.specs.List.{AllZip};
-ghost use Rattle.toml.specs.Data.{Members};
-ghost use Rattle.toml.specs.View.{table_view, items_view};
+ghost use Rattle.std.specs.{Prelude.{◌≡◌, ℕ, Bool, List, Option, Some, None, IfOk, option_map, string_bytes}, List.{AllZip}};
+ghost use Rattle.toml.specs.{Data.{Members}, View.{table_view, items_view}};
 ghost use Rattle.configuration.specs.TomlTables.{HasNumber, HasText, IsSetOrAbsent, HasTextOrIsAbsent, tables_of};
 
 use super::table::{items_at, value_at};

@@ -1,8 +1,7 @@
 //! The rules that the values of a configuration have to meet.
 
 ghost use Rattle.std.specs.Prelude.{◌≡◌, ◌↔◌, IsTrue, IfErr, OnOk, All, AllPairs, string_bytes};
-ghost use Rattle.configuration.specs.Ranges.{IsClientInRange, IsGrantInRange, IsPortInRange, IsRightsText, IsSerialText, without_first_letter};
-ghost use Rattle.configuration.specs.Rules.{FramesApart, DifferInId, DifferInGrant, DifferInNumber, HasClient, ConfiguresPort};
+ghost use Rattle.configuration.specs.{Ranges.{IsClientInRange, IsGrantInRange, IsPortInRange, IsRightsText, IsSerialText, without_first_letter}, Rules.{FramesApart, DifferInId, DifferInGrant, DifferInNumber, HasClient, ConfiguresPort}};
 
 use super::{ClientConfig, Config, FaultKind, GrantConfig, PortConfig};
 use ata_types::{CLIENTS, DRIVER_FRAMES, FEWEST_FRAMES, MOST_FRAMES, MOST_GRANTS, PORTS, SLOTS};
@@ -213,10 +212,10 @@ fn has_client(clients: &[ClientConfig], id: u64) -> bool
 }
 
 impl Config {
-    ghost use Rattle.configuration.specs.Rules.{IsInRange, HasNumbersInRange, HasPartsInRange, IsLeastFault, LacksEveryFault, IsTrimWord, NamesOnce};
+    ghost use Rattle.configuration.specs.Rules.{IsInRange, HasOwnNumbersInRange, HasPartsInRange, IsLeastFault, LacksEveryFault, IsTrimWord, HasNoDuplicate};
 
     fn has_numbers_in_range(&self) -> bool
-        ensures { IsTrue result ↔ HasNumbersInRange self.now }
+        ensures { IsTrue result ↔ HasOwnNumbersInRange self.now }
     {
         (u64::from(FEWEST_FRAMES)..=u64::from(MOST_FRAMES)).contains(&self.frames)
             && (1..=MOST_SLOTS).contains(&self.slots)
@@ -246,7 +245,7 @@ impl Config {
     }
 
     fn names_once(&self) -> bool
-        ensures { IsTrue result ↔ NamesOnce self.now }
+        ensures { IsTrue result ↔ HasNoDuplicate self.now }
     {
         all_apart::<PortConfig, PortNumbers>(self.port.as_slice())
             && all_apart::<ClientConfig, ClientIds>(self.client.as_slice())
@@ -274,8 +273,8 @@ impl Config {
     /// Says whether these values may configure a server, and else which kind of fault they have: of the kinds 4 to 8
     /// the least that applies (this project's own). What `parse` gives has none.
     pub fn check(&self) -> Result<(), FaultKind>
-        ensures sound { OnOk result (LacksEveryFault self.now) }
-        ensures broken { IfErr result (IsLeastFault self.now) }
+        ensures lacks_every_fault { OnOk result (LacksEveryFault self.now) }
+        ensures least_fault_is_told { IfErr result (IsLeastFault self.now) }
     {
         if !self.is_in_range() {
             return Err(FaultKind::OutOfRange);

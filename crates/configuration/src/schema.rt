@@ -1,11 +1,8 @@
 //! The keys that a table may have, and the types of their values.
 
-ghost use Rattle.std.specs.Prelude.{◌≡◌, ◌↔◌, IsTrue, IsSome, IfSome, All, Any, map, string_bytes};
-ghost use Rattle.std.specs.BTreeMap.{keys};
-ghost use Rattle.toml.specs.Data.{as_table};
-ghost use Rattle.toml.specs.View.{view, table_view};
-ghost use Rattle.configuration.specs.TomlTables.{tables_at};
-ghost use Rattle.configuration.specs.Schema.{HasKeys, HasTypes, key_rule_of};
+ghost use Rattle.std.specs.{Prelude.{◌≡◌, ◌↔◌, IsTrue, IsSome, IfSome, All, Any, map, string_bytes}, BTreeMap.{keys}};
+ghost use Rattle.toml.specs.{Data.{as_table}, View.{view, table_view}};
+ghost use Rattle.configuration.specs.{TomlTables.{tables_at}, Schema.{HasKeys, HasTypes, Passes, key_rule_of}};
 
 use super::table::{items_at, value_at};
 use toml::{Table, Value};
@@ -118,56 +115,55 @@ impl Key {
     }
 
     /// Whether the value of each key is of the key's type.
-    pub fn are_types_of(keys: &[Key], table: &Table) -> bool
+    pub fn have_types_in(keys: &[Key], table: &Table) -> bool
         ensures { IsTrue result ↔ HasTypes (map key_rule_of keys.now) (table_view table.now) }
     {
         Key::have_their_types(keys, table)
     }
 }
 
-/// Whether a value, if it is a table, has its keys.
-fn item_has_keys(keys: &[Key], item: &Value) -> bool
-    ensures { IsTrue result ↔ IfSome (as_table (view item.now)) (HasKeys (map key_rule_of keys.now)) }
-{
-    match item.as_table() {
-        Some(table) => Key::are_keys_of(keys, table),
-        None => true,
+/// What of the keys of a table is checked.
+#[derive(Clone, Copy, Debug, PartialEq, Eq)]
+pub enum KeyCheck {
+    /// That it has the keys that it has to have, and none that isn't listed.
+    Names,
+    /// That the value of each key is of the key's type.
+    Types,
+}
+
+impl KeyCheck {
+    /// Whether a table passes it.
+    pub fn passes(self, keys: &[Key], table: &Table) -> bool
+        ensures { IsTrue result ↔ Passes self (map key_rule_of keys.now) (table_view table.now) }
+    {
+        match self {
+            KeyCheck::Names => Key::are_keys_of(keys, table),
+            KeyCheck::Types => Key::have_types_in(keys, table),
+        }
     }
-}
 
-fn item_has_types(keys: &[Key], item: &Value) -> bool
-    ensures { IsTrue result ↔ IfSome (as_table (view item.now)) (HasTypes (map key_rule_of keys.now)) }
-{
-    match item.as_table() {
-        Some(table) => Key::are_types_of(keys, table),
-        None => true,
+    /// Whether a value passes it, if it is a table.
+    fn item_passes(self, keys: &[Key], item: &Value) -> bool
+        ensures { IsTrue result ↔ IfSome (as_table (view item.now)) (Passes self (map key_rule_of keys.now)) }
+    {
+        match item.as_table() {
+            Some(table) => self.passes(keys, table),
+            None => true,
+        }
     }
-}
 
-fn values_have_keys(keys: &[Key], items: &[Value]) -> bool
-    ensures { IsTrue result
-        ↔ All (λ item. IfSome (as_table (view item)) (HasKeys (map key_rule_of keys.now))) items.now }
-{
-    items.iter().all(|item| item_has_keys(keys, item))
-}
+    fn items_pass(self, keys: &[Key], items: &[Value]) -> bool
+        ensures { IsTrue result
+            ↔ All (λ item. IfSome (as_table (view item)) (Passes self (map key_rule_of keys.now))) items.now }
+    {
+        items.iter().all(|item| self.item_passes(keys, item))
+    }
 
-fn values_have_types(keys: &[Key], items: &[Value]) -> bool
-    ensures { IsTrue result ↔ All (λ item. IfSome (as_table (view item)) (HasTypes (map key_rule_of keys.now)))
-        items.now }
-{
-    items.iter().all(|item| item_has_types(keys, item))
-}
-
-/// Whether each table in the array at a key has its keys.
-pub fn tables_have_keys(keys: &[Key], table: &Table, name: &str) -> bool
-    ensures { IsTrue result ↔ All (HasKeys (map key_rule_of keys.now)) (tables_at name.now (table_view table.now)) }
-{
-    values_have_keys(keys, items_at(table, name))
-}
-
-/// Whether in each table in the array at a key the value of each key is of the key's type.
-pub fn tables_have_types(keys: &[Key], table: &Table, name: &str) -> bool
-    ensures { IsTrue result ↔ All (HasTypes (map key_rule_of keys.now)) (tables_at name.now (table_view table.now)) }
-{
-    values_have_types(keys, items_at(table, name))
+    /// Whether each table in the array at a key passes it.
+    pub fn tables_pass(self, keys: &[Key], table: &Table, name: &str) -> bool
+        ensures { IsTrue result
+            ↔ All (Passes self (map key_rule_of keys.now)) (tables_at name.now (table_view table.now)) }
+    {
+        self.items_pass(keys, items_at(table, name))
+    }
 }

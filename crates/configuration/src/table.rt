@@ -1,8 +1,7 @@
 //! What stands in the tables of a document.
 
 ghost use Rattle.std.specs.Prelude.{◌≡◌, option_map};
-ghost use Rattle.toml.specs.Data.{get_member};
-ghost use Rattle.toml.specs.View.{view, table_view, items_view};
+ghost use Rattle.toml.specs.{Data.{get_member}, View.{view, table_view, items_view}};
 ghost use Rattle.configuration.specs.TomlTables.{array_items};
 
 use toml::{Table, Value};

@@ -7,7 +7,7 @@ use Rattle.adapter.specs.Memory.{changed}
 use Rattle.adapter.specs.Steps.{snapshot_of_bytes}
 use Rattle.device_model.proofs.Absurd.{some-none, some_one, true-false}
 use Rattle.device_model.proofs.Places.{changed_same, changed_other}
-use Rattle.device_model.specs.TakenBlocks.{HasBlock, brought}
+use Rattle.device_model.specs.TakenBlocks.{BlockIsOfTakenTrim, brought}
 use Rattle.device_model.specs.declared.port.TakenCommand.{TakenCommand}
 use Rattle.device_model.specs.declared.port.CommandKind.TheVariants.{Trim}
 
@@ -23,18 +23,18 @@ at_set taken slot new k t is =
     ]
 
 -- no command is taken any more
-pub block_gone : (taken : ℕ → Option TakenCommand) (block : List ℕ) → ((k : ℕ) → taken k ≡ None) → HasBlock taken block
+pub block_gone : (taken : ℕ → Option TakenCommand) (block : List ℕ) → ((k : ℕ) → taken k ≡ None) → BlockIsOfTakenTrim taken block
 block_gone taken block none = record {
   trim_is_alone = λ slot other t u here there trim. some-none here (none slot);
   block_is = λ slot t b here brought. some-none here (none slot);
   first_in_range = λ slot t here. some-none here (none slot);
 }
 
-module _ (taken : ℕ → Option TakenCommand) (block : List ℕ) (slot : ℕ) (has : HasBlock taken block) where
+module _ (taken : ℕ → Option TakenCommand) (block : List ℕ) (slot : ℕ) (has : BlockIsOfTakenTrim taken block) where
   -- a command is taken beside those that are
   pub block_put : (command : TakenCommand) → command.block ≡ None → command.first < 2 ^ 48 →
       ((other : ℕ) (u : TakenCommand) → other ≢ slot → taken other ≡ Some u → (command.command_kind ≡ Trim → ⊥) × (u.command_kind ≡ Trim → ⊥)) →
-      HasBlock (changed taken slot (Some command)) block
+      BlockIsOfTakenTrim (changed taken slot (Some command)) block
   block_put command new low beside = record {
     trim_is_alone = λ a b t u here there trim.
         elim (at_set taken slot (Some command) a t here) [
@@ -64,7 +64,7 @@ module _ (taken : ℕ → Option TakenCommand) (block : List ℕ) (slot : ℕ) (
   }
 
   -- one is taken no more
-  pub block_removed : HasBlock (changed taken slot None) block
+  pub block_removed : BlockIsOfTakenTrim (changed taken slot None) block
   block_removed = record {
     trim_is_alone = λ a b t u here there trim.
         elim (at_set taken slot None a t here) [
@@ -109,7 +109,7 @@ module _ (taken : ℕ → Option TakenCommand) (block : List ℕ) (slot : ℕ) (
         ]
 
     -- a command goes on, with the block that it had
-    pub block_on : new.block ≡ old.block → HasBlock (changed taken slot (Some new)) block
+    pub block_on : new.block ≡ old.block → BlockIsOfTakenTrim (changed taken slot (Some new)) block
     block_on same = record {
       trim_is_alone = goes_alone;
       first_in_range = goes_low;
@@ -124,7 +124,7 @@ module _ (taken : ℕ → Option TakenCommand) (block : List ℕ) (slot : ℕ) (
     }
 
     -- a trim has brought a block
-    pub block_moved : (bytes : List ℕ) → old.command_kind ≡ Trim → new.block ≡ Some (snapshot_of_bytes bytes) → HasBlock (changed taken slot (Some new)) bytes
+    pub block_moved : (bytes : List ℕ) → old.command_kind ≡ Trim → new.block ≡ Some (snapshot_of_bytes bytes) → BlockIsOfTakenTrim (changed taken slot (Some new)) bytes
     block_moved bytes trim is_new = record {
       trim_is_alone = goes_alone;
       first_in_range = goes_low;
@@ -139,7 +139,7 @@ module _ (taken : ℕ → Option TakenCommand) (block : List ℕ) (slot : ℕ) (
     }
 
 -- it is the block of a command that has brought one
-pub block_is : (taken : ℕ → Option TakenCommand) (block : List ℕ) (slot : ℕ) (t : TakenCommand) → HasBlock taken block → taken slot ≡ Some t → is_some t.block ≡ true →
+pub block_is : (taken : ℕ → Option TakenCommand) (block : List ℕ) (slot : ℕ) (t : TakenCommand) → BlockIsOfTakenTrim taken block → taken slot ≡ Some t → is_some t.block ≡ true →
     block ≡ brought t.block
 block_is taken block slot t has held some = by t.block refl
   where

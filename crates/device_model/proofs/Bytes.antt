@@ -57,12 +57,12 @@ put_length xs bytes at small = simp (length-append, length-take, length-drop) (o
 -- a device whose memory is a list, after bytes were put there
 pub memory_put : (d : Device) (xs bytes new : List ℕ) (at : ℕ) → at + length bytes ≤ length xs →
     new ≡ take at xs ++ (bytes ++ drop (at + length bytes) xs) →
-    record d { size = length new; memory = λ a. slice_index new a } ≡ record d { size = length xs; memory = patched (λ a. slice_index xs a) at bytes }
+    record d { memory_size = length new; memory = λ a. slice_index new a } ≡ record d { memory_size = length xs; memory = patched (λ a. slice_index xs a) at bytes }
 memory_put d xs bytes new at small e =
     let sizes : length new ≡ length xs = ap length e ∙ put_length xs bytes at small in
     let reads : (λ (a : ℕ). slice_index new a) ≡ patched (λ a. slice_index xs a) at bytes =
     fun_ext (λ a. ap (λ (l : List ℕ). slice_index l a) e ∙ put_reads xs bytes at a small) in
-    λ i. record d { size = sizes i; memory = reads i }
+    λ i. record d { memory_size = sizes i; memory = reads i }
 
 pub list_load : (xs out : List ℕ) (at n : ℕ) → at + n ≤ length xs → out ≡ take n (drop at xs) →
     out ≡ bytes_at (λ a. slice_index xs a) at (length out)

@@ -4,10 +4,10 @@ use Rattle.std.specs.Prelude.{Contains, IfSome, if◌then◌else◌, is_some, na
 use Rattle.std.proofs.lemmas.Bool.{cases_order}
 use Rattle.std.proofs.lemmas.Bool.Decides.{eqb_tells}
 use Rattle.std.proofs.lemmas.Option.{same_Some}
-use Rattle.sector_store.specs.Stores.{FailsOn, replaced}
+use Rattle.sector_store.specs.Stores.{HasOneMoreFailure, with_sector}
 use Rattle.sector_store.specs.declared.store.Failures.{Failures}
 use Rattle.device_model.proofs.Absurd.{fun_ext, some-none}
-use Rattle.device_model.specs.WriteCaches.{HasRoomForOld, RollsBack, WritesFail, sector_told}
+use Rattle.device_model.specs.WriteCaches.{HasRoomForOldSectors, RollsBack, WritesFail, sector_told}
 use Rattle.device_model.specs.declared.cache.Cache.{Cache}
 use Rattle.device_model.specs.OldSectors.{AreRising, AddsOldSector, old_number_at, old_bytes_of, with_old_bytes}
 use Rattle.device_model.specs.declared.old_sectors.OldSector.{OldSector}
@@ -42,10 +42,10 @@ module _ (olds now : List OldSector) (k : ℕ) (bytes : List ℕ) (f : ℕ → L
         | inr there ↦ kept_there g q there.1 (same q there.1)
       ])
 
-written_other : (f : ℕ → List ℕ) (k q : ℕ) (bytes : List ℕ) → q ≢ k → replaced f k bytes q ≡ f q
+written_other : (f : ℕ → List ℕ) (k q : ℕ) (bytes : List ℕ) → q ≢ k → with_sector f k bytes q ≡ f q
 written_other f k q bytes ne = ap (λ b. if b then bytes else f q) (apart q k ne)
 
-pub written_here : (f : ℕ → List ℕ) (k : ℕ) (bytes : List ℕ) → replaced f k bytes k ≡ bytes
+pub written_here : (f : ℕ → List ℕ) (k : ℕ) (bytes : List ℕ) → with_sector f k bytes k ≡ bytes
 written_here f k bytes = ap (λ b. if b then bytes else f k) (same_one k)
 
 -- the old bytes of a sector were kept
@@ -56,32 +56,32 @@ kept_lasts olds now k bytes (Some f) none keeps is = ap Some (kept_with olds now
 
 -- and then it was written
 pub kept_written : (olds now : List OldSector) (k : ℕ) (bytes : List ℕ) (told : Option (ℕ → List ℕ)) → old_bytes_of olds k ≡ None → AddsOldSector olds now k bytes →
-    IfSome told (λ f. bytes ≡ f k) → (put : List ℕ) → option_map (with_old_bytes now) (option_map (λ f. replaced f k put) told) ≡ option_map (with_old_bytes olds) told
+    IfSome told (λ f. bytes ≡ f k) → (put : List ℕ) → option_map (with_old_bytes now) (option_map (λ f. with_sector f k put) told) ≡ option_map (with_old_bytes olds) told
 kept_written olds now k bytes None none keeps is put = refl
-kept_written olds now k bytes (Some f) none keeps is put = ap Some (kept_with olds now k bytes f none keeps is (replaced f k put) (λ q ne. written_other f k q put ne))
+kept_written olds now k bytes (Some f) none keeps is put = ap Some (kept_with olds now k bytes f none keeps is (with_sector f k put) (λ q ne. written_other f k q put ne))
 
 -- a sector was written that has old bytes
-had_written : (olds : List OldSector) (k : ℕ) (f : ℕ → List ℕ) (put : List ℕ) → is_some (old_bytes_of olds k) ≡ true → with_old_bytes olds (replaced f k put) ≡ with_old_bytes olds f
+had_written : (olds : List OldSector) (k : ℕ) (f : ℕ → List ℕ) (put : List ℕ) → is_some (old_bytes_of olds k) ≡ true → with_old_bytes olds (with_sector f k put) ≡ with_old_bytes olds f
 had_written olds k f put has =
     fun_ext (λ q.
     elim (eqb_tells q k) [
-      | inl here ↦ subst (λ n. with_old_bytes olds (replaced f k put) n ≡ with_old_bytes olds f n) (sym here.1) (by (old_bytes_of olds k) has)
+      | inl here ↦ subst (λ n. with_old_bytes olds (with_sector f k put) n ≡ with_old_bytes olds f n) (sym here.1) (by (old_bytes_of olds k) has)
       | inr there ↦ ap (λ (x : List ℕ). unwrap_or (old_bytes_of olds q) x) (written_other f k q put there.1)
     ])
   where
-    by : (x : Option (List ℕ)) → is_some x ≡ true → unwrap_or x (replaced f k put k) ≡ unwrap_or x (f k)
+    by : (x : Option (List ℕ)) → is_some x ≡ true → unwrap_or x (with_sector f k put k) ≡ unwrap_or x (f k)
     by None e = absurd (let never : false ≡ true = e in cc)
     by (Some b) e = refl
 
 pub had_lasts : (olds : List OldSector) (k : ℕ) (told : Option (ℕ → List ℕ)) → is_some (old_bytes_of olds k) ≡ true → (put : List ℕ) →
-    option_map (with_old_bytes olds) (option_map (λ f. replaced f k put) told) ≡ option_map (with_old_bytes olds) told
+    option_map (with_old_bytes olds) (option_map (λ f. with_sector f k put) told) ≡ option_map (with_old_bytes olds) told
 had_lasts olds k None has put = refl
 had_lasts olds k (Some f) has put = ap Some (had_written olds k f put has)
 
 -- whether the sector was written then or not
 pub put_lasts : (olds now : List OldSector) (k : ℕ) (put : List ℕ) (told then_told : Option (ℕ → List ℕ)) → option_map (with_old_bytes now) told ≡ option_map (with_old_bytes olds) told →
-    option_map (with_old_bytes now) (option_map (λ f. replaced f k put) told) ≡ option_map (with_old_bytes olds) told → (done : Bool) →
-    (done ≡ true → then_told ≡ option_map (λ f. replaced f k put) told) → (done ≡ false → then_told ≡ told) →
+    option_map (with_old_bytes now) (option_map (λ f. with_sector f k put) told) ≡ option_map (with_old_bytes olds) told → (done : Bool) →
+    (done ≡ true → then_told ≡ option_map (λ f. with_sector f k put) told) → (done ≡ false → then_told ≡ told) →
     option_map (with_old_bytes now) then_told ≡ option_map (with_old_bytes olds) told
 put_lasts olds now k put told then_told lasts written true puts held = ap (option_map (with_old_bytes now)) (puts refl) ∙ written
 put_lasts olds now k put told then_told lasts written false puts held = ap (option_map (with_old_bytes now)) (held refl) ∙ lasts
@@ -91,8 +91,8 @@ put_lasts olds now k put told then_told lasts written false puts held = ap (opti
 -- A store was told to write an old sector back. It did, or that call failed; or there is no such sector.
 abbrev pub WritesOne : {S : Type 0} → (S → ℕ) → (S → Option (ℕ → List ℕ)) → (S → Option Failures) → OldSector → S → S → Type 0
 WritesOne size told failures old was now = (size now ≡ size was)
-    × (((old.sector < size was) × (told now ≡ option_map (λ f. replaced f old.sector old.bytes) (told was)) × (failures now ≡ failures was))
-    ⊎ (((old.sector < size was) × (told now ≡ told was) × FailsOn true old.sector (failures was) (failures now))
+    × (((old.sector < size was) × (told now ≡ option_map (λ f. with_sector f old.sector old.bytes) (told was)) × (failures now ≡ failures was))
+    ⊎ (((old.sector < size was) × (told now ≡ told was) × HasOneMoreFailure true old.sector (failures was) (failures now))
     ⊎ ((size was ≤ old.sector) × (told now ≡ told was) × (failures now ≡ failures was))))
 
 -- these old sectors were written back one after another, in their order
@@ -156,7 +156,7 @@ is_there (s ∷ l) k =
 -- ---- a sector after them all
 
 -- the same sector of a store that has replaced another one
-told_other : (told : Option (ℕ → List ℕ)) (s k : ℕ) (bytes : List ℕ) → k ≢ s → sector_told (option_map (λ f. replaced f s bytes) told) k ≡ sector_told told k
+told_other : (told : Option (ℕ → List ℕ)) (s k : ℕ) (bytes : List ℕ) → k ≢ s → sector_told (option_map (λ f. with_sector f s bytes) told) k ≡ sector_told told k
 told_other None s k bytes ne = refl
 told_other (Some f) s k bytes ne = ap Some (written_other f s k bytes ne)
 
@@ -174,16 +174,16 @@ told_none olds (Some f) k none = ap (λ (x : Option (List ℕ)). Some (unwrap_or
 
 -- one that was put back has its old bytes
 put_here : (o : OldSector) (olds : List OldSector) (told : Option (ℕ → List ℕ)) → old_bytes_of olds o.sector ≡ None →
-    sector_told (option_map (with_old_bytes olds) (option_map (λ f. replaced f o.sector o.bytes) told)) o.sector ≡ sector_told (option_map (with_old_bytes (o ∷ olds)) told) o.sector
+    sector_told (option_map (with_old_bytes olds) (option_map (λ f. with_sector f o.sector o.bytes) told)) o.sector ≡ sector_told (option_map (with_old_bytes (o ∷ olds)) told) o.sector
 put_here o olds None none = refl
 put_here o olds (Some f) none =
-    ap (λ (x : Option (List ℕ)). Some (unwrap_or x (replaced f o.sector o.bytes o.sector))) none
+    ap (λ (x : Option (List ℕ)). Some (unwrap_or x (with_sector f o.sector o.bytes o.sector))) none
     ∙ (ap Some (written_here f o.sector o.bytes)
     ∙ sym (ap (λ b. Some (unwrap_or (if b then Some o.bytes else old_bytes_of olds o.sector) (f o.sector))) (same_one o.sector)))
 
 -- and another one is as if the store hadn't replaced that
 put_there : (o : OldSector) (olds : List OldSector) (told : Option (ℕ → List ℕ)) (k : ℕ) → k ≢ o.sector →
-    sector_told (option_map (with_old_bytes olds) (option_map (λ f. replaced f o.sector o.bytes) told)) k ≡ sector_told (option_map (with_old_bytes (o ∷ olds)) told) k
+    sector_told (option_map (with_old_bytes olds) (option_map (λ f. with_sector f o.sector o.bytes) told)) k ≡ sector_told (option_map (with_old_bytes (o ∷ olds)) told) k
 put_there o olds None k ne = refl
 put_there o olds (Some f) k ne =
     ap (λ (x : List ℕ). Some (unwrap_or (old_bytes_of olds k) x)) (written_other f o.sector k o.bytes ne) ∙ after_other o olds (Some f) k ne
@@ -213,7 +213,7 @@ module _ {S : Type 0} (size : S → ℕ) (told : S → Option (ℕ → List ℕ)
     few_then : 1 ≤ length rested.failed → length rested.failed + low ≤ size was
     few_then some = let up = rested.few some in omega (arith, up, first, same)
 
-    turned_put : o.sector < size was → told mid ≡ option_map (λ f. replaced f o.sector o.bytes) (told was) → failures mid ≡ failures was → Turned low (o ∷ olds) was now
+    turned_put : o.sector < size was → told mid ≡ option_map (λ f. with_sector f o.sector o.bytes) (told was) → failures mid ≡ failures was → Turned low (o ∷ olds) was now
     turned_put inside put serves =
         record {
           failed = rested.failed;
@@ -226,16 +226,16 @@ module _ {S : Type 0} (size : S → ℕ) (told : S → Option (ℕ → List ℕ)
         }
       where
         here : (k : ℕ) → ((nat_eq k o.sector ≡ true) × (k ≡ o.sector)) ⊎ ((nat_eq k o.sector ≡ false) × (k ≢ o.sector)) →
-            sector_told (option_map (with_old_bytes olds) (option_map (λ f. replaced f o.sector o.bytes) (told was))) k ≡ sector_told (option_map (with_old_bytes (o ∷ olds)) (told was)) k
+            sector_told (option_map (with_old_bytes olds) (option_map (λ f. with_sector f o.sector o.bytes) (told was))) k ≡ sector_told (option_map (with_old_bytes (o ∷ olds)) (told was)) k
         here k (inl is) =
-            subst (λ n. sector_told (option_map (with_old_bytes olds) (option_map (λ f. replaced f o.sector o.bytes) (told was))) n ≡ sector_told (option_map (with_old_bytes (o ∷ olds)) (told was)) n) (sym is.1) (put_here o olds (told was) absent)
+            subst (λ n. sector_told (option_map (with_old_bytes olds) (option_map (λ f. with_sector f o.sector o.bytes) (told was))) n ≡ sector_told (option_map (with_old_bytes (o ∷ olds)) (told was)) n) (sym is.1) (put_here o olds (told was) absent)
         here k (inr is) = put_there o olds (told was) k is.1
 
         other : (k : ℕ) → (size was ≤ k) ⊎ Contains rested.failed k → k ≢ o.sector
         other k (inl past) is = omega (arith, past, inside, is)
         other k (inr at) is = let up = rested.low_none k at in omega (arith, up, is)
 
-    turned_failed : o.sector < size was → told mid ≡ told was → FailsOn true o.sector (failures was) (failures mid) → Turned low (o ∷ olds) was now
+    turned_failed : o.sector < size was → told mid ≡ told was → HasOneMoreFailure true o.sector (failures was) (failures mid) → Turned low (o ∷ olds) was now
     turned_failed inside kept fails =
         record {
           failed = o.sector ∷ rested.failed;
@@ -395,17 +395,17 @@ take_more (o ∷ olds) (suc place) d inside =
 
 -- what a write has made of a store
 pub wrote_one : {S : Type 0} (size : S → ℕ) (told : S → Option (ℕ → List ℕ)) (failures : S → Option Failures) (old : OldSector) (done : Bool) (was now : S) → size now ≡ size was →
-    (done ≡ true → old.sector < size was) → (done ≡ true → told now ≡ option_map (λ f. replaced f old.sector old.bytes) (told was)) →
+    (done ≡ true → old.sector < size was) → (done ≡ true → told now ≡ option_map (λ f. with_sector f old.sector old.bytes) (told was)) →
     ((done ≡ true) ⊎ (size was ≤ old.sector) → failures now ≡ failures was) → (done ≡ false → told now ≡ told was) →
-    (done ≡ false → old.sector < size was → FailsOn true old.sector (failures was) (failures now)) → WritesOne size told failures old was now
+    (done ≡ false → old.sector < size was → HasOneMoreFailure true old.sector (failures was) (failures now)) → WritesOne size told failures old was now
 wrote_one size told failures old true was now sized inside puts serves kept fails = (sized, inl (inside refl, puts refl, serves (inl refl)))
 wrote_one size told failures old false was now sized inside puts serves kept fails =
     (sized, inr (elim (below_or old.sector (size was)) [ inl lt ↦ inl (lt, kept refl, fails refl lt) | inr past ↦ inr (past, kept refl, serves (inr past)) ]))
 
 -- where there is room for some, there is for fewer
-pub less_room : (c : Cache) (more less : ℕ) → less ≤ more → HasRoomForOld c more → HasRoomForOld c less
+pub less_room : (c : Cache) (more less : ℕ) → less ≤ more → HasRoomForOldSectors c more → HasRoomForOldSectors c less
 less_room c more less le room on some = let all = room on (omega (arith, some, le)) in omega (arith, all, le)
 
 -- none need none
-pub no_room : (c : Cache) → HasRoomForOld c 0
+pub no_room : (c : Cache) → HasRoomForOldSectors c 0
 no_room c on some = absurd (omega (arith, some))

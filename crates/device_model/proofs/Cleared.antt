@@ -3,7 +3,7 @@ use Rattle.std.proofs.Common.{ℕ, true, ◌≡◌, ◌+◌, ◌&&◌, List, Opt
 use Rattle.std.specs.Prelude.{if◌then◌else◌, is_some, nat_le, nat_lt, option_map}
 use Rattle.std.proofs.lemmas.Bool.{cases_lt, le-ltb, lt-ltb}
 use Rattle.std.proofs.lemmas.Bool.Decides.{eqb_tells, leb_tells}
-use Rattle.sector_store.specs.Stores.{replaced}
+use Rattle.sector_store.specs.Stores.{with_sector}
 use Rattle.adapter.specs.Device.{Disk}
 use Rattle.adapter.specs.Steps.{disk_cleared}
 use Rattle.device_model.proofs.Absurd.{fun_ext}
@@ -24,7 +24,7 @@ none_cleared first told =
       | inr below ↦ rw below.0 refl
     ])
 
-one_cleared : (first count : ℕ) (told : ℕ → List ℕ) → replaced (cleared first count told) (first + count) zeros ≡ cleared first (count + 1) told
+one_cleared : (first count : ℕ) (told : ℕ → List ℕ) → with_sector (cleared first count told) (first + count) zeros ≡ cleared first (count + 1) told
 one_cleared first count told =
     fun_ext (λ k.
     elim (eqb_tells k (first + count)) [
@@ -52,15 +52,15 @@ clears_none disk first = by disk.sectors refl
         λ i. record disk { sectors = (ap (λ (x : Option (ℕ → List ℕ)). option_map (cleared first 0) x) e ∙ (ap Some (none_cleared first f) ∙ sym e)) i }
 
 mapped_more : (o : Option (ℕ → List ℕ)) (first count : ℕ) →
-    option_map (λ f. replaced f (first + count) zeros) (option_map (cleared first count) o) ≡ option_map (cleared first (count + 1)) o
+    option_map (λ f. with_sector f (first + count) zeros) (option_map (cleared first count) o) ≡ option_map (cleared first (count + 1)) o
 mapped_more None first count = refl
 mapped_more (Some f) first count = ap Some (one_cleared first count f)
 
 -- one more is
 pub clears_more : (disk : Disk) (first count : ℕ) (told new : Option (ℕ → List ℕ)) → told ≡ (disk_cleared disk first count).sectors →
-    new ≡ option_map (λ f. replaced f (first + count) zeros) told → new ≡ (disk_cleared disk first (count + 1)).sectors
+    new ≡ option_map (λ f. with_sector f (first + count) zeros) told → new ≡ (disk_cleared disk first (count + 1)).sectors
 clears_more disk first count told new was put =
-    put ∙ (ap (λ (x : Option (ℕ → List ℕ)). option_map (λ f. replaced f (first + count) zeros) x) was ∙ mapped_more disk.sectors first count)
+    put ∙ (ap (λ (x : Option (ℕ → List ℕ)). option_map (λ f. with_sector f (first + count) zeros) x) was ∙ mapped_more disk.sectors first count)
 
 mapped_tells : (o : Option (ℕ → List ℕ)) (first count : ℕ) → is_some (option_map (cleared first count) o) ≡ is_some o
 mapped_tells None first count = refl

@@ -2,7 +2,7 @@
 use Rattle.std.proofs.Common.{ℕ, Bool, true, false, ◌≡◌, ◌<◌, ◌≤◌, ◌+◌, ◌-◌, min, ◌⊎◌, List, [], ◌∷◌, Option, Some, length, refl, sym, ◌∙◌, ap, subst, inl, inr, arith, zero, suc, drop, take}
 use Rattle.std.proofs.lemmas.Bool.{cases_lt}
 use Rattle.std.specs.Prelude.{if◌then◌else◌, option_map, slice_set}
-use Rattle.adapter.specs.ToldSteps.{DoesClear}
+use Rattle.adapter.specs.AskedSteps.{DoesClear}
 use Rattle.adapter.specs.Commands.{is_queued}
 use Rattle.adapter.specs.Device.{Disk, DevicePort, FetchedCommand, Device}
 use Rattle.adapter.specs.Steps.{Can, IsWorking, MayClear, device_after, clear_entry, disk_cleared, port_after_clear}
@@ -35,7 +35,7 @@ use Rattle.device_model.proofs.TwoDisks.{has_disks, outside_kept, outside_zeros,
 
 -- where sectors can be cleared, each number of them that can be cleared at once, and is on the disk, may be
 pub may_clear : (d : Device) (port slot most first count : ℕ) (t : FetchedCommand) → HasClear d port slot most t → first ≡ next_uncleared t →
-    count ≤ next_run_length most t → first + count ≤ (d.port port).disk.size → MayClear d port slot t first count
+    count ≤ next_run_length most t → first + count ≤ (d.port port).disk.sector_count → MayClear d port slot t first count
 may_clear d port slot most first count t has start few on_disk =
     let some = has.count_is_positive in
     let enough = has.enough_are_left in
@@ -49,7 +49,7 @@ may_clear d port slot most first count t has start few on_disk =
     }
 
 -- and where a clear may be made, sectors can be cleared
-pub can_clear : (d : Device) (port slot first count : ℕ) (t : FetchedCommand) → ((sector : ℕ) → sector < (d.port port).disk.size → HasDisks d port) → 1 ≤ count →
+pub can_clear : (d : Device) (port slot first count : ℕ) (t : FetchedCommand) → ((sector : ℕ) → sector < (d.port port).disk.sector_count → HasDisks d port) → 1 ≤ count →
     MayClear d port slot t first count → HasClear d port slot count t
 can_clear d port slot first count t sized some can = record {
   has_disks = elim can.inside [
@@ -80,7 +80,7 @@ module _ (old new : Device) (port slot most first count : ℕ) (t : FetchedComma
   cleared_taken = ap (λ (p : DevicePort). p.taken slot) cleared_port ∙ taken_after (old.port port) slot (Some further)
 
   disks : HasDisks old port → HasDisks new port
-  disks has none = has (sym (ap (λ (p : DevicePort). p.plugged) cleared_port) ∙ none)
+  disks has none = has (sym (ap (λ (p : DevicePort). p.plug_history) cleared_port) ∙ none)
 
   -- all that could be is cleared
   pub all_cleared : count ≡ next_run_length most t → HasCleared old new port slot most
@@ -107,8 +107,8 @@ module _ (old new : Device) (port slot most first count : ℕ) (t : FetchedComma
         enough_are_left = next.0;
       }
 
-  pub cleared_size : (new.port port).disk.size ≡ (old.port port).disk.size
-  cleared_size = ap (λ (p : DevicePort). p.disk.size) cleared_port
+  pub cleared_size : (new.port port).disk.sector_count ≡ (old.port port).disk.sector_count
+  cleared_size = ap (λ (p : DevicePort). p.disk.sector_count) cleared_port
 
 -- what the hardware has found to clear can be, on a port that has disks
 pub found_clear : (h : Hardware) (o : AllMedia) (d : Device) (port slot most : ℕ) (run : SectorExtent) (r : TakenCommand) → HasDisks d port → device_of h o ≡ d →
@@ -121,7 +121,7 @@ pub record IsPart {S : Type 0} (size : S → ℕ) (told : S → Option (ℕ → 
   pub whole : 1 ≤ count → DoesClear p.0 slot.0 most (device_at size told old) (device_at size told new)
   pub all : 1 ≤ count → count ≡ next_run_length most t → HasCleared (device_at size told old) (device_at size told new) p.0 slot.0 most
   pub more : count < next_run_length most t → HasClear (device_at size told new) p.0 slot.0 1 (record t { cleared = t.cleared + count })
-  pub disk_size : ((device_at size told new).port p.0).disk.size ≡ ((device_at size told old).port p.0).disk.size
+  pub disk_size : ((device_at size told new).port p.0).disk.sector_count ≡ ((device_at size told old).port p.0).disk.sector_count
   pub gains_own_pages : GainsOwnPages size old new
 
 module _ {S : Type 0} (size : S → ℕ) (told : S → Option (ℕ → List ℕ)) (failures : S → Option Failures) (p : Port) (slot : Slot) (most : ℕ) (m then_model : Model S)
@@ -136,8 +136,8 @@ module _ {S : Type 0} (size : S → ℕ) (told : S → Option (ℕ → List ℕ)
   abbrev new_disk : Disk
   new_disk = disk_over a.which (size b.disk.store) (told b.disk.store)
 
-  pub size_is : (old_device.port p.0).disk.size ≡ size a.disk.store
-  size_is = ap (λ x. (media_of size told x).disk.size) was
+  pub size_is : (old_device.port p.0).disk.sector_count ≡ size a.disk.store
+  size_is = ap (λ x. (media_of size told x).disk.sector_count) was
 
   module _ (cleared : (o : AllMedia) → device_of then_model.hardware (all_media_after_clear o p.0 first count) ≡ device_after (Clear p.0 slot.0 (taken_of r) first count) (device_of h o))
       (zeros : new_disk ≡ disk_cleared old_disk first count) where
@@ -150,7 +150,7 @@ module _ {S : Type 0} (size : S → ℕ) (told : S → Option (ℕ → List ℕ)
     some_part : HasClear old_device p.0 slot.0 most (taken_of r) → first ≡ next_uncleared (taken_of r) → 1 ≤ count → count ≤ next_run_length most (taken_of r) →
         first + count ≤ size a.disk.store → IsPart size told p slot most first count (taken_of r) m then_model
     some_part has start some few on_disk =
-        let end : first + count ≤ (old_device.port p.0).disk.size = let is = size_is in omega (arith, on_disk, is) in
+        let end : first + count ≤ (old_device.port p.0).disk.sector_count = let is = size_is in omega (arith, on_disk, is) in
         let limit = span_most most (taken_of r) in
         let did : DoesClear p.0 slot.0 most old_device (device_at size told then_model) = record {
           fetched_command = taken_of r;
@@ -190,7 +190,7 @@ module _ {S : Type 0} (size : S → ℕ) (told : S → Option (ℕ → List ℕ)
             subst (λ (x : FetchedCommand). HasClear (device_at size told then_model) p.0 slot.0 1 x) here
             (subst P (sym kept)
             (record { has_disks = has.has_disks; works = has.works; trim = has.trim; block_is_moved = has.block_is_moved; count_is_positive = omega arith; enough_are_left = omega (arith, some, enough) }));
-        disk_size = ap (λ (d : Device). (d.port p.0).disk.size) kept;
+        disk_size = ap (λ (d : Device). (d.port p.0).disk.sector_count) kept;
         gains_own_pages = gains_none size m then_model (ap (λ (d : Device). d.tape) kept);
       }
 
@@ -232,8 +232,8 @@ module _ {S : Type 0} (size : S → ℕ) (told : S → Option (ℕ → List ℕ)
       let more = part.more fewer in
       let next : next_uncleared t ≡ next_uncleared (taken_of r) + count = (next_on most count (taken_of r) fewer has.enough_are_left).1 in
       let sector : first + count ≡ next_uncleared t = (let same : first + count ≡ next_uncleared (taken_of r) + count = ap (λ (k : ℕ). k + count) start in same) ∙ sym next in
-      let sizes : size a.disk.store ≡ ((device_at size told then_model).port p.0).disk.size = sym size_is ∙ sym part.disk_size in
-      let then_size : ℕ = ((device_at size told then_model).port p.0).disk.size in
+      let sizes : size a.disk.store ≡ ((device_at size told then_model).port p.0).disk.sector_count = sym size_is ∙ sym part.disk_size in
+      let then_size : ℕ = ((device_at size told then_model).port p.0).disk.sector_count in
       let P : Option Failures → Option Failures → Type 0 = λ before now. IsSectorFault (port_has_cache m p.0) true (next_uncleared t) then_size error before now in
       let Q : ℕ → Type 0 = λ n. IsSectorFault (port_has_cache m p.0) true (next_uncleared t) n error (failures a.disk.store) (failures b.disk.store) in
       let R : ℕ → Type 0 = λ k. IsSectorFault (port_has_cache m p.0) true k (size a.disk.store) error (failures a.disk.store) (failures b.disk.store) in
@@ -251,7 +251,7 @@ module _ {S : Type 0} (size : S → ℕ) (told : S → Option (ℕ → List ℕ)
           cause = subst (λ x. P x (disk_failures failures last p.0)) before (subst (P (failures a.disk.store)) (sym fine) (subst Q sizes (subst R sector (subst O (sym (ap has_cache was)) cause))));
           can = subst (λ (x : FetchedCommand). Can (Fault p.0 slot.0 error 0 x) (device_at size told then_model)) one failed.fails.fault.can;
           sends = subst (T t) (failed.fails.fault.effect ∙ ap (λ (x : FetchedCommand). device_after (Fault p.0 slot.0 error 0 x) (device_at size told then_model)) one)
-              (subst (λ (x : FetchedCommand). T x failed.fails.mid) one failed.fails.posts);
+              (subst (λ (x : FetchedCommand). T x failed.fails.after_failure) one failed.fails.posts);
           page_source_after_is = failed.says
               ∙ (ap (λ (x : Bool). if x then option_map (with_logged_error (record { tag = slot.0; error = error })) (page_source_of then_model p.0) else page_source_of then_model p.0) plain
               ∙ store_says m then_model p.0 a b was items rest p.0);

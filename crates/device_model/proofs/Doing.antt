@@ -1,7 +1,7 @@
 -- What a model makes of a step that it is told.
 use Rattle.std.proofs.Common.{ℕ, Bool, true, false, ◌≡◌, ◌≢◌, ◌<◌, ◌≤◌, ◌^◌, ◌⊎◌, ◌∙◌, List, Option, Some, ⊎_elim, refl, sym, ap, subst, inl, inr}
 use Rattle.std.specs.Prelude.{option_map}
-use Rattle.adapter.specs.ToldSteps.{Fails, SlotGoesOn}
+use Rattle.adapter.specs.AskedSteps.{FailsAndPosts, SlotGoesOn}
 use Rattle.adapter.specs.declared.access.DeviceStep.TheVariants as asked
 use Rattle.ata_types.specs.declared.Port.{Port}
 use Rattle.ata_types.specs.declared.Slot.{Slot}
@@ -12,12 +12,12 @@ use Rattle.adapter.proofs.Runs.{Steps-refl}
 use Rattle.adapter.specs.Steps.{Can, Steps}
 use Rattle.adapter.specs.Steps.DeviceTransition.{Fault}
 use Rattle.sector_store.specs.declared.store.Failures.{Failures}
-use Rattle.device_model.specs.StepEffects.{AnswersStep, AsksStore, ClearsFewer, Completes, DidStep, FailsToClear, FailsToMove, OwnStepsKeep, CommandFails, IsLeftOut, LacksMemory, IsAddressable, NoCallFailed, StepKeeps, IsPossible, asked_port, page_source_after_failure}
+use Rattle.device_model.specs.StepEffects.{AnswersStep, MayAskStore, ClearsFewer, Completes, DidStep, FailsToClear, FailsToMove, OwnStepsKeep, CommandFails, IsLeftOut, LacksMemory, IsAddressable, NoCallFailed, StepKeeps, IsPossible, asked_port, page_source_after_failure}
 use Rattle.device_model.specs.Disks.{bay_of, port_has_cache, disk_in_bay, numbered_disk, disk_failures, identity_of, page_source_of, disk_index_of}
 use Rattle.device_model.specs.ModelState.{device_at}
 use Rattle.device_model.specs.DiskPages.{GainsOwnPages}
 use Rattle.device_model.proofs.TwoDisks.{each_port, failures_kept, identity_kept}
-use Rattle.device_model.specs.SentFises.{SendsEnd, SendsFailed}
+use Rattle.device_model.specs.SentFises.{SendsEnd, SendsFaultOfOperation}
 use Rattle.device_model.proofs.Posting.{did_may}
 use Rattle.device_model.proofs.Absurd.{some_one, true-false}
 use Rattle.device_model.specs.Finishing.{TapeHasRoom}
@@ -63,7 +63,7 @@ module _ {S : Type 0} (size : S → ℕ) (told : S → Option (ℕ → List ℕ)
   whichs port a b here others = each_port (option_map (λ (x : Bay S). x.which)) a b port here others
 
   pub all_say : (port : ℕ) (a b : Model S) → page_source_of b port ≡ page_source_of a port → ((q : ℕ) → q ≢ port → bay_of b q ≡ bay_of a q) → (q : ℕ) → page_source_of b q ≡ page_source_of a q
-  all_say port a b here others = each_port (option_map (λ (x : Bay S). x.says)) a b port here others
+  all_say port a b here others = each_port (option_map (λ (x : Bay S). x.page_source)) a b port here others
 
   pub all_identities : (port : ℕ) (a b : Model S) → disk_index_of b port ≡ disk_index_of a port → ((q : ℕ) → q ≢ port → bay_of b q ≡ bay_of a q) → StepKeeps size a b →
       (q : ℕ) → identity_of size b q ≡ identity_of size a q
@@ -137,7 +137,7 @@ module _ {S : Type 0} (size : S → ℕ) (told : S → Option (ℕ → List ℕ)
     a.0,
     record {
       completes_or_fails = elim a.1.completes_or_fails [
-        | inl whole ↦ inl (record { does_told_step = whole.does_told_step; no_call_failed = whole.no_call_failed; page_source_is = whole.page_source_is; does_all_it_asks = whole.does_all_it_asks; loses_cache = whole.loses_cache })
+        | inl whole ↦ inl (record { does_asked_step = whole.does_asked_step; no_call_failed = whole.no_call_failed; page_source_is = whole.page_source_is; does_all_it_asks = whole.does_all_it_asks; loses_cache = whole.loses_cache })
         | inr failed ↦ inr failed
       ];
       held_ports_are = a.1.held_ports_are;
@@ -146,7 +146,7 @@ module _ {S : Type 0} (size : S → ℕ) (told : S → Option (ℕ → List ℕ)
       gains_own_pages = record { new_entries = a.1.gains_own_pages.new_entries; tape_grows = a.1.gains_own_pages.tape_grows; pages_are_own = a.1.gains_own_pages.pages_are_own };
       disks_are_kept = a.1.disks_are_kept;
       step_keeps = keeps_queued old new q a.1.step_keeps;
-      starved = a.1.starved;
+      starved_is_kept = a.1.starved_is_kept;
     },
   )
   answers_queued s false old new q a = record {
@@ -165,9 +165,9 @@ module _ {S : Type 0} (size : S → ℕ) (told : S → Option (ℕ → List ℕ)
   -- A Finish came to a step that was left, for which there was room, and which was possible. So it has no address.
   pub cut_short : (s : DeviceStep) (p : Port) (slot : Slot) (did : Bool) (old mid new : Model S) → IsPossible (asked.Finish p slot) (device_at size told old) →
       (did ≡ true → SlotGoesOn (SendsEnd slot.0) p.0 slot.0 (device_at size told old) (device_at size told mid)) → (did ≡ false → device_at size told mid ≡ device_at size told old) →
-      Meanwhile size p.0 old mid → ((AsksStore (asked.Finish p slot) (device_at size told old) → ⊥) → (which : DiskIndex) → numbered_disk mid p.0 which ≡ numbered_disk old p.0 which) →
+      Meanwhile size p.0 old mid → ((MayAskStore (asked.Finish p slot) (device_at size told old) → ⊥) → (which : DiskIndex) → numbered_disk mid p.0 which ≡ numbered_disk old p.0 which) →
       (did ≡ false → (which : DiskIndex) → numbered_disk mid p.0 which ≡ numbered_disk old p.0 which) → NoCallFailed failures old mid → asked_port s ≡ p.0 → IsLeftOut size told failures s mid new →
-      ((device_at size told old).size ≤ 2 ^ 32 → IsAddressable s (device_at size told mid)) → IsPossible s (device_at size told mid) →
+      ((device_at size told old).memory_size ≤ 2 ^ 32 → IsAddressable s (device_at size told mid)) → IsPossible s (device_at size told mid) →
       (LacksMemory s (device_at size told mid) mid.hardware mid.bays.items → ⊥) → (t : FetchedCommand) → ((device_at size told mid).port p.0).taken slot.0 ≡ Some t →
       AnswersStep size told failures (asked.Finish p slot) did old new
   cut_short s p slot did old mid new may went stayed meanwhile same untouched none at step needs possible room t taken = by did went stayed untouched
@@ -182,7 +182,7 @@ module _ {S : Type 0} (size : S → ℕ) (told : S → Option (ℕ → List ℕ)
       disks : (q : ℕ) (which : DiskIndex) → numbered_disk new q which ≡ numbered_disk mid q which
       disks q which = each_port (option_map (λ (x : Bay S). disk_in_bay x which)) mid new p.0 (of_port (λ m k. numbered_disk m k which) (step.disks_are_kept which)) others q
 
-      unserved : (device_at size told old).size ≤ 2 ^ 32 → ⊥
+      unserved : (device_at size told old).memory_size ≤ 2 ^ 32 → ⊥
       unserved small_enough = room (step.lacks_memory (needs small_enough) possible).0
 
       told_before : new.hardware.starved ≡ true → mid.hardware.starved ≡ true
@@ -206,7 +206,7 @@ module _ {S : Type 0} (size : S → ℕ) (told : S → Option (ℕ → List ℕ)
         may,
         record {
           completes_or_fails = inl (record {
-            does_told_step = subst (λ (d : Device). SlotGoesOn (SendsEnd slot.0) p.0 slot.0 (device_at size told old) d) (sym step.device_is_kept) (on refl);
+            does_asked_step = subst (λ (d : Device). SlotGoesOn (SendsEnd slot.0) p.0 slot.0 (device_at size told old) d) (sym step.device_is_kept) (on refl);
             no_call_failed = λ _ q which. ap (option_map (λ (x : ModelDisk S). failures x.store)) (disks q which) ∙ none q which;
             page_source_is = all.says;
             does_all_it_asks = λ small_enough. absurd (unserved small_enough);
@@ -218,7 +218,7 @@ module _ {S : Type 0} (size : S → ℕ) (told : S → Option (ℕ → List ℕ)
           gains_own_pages = all.pages;
           disks_are_kept = λ never which. disks p.0 which ∙ same never which;
           step_keeps = all.keeps;
-          starved = all.starved;
+          starved_is_kept = all.starved;
         },
       )
       by false on stays first = record {
@@ -245,7 +245,7 @@ module _ {S : Type 0} (size : S → ℕ) (told : S → Option (ℕ → List ℕ)
   module _ (p : Port) (slot : Slot) (did : Bool) (old mid new : Model S) (may : IsPossible (asked.Finish p slot) (device_at size told old))
       (went : did ≡ true → SlotGoesOn (SendsEnd slot.0) p.0 slot.0 (device_at size told old) (device_at size told mid))
       (stayed : did ≡ false → device_at size told mid ≡ device_at size told old) (meanwhile : Meanwhile size p.0 old mid)
-      (asks : AsksStore (asked.Finish p slot) (device_at size told old)) (none : NoCallFailed failures old mid) where
+      (asks : MayAskStore (asked.Finish p slot) (device_at size told old)) (none : NoCallFailed failures old mid) where
     fine : disk_failures failures mid p.0 ≡ disk_failures failures old p.0
     fine = failures_kept failures old mid p.0 meanwhile.which (none p.0)
 
@@ -263,14 +263,14 @@ module _ {S : Type 0} (size : S → ℕ) (told : S → Option (ℕ → List ℕ)
         gains_own_pages = pages_on p.0 old mid new meanwhile.says meanwhile.which meanwhile.others meanwhile.keeps meanwhile.pages pages;
         disks_are_kept = λ never. absurd (never asks);
         step_keeps = keeps_on old mid new (whichs p.0 old mid meanwhile.which meanwhile.others) meanwhile.keeps keeps;
-        starved = starved ∙ meanwhile.starved;
+        starved_is_kept = starved ∙ meanwhile.starved;
       },
     )
 
     pub move_fails : DidStep size told failures (asked.Move p slot) mid new → CommandFails size told failures (asked.Move p slot) mid new →
         AnswersStep size told failures (asked.Finish p slot) true old new
     move_fails step f =
-        fails_finish step.held_ports_are step.disk_index_is step.other_bays_are_kept step.gains_own_pages step.step_keeps step.starved (
+        fails_finish step.held_ports_are step.disk_index_is step.other_bays_are_kept step.gains_own_pages step.step_keeps step.starved_is_kept (
           device_at size told mid,
           before_it p slot did _ _ went stayed,
           inl (subst (λ on. FailsToMove on p.0 slot.0 (disk_failures failures old p.0) (disk_failures failures new p.0) (page_source_of old p.0) (page_source_of new p.0) (device_at size told mid) (device_at size told new)) (meanwhile.keeps.caches_are_kept p.0)
@@ -281,7 +281,7 @@ module _ {S : Type 0} (size : S → ℕ) (told : S → Option (ℕ → List ℕ)
     pub clear_fails : (most : ℕ) → DidStep size told failures (asked.Clear p slot most) mid new → CommandFails size told failures (asked.Clear p slot most) mid new →
         AnswersStep size told failures (asked.Finish p slot) true old new
     clear_fails most step (last, cleared, f) =
-        fails_finish step.held_ports_are step.disk_index_is step.other_bays_are_kept step.gains_own_pages step.step_keeps step.starved (
+        fails_finish step.held_ports_are step.disk_index_is step.other_bays_are_kept step.gains_own_pages step.step_keeps step.starved_is_kept (
           last,
           on cleared,
           inr (subst (λ on. FailsToClear on p.0 slot.0 (disk_failures failures old p.0) (disk_failures failures new p.0) (page_source_of old p.0) (page_source_of new p.0) last (device_at size told new)) (meanwhile.keeps.caches_are_kept p.0)
@@ -300,7 +300,7 @@ module _ {S : Type 0} (size : S → ℕ) (told : S → Option (ℕ → List ℕ)
 
   -- it is done, where the tape has memory for it
   pub record IsFailed (p : Port) (slot : Slot) (error : ℕ) (t : FetchedCommand) (old new : Model S) : Type 0 where
-    pub fails : Fails SendsFailed p.0 slot.0 error 0 (device_at size told old) (device_at size told new)
+    pub fails : FailsAndPosts SendsFaultOfOperation p.0 slot.0 error 0 (device_at size told old) (device_at size told new)
     pub same : fails.fault.fetched_command ≡ t
     pub says : page_source_of new p.0 ≡ page_source_after_failure (Some t) slot.0 error (page_source_of old p.0)
     pub held : new.held ≡ old.held
@@ -317,9 +317,9 @@ module _ {S : Type 0} (size : S → ℕ) (told : S → Option (ℕ → List ℕ)
       elim a.1.completes_or_fails [
         | inr never ↦ absurd never
         | inl whole ↦
-            let one : whole.does_told_step.fault.fetched_command ≡ t = some_one (sym whole.does_told_step.fault.can.taken ∙ can.taken) in
+            let one : whole.does_asked_step.fault.fetched_command ≡ t = some_one (sym whole.does_asked_step.fault.can.taken ∙ can.taken) in
             record {
-              fails = whole.does_told_step;
+              fails = whole.does_asked_step;
               same = one;
               says = whole.page_source_is ∙ ap (λ (x : Option FetchedCommand). page_source_after_failure x slot.0 error (page_source_of old p.0)) can.taken;
               held = a.1.held_ports_are;
@@ -328,7 +328,7 @@ module _ {S : Type 0} (size : S → ℕ) (told : S → Option (ℕ → List ℕ)
               pages = a.1.gains_own_pages;
               disks = a.1.disks_are_kept (λ never. never);
               keeps = a.1.step_keeps;
-              starved = a.1.starved;
+              starved = a.1.starved_is_kept;
             }
       ]
   is_failed p slot error t false old new a port small can room = absurd ((a.lacks_memory tt (port, small, t, can)).0 room)
@@ -353,7 +353,7 @@ module _ {S : Type 0} (size : S → ℕ) (told : S → Option (ℕ → List ℕ)
     disk_index_is = whichs p.0 old new a.1.disk_index_is a.1.other_bays_are_kept;
     gains_own_pages = a.1.gains_own_pages;
     step_keeps = a.1.step_keeps;
-    stays_starved = λ yes. a.1.starved ∙ yes;
+    stays_starved = λ yes. a.1.starved_is_kept ∙ yes;
   }
   finish_goes_so p slot false old new a says = record {
     held_ports_are = a.held_ports_are;

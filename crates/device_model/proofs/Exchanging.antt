@@ -133,7 +133,7 @@ piece_stays h o next k d b is whole small same =
     let items =
     with_piece_is h next.address k d b is (omega (arith, all, whole, small)) sized
     ∙ (ap (over next.address k d) same ∙ (over_same next.address k d ∙ is)) in
-    λ i. record (device_of h o) { size = length (items i); memory = bytes_of (items i) }
+    λ i. record (device_of h o) { memory_size = length (items i); memory = bytes_of (items i) }
 
 -- the next piece of a command is noted, where it was exchanged
 pub port_moves_over : (old h : Hardware) (o : AllMedia) (p port slot : ℕ) (next : NextMove) (new : PortModel)
@@ -218,11 +218,11 @@ one_further t sector ranged is =
 
 -- once the next piece of a command is noted, the one behind it is next
 pub next_after : (old : Hardware) (p port slot : ℕ) (next : NextMove) (t : TakenCommand) (new : PortModel) (tape : Vec Entry) (starved : Bool) →
-    IsNextMove old port slot next t → 1 ≤ next.behind → p ≡ port → p < length old.ports →
+    IsNextMove old port slot next t → 1 ≤ next.pieces_following → p ≡ port → p < length old.ports →
     new ≡ record (slice_index_or old.ports p blank_port) { taken = new.taken } →
     taken_in new.taken slot ≡ Some (record t { moved = t.moved + 1 }) →
     IsNextMove (record old { ports = slice_set old.ports p new; tape = tape; starved = starved }) port slot
-    (record next { sector = next.sector + 1; address = next.address + 512; behind = next.behind - 1 })
+    (record next { sector = next.sector + 1; address = next.address + 512; pieces_following = next.pieces_following - 1 })
     (record t { moved = t.moved + 1 })
 next_after old p port slot next t new tape starved at some e small same held =
     let u : TakenCommand = record t { moved = t.moved + 1 } in
@@ -243,7 +243,7 @@ next_after old p port slot next t new tape starved at some e small same held =
                 record {
                   taken = slot_taken (taken_in new.taken) u slot held;
                   working = subst P (sym is)
-                      (record { running = was.running; present = was.present; fresh = was.fresh; admitted = was.admitted; whole = was.whole });
+                      (record { cr_is_set = was.cr_is_set; present = was.present; fresh = was.fresh; admitted = was.admitted; is_not_broken = was.is_not_broken });
                 };
           });
       piece_is_left = one.0;

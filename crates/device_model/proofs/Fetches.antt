@@ -2,7 +2,7 @@
 use Rattle.std.proofs.Common.{ℕ, Bool, zero, suc, ◌≡◌, ◌<◌, ◌≤◌, ◌+◌, ◌-◌, ◌*◌, ◌/◌, List, [], ◌∷◌, ◌++◌, length, take, drop, All, slice_index, slice_index_or, refl, sym, ◌∙◌, ap, arith, subst, append_assoc, length-append}
 use Rattle.std.proofs.lemmas.List.{drop_all, get_or_append_left, get_or-append_right}
 use Rattle.adapter.specs.Memory.{bytes_at}
-use Rattle.adapter.specs.Commands.{IsMeaning, Meaning, command_of, reads_memory, piece_count}
+use Rattle.adapter.specs.Commands.{IsValidMeaning, Meaning, command_of, reads_memory, piece_count}
 use Rattle.adapter.specs.Encoding.{EncodesPrd, EncodesHeader, EncodesCommand}
 use Rattle.adapter.specs.Decoding.{HasPrds, IsWholePieces, DecodesTo, pieces, piece_addresses}
 use Rattle.adapter.specs.declared.command.Operation.{Operation}
@@ -137,8 +137,8 @@ module _ (k : CommandKind) (memory : ℕ → ℕ) (list slot : ℕ) (m : Meaning
   pub said_command : EncodesCommand (bytes_at memory s.table 20) (command_of (operation_of_kind k) slot m.first m.count)
   said_command = subst (λ (o : Operation). EncodesCommand (bytes_at memory s.table 20) (command_of o slot m.first m.count)) is s.fis
 
-  pub said_meaning : IsMeaning (record { operation = operation_of_kind k; first = m.first; count = m.count })
-  said_meaning = subst (λ (o : Operation). IsMeaning (record { operation = o; first = m.first; count = m.count })) is s.meaning
+  pub said_meaning : IsValidMeaning (record { operation = operation_of_kind k; first = m.first; count = m.count })
+  said_meaning = subst (λ (o : Operation). IsValidMeaning (record { operation = o; first = m.first; count = m.count })) is s.meaning
 
   pub said_count : length (pieces s.prds) ≡ piece_count (operation_of_kind k) m.count
   said_count = ap length (sym s.places_are) ∙ (s.place_count_is ∙ ap (λ (o : Operation). piece_count o m.count) is)

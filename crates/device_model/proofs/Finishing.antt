@@ -1,13 +1,13 @@
 -- A command that may be done is taken, goes on piece by piece and clear by clear, and ends.
 use Rattle.std.proofs.Common.{[], ◌∷◌, ℕ, Bool, true, false, zero, suc, ◌≡◌, ◌<◌, ◌≤◌, ◌+◌, ◌⊎◌, List, length, slice_index, slice_index_or, Option, None, Some, refl, sym, ◌∙◌, ap, subst, inl, inr, arith}
 use Rattle.std.specs.Prelude.{if◌then◌else◌}
-use Rattle.adapter.specs.ToldSteps.{DoesClear, DoesFetch, DoesMove, DoesDone, DoesSlotStep, DoesSlotSteps, EndsAndPosts, SlotGoesOn}
+use Rattle.adapter.specs.AskedSteps.{DoesClear, DoesFetch, DoesMove, DoesDone, DoesSlotStep, DoesSlotSteps, EndsAndPosts, SlotGoesOn}
 use Rattle.adapter.specs.Commands.{Meaning, is_queued, is_ranged}
 use Rattle.adapter.specs.Device.{Disk, FetchedCommand, Halt, DevicePort, Device}
 use Rattle.adapter.specs.Memory.{changed}
 use Rattle.adapter.specs.OneCommand.{IsFreeSlot}
 use Rattle.adapter.specs.Decoding.{pieces}
-use Rattle.adapter.specs.Steps.{Can, IsWorking, WorksOn, admits, begun, MayBring, next_place, next_sector, port_after_fetch, port_after_move, port_after_clear, port_after_done, port_after_flush, block_after}
+use Rattle.adapter.specs.Steps.{Can, IsWorking, WorksOn, admits, newly_fetched, MayBring, next_place, next_sector, port_after_fetch, port_after_move, port_after_clear, port_after_done, port_after_flush, block_after}
 use Rattle.adapter.specs.Steps.DeviceTransition.{Fetch, Move, Done}
 use Rattle.adapter.specs.declared.command.Operation.{Operation}
 use Rattle.adapter.specs.declared.command.Operation.TheVariants.{Trim}
@@ -15,7 +15,7 @@ use Rattle.device_model.proofs.Absurd.{some-none, some_one, true-false}
 use Rattle.device_model.proofs.Places.{changed_same}
 use Rattle.adapter.proofs.SaysLemmas.{says_meaning, says_places}
 use Rattle.device_model.specs.StepEffects.{HasCleared, HasEndedSlot}
-use Rattle.device_model.specs.Finishing.{HasDisk, HasMove, IsCovered, IsInProgress, MayFinish}
+use Rattle.device_model.specs.Finishing.{HasDisksOrIsRanged, HasMove, HasMovesLeft, IsInProgress, MayFinish}
 use Rattle.device_model.specs.SentFises.{SendsEnd}
 use Rattle.device_model.specs.Slots.{CanClear, WorksOnIn, IsNextMove}
 use Rattle.device_model.specs.Trims.{HasClear, HasClearsLeft, next_run_length, uncleared}
@@ -50,17 +50,17 @@ taken_after p slot t = changed_same p.taken slot t
 pub still_works : (p new : DevicePort) (o : Operation) → IsWorking p o → new.cr ≡ p.cr → new.present ≡ p.present → new.fresh ≡ p.fresh → new.halt ≡ p.halt →
     new.broken ≡ p.broken → IsWorking new o
 still_works p new o w cr present fresh halt broken = record {
-  running = cr ∙ w.running;
+  cr_is_set = cr ∙ w.cr_is_set;
   present = present ∙ w.present;
   fresh = fresh ∙ w.fresh;
   admitted = ap (λ (h : Halt). admits h o) halt ∙ w.admitted;
-  whole = broken ∙ w.whole;
+  is_not_broken = broken ∙ w.is_not_broken;
 }
 
 module _ (port slot : ℕ) where
   -- it was just taken
-  just_fetched : (left clears : ℕ) (old new : Device) (m : Meaning) (places : List ℕ) → IsCovered (begun m places) old.size left →
-      HasClearsLeft m.operation old.memory (begun m places) clears → Can (Fetch port slot m places) old → DoesFetch port slot old new →
+  just_fetched : (left clears : ℕ) (old new : Device) (m : Meaning) (places : List ℕ) → HasMovesLeft (newly_fetched m places) old.memory_size left →
+      HasClearsLeft m.operation old.memory (newly_fetched m places) clears → Can (Fetch port slot m places) old → DoesFetch port slot old new →
       IsInProgress new port slot left clears
   just_fetched left clears old new m places covered clearing can f =
       let p : DevicePort = old.port port in
@@ -68,14 +68,14 @@ module _ (port slot : ℕ) where
       let meaning : f.meaning ≡ m = says_meaning old.memory p.bases.clb slot f.meaning m f.places places f.can.says can.says in
       let same : f.places ≡ places = says_places old.memory p.bases.clb slot f.meaning m f.places places f.can.says can.says in
       let there : new.port port ≡ state = ap (λ (d : Device). d.port port) f.effect ∙ changed_same old.port port state in
-      let taken : state.taken slot ≡ Some (begun m places) =
-      changed_same p.taken slot (Some (begun f.meaning f.places)) ∙ (λ i. Some (begun (meaning i) (same i))) in
-      let P : DevicePort → Type 0 = λ x. WorksOn x slot (begun m places) m.operation in
-      let Q : ℕ → Type 0 = λ size. IsCovered (begun m places) size left in
+      let taken : state.taken slot ≡ Some (newly_fetched m places) =
+      changed_same p.taken slot (Some (newly_fetched f.meaning f.places)) ∙ (λ i. Some (newly_fetched (meaning i) (same i))) in
+      let P : DevicePort → Type 0 = λ x. WorksOn x slot (newly_fetched m places) m.operation in
+      let Q : ℕ → Type 0 = λ size. HasMovesLeft (newly_fetched m places) size left in
       record {
-        fetched_command = begun m places;
-        is_covered = subst Q (sym (ap (λ (d : Device). d.size) f.effect)) covered;
-        has_clears_left = subst (λ (memory : ℕ → ℕ). HasClearsLeft m.operation memory (begun m places) clears) (sym (ap (λ (d : Device). d.memory) f.effect)) clearing;
+        fetched_command = newly_fetched m places;
+        is_covered = subst Q (sym (ap (λ (d : Device). d.memory_size) f.effect)) covered;
+        has_clears_left = subst (λ (memory : ℕ → ℕ). HasClearsLeft m.operation memory (newly_fetched m places) clears) (sym (ap (λ (d : Device). d.memory) f.effect)) clearing;
         works = subst P (sym there)
             (record { taken = taken; working = still_works p state m.operation can.working refl refl refl refl refl });
       }
@@ -88,10 +88,10 @@ module _ (port slot : ℕ) where
       by did refl ready.is_begun_or_fetchable
     where
       by : (b : Bool) → did ≡ b → WorksOn (old.port port) slot ready.fetched_command ready.fetched_command.meaning.operation
-          ⊎ (Can (Fetch port slot ready.fetched_command.meaning ready.fetched_command.places) old × (ready.fetched_command ≡ begun ready.fetched_command.meaning ready.fetched_command.places)) → IsInProgress new port slot left clears
+          ⊎ (Can (Fetch port slot ready.fetched_command.meaning ready.fetched_command.places) old × (ready.fetched_command ≡ newly_fetched ready.fetched_command.meaning ready.fetched_command.places)) → IsInProgress new port slot left clears
       by true e (inl works) = some-none works.taken (fetched e).can.fetchable.free
       by true e (inr (can, is)) =
-          let P : FetchedCommand → Type 0 = λ t. IsCovered t old.size left in
+          let P : FetchedCommand → Type 0 = λ t. HasMovesLeft t old.memory_size left in
           let Q : FetchedCommand → Type 0 = λ t. HasClearsLeft t.meaning.operation old.memory t clears in
           just_fetched left clears old new ready.fetched_command.meaning ready.fetched_command.places (subst P is ready.is_covered) (subst Q is ready.has_clears_left) can (fetched e)
       by false e (inl works) =
@@ -109,10 +109,10 @@ module _ (port slot : ℕ) where
       let state : DevicePort = port_after_move p slot m.fetched_command m.bytes in
       let same : m.fetched_command ≡ t = some_one (sym m.can.works.taken ∙ going.works.taken) in
       let there : new.port port ≡ state = ap (λ (d : Device). d.port port) m.effect ∙ changed_same old.port port state in
-      let size : new.size ≡ old.size = ap (λ (d : Device). d.size) m.effect in
+      let size : new.memory_size ≡ old.memory_size = ap (λ (d : Device). d.memory_size) m.effect in
       let P : DevicePort → Type 0 = λ x. WorksOn x slot u m.fetched_command.meaning.operation in
-      let Q : FetchedCommand → Type 0 = λ x. IsCovered x old.size (suc left) in
-      let covered : IsCovered m.fetched_command old.size (suc left) = subst Q (sym same) going.is_covered in
+      let Q : FetchedCommand → Type 0 = λ x. HasMovesLeft x old.memory_size (suc left) in
+      let covered : HasMovesLeft m.fetched_command old.memory_size (suc left) = subst Q (sym same) going.is_covered in
       record {
         fetched_command = u;
         has_clears_left = subst (λ (memory : ℕ → ℕ). HasClearsLeft m.fetched_command.meaning.operation memory u clears) (sym (ap (λ (d : Device). d.memory) m.effect))
@@ -141,7 +141,7 @@ module _ (port slot : ℕ) where
       let same : has.fetched_command ≡ t = some_one (sym has.command_before ∙ going.works.taken) in
       let taken : (new.port port).taken slot ≡ Some u =
       has.command_after ∙ (λ i. Some (record (same i) { cleared = (same i).cleared + next_run_length (whole i) (same i) })) in
-      let size : new.size ≡ old.size = ap (λ (d : Device). d.size) c.effect in
+      let size : new.memory_size ≡ old.memory_size = ap (λ (d : Device). d.memory_size) c.effect in
       let all : t.moved ≡ length t.places = omega (arith, going.is_covered.moves_left_are) in
       record {
         fetched_command = u;
@@ -160,11 +160,11 @@ module _ (port slot : ℕ) where
       }
 
   -- and it has ended
-  pub done_port : (old new : Device) (e : EndsAndPosts (SendsEnd slot) port slot old new) → new.port port ≡ port_after_flush (port_after_done (old.port port) slot e.done.flag e.done.fetched_command.meaning.operation) e.done.fetched_command.meaning.operation (length old.tape)
+  pub done_port : (old new : Device) (e : EndsAndPosts (SendsEnd slot) port slot old new) → new.port port ≡ port_after_flush (port_after_done (old.port port) slot e.done.cause_bit e.done.fetched_command.meaning.operation) e.done.fetched_command.meaning.operation (length old.tape)
   done_port old new e =
-      let f : DoesDone port slot old e.mid = e.done in
-      ap (λ (d : Device). d.port port) (end_rest port slot f.flag f.fetched_command.meaning.operation e.mid new e.posts)
-      ∙ (ap (λ (d : Device). d.port port) f.effect ∙ changed_same old.port port (port_after_flush (port_after_done (old.port port) slot f.flag f.fetched_command.meaning.operation) f.fetched_command.meaning.operation (length old.tape)))
+      let f : DoesDone port slot old e.after_end = e.done in
+      ap (λ (d : Device). d.port port) (end_rest port slot f.cause_bit f.fetched_command.meaning.operation e.after_end new e.posts)
+      ∙ (ap (λ (d : Device). d.port port) f.effect ∙ changed_same old.port port (port_after_flush (port_after_done (old.port port) slot f.cause_bit f.fetched_command.meaning.operation) f.fetched_command.meaning.operation (length old.tape)))
 
   done_gone : (old new : Device) → EndsAndPosts (SendsEnd slot) port slot old new → (new.port port).taken slot ≡ None
   done_gone old new e = ap (λ (p : DevicePort). p.taken slot) (done_port old new e) ∙ changed_same (old.port port).taken slot None
@@ -184,8 +184,8 @@ module _ (port slot : ℕ) where
       let p : DevicePort = mid.port port in
       let state : DevicePort = port_after_fetch p slot f.meaning f.places in
       let there : new.port port ≡ state = ap (λ (d : Device). d.port port) f.effect ∙ changed_same mid.port port state in
-      let same : begun f.meaning f.places ≡ t =
-      some_one (sym (changed_same p.taken slot (Some (begun f.meaning f.places))) ∙ (sym (ap (λ (x : DevicePort). x.taken slot) there) ∙ taken)) in
+      let same : newly_fetched f.meaning f.places ≡ t =
+      some_one (sym (changed_same p.taken slot (Some (newly_fetched f.meaning f.places))) ∙ (sym (ap (λ (x : DevicePort). x.taken slot) there) ∙ taken)) in
       let kind : is_queued f.meaning.operation ≡ true = ap (λ (x : FetchedCommand). is_queued x.meaning.operation) same ∙ queued in
       ap (λ (x : DevicePort). x.ci slot) there
       ∙ (ap (λ (b : Bool). (if b then changed p.ci slot false else p.ci) slot) kind ∙ changed_same p.ci slot false)
@@ -218,13 +218,13 @@ module _ (port slot : ℕ) where
 
   pub done_ended : (since old new : Device) → IsIssuedNoMore since old → EndsAndPosts (SendsEnd slot) port slot old new → HasEndedSlot since new port slot
   done_ended since old new was e =
-      let f : DoesDone port slot old e.mid = e.done in
+      let f : DoesDone port slot old e.after_end = e.done in
       let o : Operation = f.fetched_command.meaning.operation in
       let p : DevicePort = old.port port in
       record {
         operation = o;
         before = old.tape;
-        done_is_last = ap (λ (d : Device). d.tape) (end_rest port slot f.flag o e.mid new e.posts) ∙ ap (λ (d : Device). d.tape) f.effect;
+        done_is_last = ap (λ (d : Device). d.tape) (end_rest port slot f.cause_bit o e.after_end new e.posts) ∙ ap (λ (d : Device). d.tape) f.effect;
         is_not_taken = done_gone old new e;
         bit_is_clear = ap (λ (p : DevicePort). if is_queued o then p.sact slot else p.ci slot) (done_port old new e) ∙ cleared (is_queued o) (old.port port) slot;
         ci_is_clear = λ queued before.
@@ -236,15 +236,15 @@ module _ (port slot : ℕ) where
   pub done_frees : (old new : Device) (going : IsInProgress old port slot 0 0) → is_queued going.fetched_command.meaning.operation ≡ false → EndsAndPosts (SendsEnd slot) port slot old new →
       IsFreeSlot (new.port port) slot
   done_frees old new going plain e =
-      let f : DoesDone port slot old e.mid = e.done in
+      let f : DoesDone port slot old e.after_end = e.done in
       let p : DevicePort = old.port port in
-      let state : DevicePort = port_after_flush (port_after_done p slot f.flag f.fetched_command.meaning.operation) f.fetched_command.meaning.operation (length old.tape) in
+      let state : DevicePort = port_after_flush (port_after_done p slot f.cause_bit f.fetched_command.meaning.operation) f.fetched_command.meaning.operation (length old.tape) in
       let same : f.fetched_command ≡ going.fetched_command = some_one (sym f.can.works.taken ∙ going.works.taken) in
       let issued : state.ci ≡ changed p.ci slot false =
       ap (λ b. if b then p.ci else changed p.ci slot false) (ap (λ (x : FetchedCommand). is_queued x.meaning.operation) same ∙ plain) in
       record {
-        ci = ap (λ (x : DevicePort). x.ci slot) (done_port old new e) ∙ (ap (λ (f : ℕ → Bool). f slot) issued ∙ changed_same p.ci slot false);
-        taken = done_gone old new e;
+        ci_is_clear = ap (λ (x : DevicePort). x.ci slot) (done_port old new e) ∙ (ap (λ (f : ℕ → Bool). f slot) issued ∙ changed_same p.ci slot false);
+        is_not_taken = done_gone old new e;
       }
 
   -- when nothing is left, it may end
@@ -272,11 +272,11 @@ holds h o port slot t works =
         works = λ m. record {
           taken = slot_taken (taken_in p.taken) w.0 slot w.1;
           working = record {
-            running = works.working.running;
+            cr_is_set = works.working.cr_is_set;
             present = works.working.present;
             fresh = works.working.fresh;
             admitted = subst (λ (x : FetchedCommand). admits (halt_of p.halting) x.meaning.operation ≡ true) w.2 works.working.admitted;
-            whole = works.working.whole;
+            is_not_broken = works.working.is_not_broken;
           };
         };
       },
@@ -311,7 +311,7 @@ next_has_move h o d port slot next r has same is =
 
 -- a move of a device is of a sector on its disk, if it is of one
 brings_on_disk : (disk : Disk) (memory : ℕ → ℕ) (t : FetchedCommand) (k : CommandKind) (bytes : List ℕ) → is_ranged (operation_of_kind k) ≡ true →
-    MayBring disk memory t (operation_of_kind k) bytes → next_sector t < disk.size
+    MayBring disk memory t (operation_of_kind k) bytes → next_sector t < disk.sector_count
 brings_on_disk disk memory t command_kind.Read bytes ranged brings = brings.0
 brings_on_disk disk memory t command_kind.Write bytes ranged brings = brings.0
 brings_on_disk disk memory t command_kind.ReadQueued bytes ranged brings = brings.0
@@ -322,8 +322,8 @@ brings_on_disk disk memory t command_kind.Trim bytes ranged brings = absurd (cc 
 brings_on_disk disk memory t command_kind.ReadLog bytes ranged brings = absurd (cc ranged)
 
 -- where a move may be made on a port that has disks, and its piece is in the memory, it is possible
-pub has_move : (d : Device) (port slot : ℕ) (t : FetchedCommand) (bytes : List ℕ) → ((sector : ℕ) → sector < (d.port port).disk.size → HasDisks d port) →
-    HasDisk d port t.meaning.operation → next_place t + 512 ≤ d.size → Can (Move port slot t bytes) d → HasMove d port slot t
+pub has_move : (d : Device) (port slot : ℕ) (t : FetchedCommand) (bytes : List ℕ) → ((sector : ℕ) → sector < (d.port port).disk.sector_count → HasDisks d port) →
+    HasDisksOrIsRanged d port t.meaning.operation → next_place t + 512 ≤ d.memory_size → Can (Move port slot t bytes) d → HasMove d port slot t
 has_move d port slot t bytes sized has inside can =
     record { works = can.works; piece_is_left = can.piece_is_left; piece_is_inside = inside; has_disks = elim has [ inl here ↦ here | inr ranged ↦ on ranged ] }
   where
@@ -388,9 +388,9 @@ next_has_clear h o d port slot most r has same holds can =
 
 -- ---- memory stays as large
 
-pub fetched_size : (port slot : ℕ) (did : Bool) (old new : Device) → (did ≡ true → DoesFetch port slot old new) → (did ≡ false → new ≡ old) → new.size ≡ old.size
-fetched_size port slot true old new fetched same = ap (λ (d : Device). d.size) (fetched refl).effect
-fetched_size port slot false old new fetched same = ap (λ (d : Device). d.size) (same refl)
+pub fetched_size : (port slot : ℕ) (did : Bool) (old new : Device) → (did ≡ true → DoesFetch port slot old new) → (did ≡ false → new ≡ old) → new.memory_size ≡ old.memory_size
+fetched_size port slot true old new fetched same = ap (λ (d : Device). d.memory_size) (fetched refl).effect
+fetched_size port slot false old new fetched same = ap (λ (d : Device). d.memory_size) (same refl)
 
 -- ---- a port past the last one
 
@@ -409,6 +409,6 @@ never_past h o port slot left clears past may = by may.is_begun_or_fetchable
     stopped : ((device_of h o).port port).cr ≡ true → ⊥
     stopped runs = let off : (slice_index_or h.ports port blank_port).cr ≡ false = ap (λ (p : PortModel). p.cr) (past_last h.ports port blank_port past) in true-false runs off
 
-    by : WorksOn (d.port port) slot may.fetched_command may.fetched_command.meaning.operation ⊎ (Can (Fetch port slot may.fetched_command.meaning may.fetched_command.places) d × (may.fetched_command ≡ begun may.fetched_command.meaning may.fetched_command.places)) → ⊥
-    by (inl works) = stopped works.working.running
-    by (inr begins) = stopped begins.0.working.running
+    by : WorksOn (d.port port) slot may.fetched_command may.fetched_command.meaning.operation ⊎ (Can (Fetch port slot may.fetched_command.meaning may.fetched_command.places) d × (may.fetched_command ≡ newly_fetched may.fetched_command.meaning may.fetched_command.places)) → ⊥
+    by (inl works) = stopped works.working.cr_is_set
+    by (inr begins) = stopped begins.0.working.cr_is_set

@@ -3,16 +3,16 @@ use Rattle.std.proofs.Common.{ℕ, length, Bool, zero, suc, true, false, ◌≡�
 use Rattle.std.proofs.lemmas.Bool.Decides.{eqb_tells}
 use Rattle.adapter.specs.Device.{DevicePort, Device}
 use Rattle.adapter.specs.Memory.{changed}
-use Rattle.adapter.specs.ToldSteps.{DoesSlotStep, DoesSlotSteps, SlotGoesOn}
+use Rattle.adapter.specs.AskedSteps.{DoesSlotStep, DoesSlotSteps, SlotGoesOn}
 use Rattle.adapter.specs.Steps.{MayLinkUp, port_after_clear, port_after_done, port_after_flush, port_after_fetch, port_after_link_up, port_after_move, with_port, port_after_reset}
 use Rattle.adapter.specs.Steps.DeviceTransition.{Fall, FrFall, LinkUp}
 use Rattle.device_model.proofs.Places.{fun_ext, changed_same, changed_other, changed_each}
 use Rattle.device_model.proofs.Own.{own_none, own_on, own_one}
 use Rattle.device_model.specs.WordBits.{word_bits}
 use Rattle.device_model.specs.HeldPorts.{IsPortHeld, IsPortReleased}
-use Rattle.device_model.specs.SentFises.{SendsEnd, SendsRegisters, signature_fis}
+use Rattle.device_model.specs.SentFises.{SendsEnd, SendsDeviceToHost, signature_fis}
 use Rattle.device_model.proofs.Posting.{end_rest}
-use Rattle.device_model.specs.ModelOwnSteps.{LeadsOwn, Settles, SettlesPort, IsSettled, IsSettledPort}
+use Rattle.device_model.specs.ModelOwnSteps.{LeadsBySteps, Settles, SettlesPort, IsSettled, IsSettledPort}
 use Rattle.device_model.specs.PortView.{Media, port_of, blank_port}
 use Rattle.device_model.specs.declared.port.PortModel.{PortModel}
 use Rattle.device_model.proofs.NewModel.{zero_bit}
@@ -35,11 +35,11 @@ with_twice d port a b =
     ]))
 
 pub goes_nowhere : (p : DevicePort) → SettlesPort p p
-goes_nowhere p held d port loose is = let P : Device → Type 0 = λ x. LeadsOwn (Settles held) d x in subst P (sym (with_same d port p is)) (own_none (Settles held) d)
+goes_nowhere p held d port loose is = let P : Device → Type 0 = λ x. LeadsBySteps (Settles held) d x in subst P (sym (with_same d port p is)) (own_none (Settles held) d)
 
 pub goes_on : (a b c : DevicePort) → SettlesPort a b → SettlesPort b c → SettlesPort a c
 goes_on a b c first then held d port loose is =
-    let P : Device → Type 0 = λ x. LeadsOwn (Settles held) (with_port d port b) x in
+    let P : Device → Type 0 = λ x. LeadsBySteps (Settles held) (with_port d port b) x in
     own_on (Settles held) d (with_port d port b) (with_port d port c) (first held d port loose is)
     (subst P (with_twice d port b c) (then held (with_port d port b) port loose (changed_same d.port port b)))
 
@@ -62,9 +62,9 @@ goes_area_fallen old new fre cr fr is held d port loose here =
 
 -- the link of a port in this state comes up, and the disk's first FIS is sent
 pub own_linked : (held : List Bool) (d linked new : Device) (port : ℕ) (p : DevicePort) → IsPortReleased held port → d.port port ≡ p → MayLinkUp p 0x101 →
-    linked ≡ with_port d port (port_after_link_up p 0x101 true) → SendsRegisters port (signature_fis (linked.port port)) linked new → LeadsOwn (Settles held) d new
+    linked ≡ with_port d port (port_after_link_up p 0x101 true) → SendsDeviceToHost port (signature_fis (linked.port port)) linked new → LeadsBySteps (Settles held) d new
 own_linked held d linked new port p loose here may is sends =
-    let P : Device → Type 0 = λ x. SendsRegisters port (signature_fis (x.port port)) x new in
+    let P : Device → Type 0 = λ x. SendsDeviceToHost port (signature_fis (x.port port)) x new in
     let same : linked ≡ with_port d port (port_after_link_up (d.port port) 0x101 true) = is ∙ ap (λ (x : DevicePort). with_port d port (port_after_link_up x 0x101 true)) (sym here) in
     own_one (Settles held) (LinkUp port 0x101 true) d new ((loose, refl, refl), tt) (subst (λ (x : DevicePort). MayLinkUp x 0x101) (sym here) may) (subst P same sends)
 
@@ -143,8 +143,8 @@ one_settled port slot old new (inr (inr (inr (most, c)))) =
     settled_with old new port (port_after_clear (old.port port) slot c.fetched_command c.first c.count) (ap (λ (d : Device). d.hr) c.effect) (ap (λ (d : Device). d.port) c.effect)
     (same _ _ refl refl refl refl refl refl refl)
 one_settled port slot old new (inr (inr (inl e))) =
-    let rest = end_rest port slot e.done.flag e.done.fetched_command.meaning.operation e.mid new e.posts in
-    settled_with old new port (port_after_flush (port_after_done (old.port port) slot e.done.flag e.done.fetched_command.meaning.operation) e.done.fetched_command.meaning.operation (length old.tape))
+    let rest = end_rest port slot e.done.cause_bit e.done.fetched_command.meaning.operation e.after_end new e.posts in
+    settled_with old new port (port_after_flush (port_after_done (old.port port) slot e.done.cause_bit e.done.fetched_command.meaning.operation) e.done.fetched_command.meaning.operation (length old.tape))
     (ap (λ (d : Device). d.hr) rest ∙ ap (λ (d : Device). d.hr) e.done.effect)
     (ap (λ (d : Device). d.port) rest ∙ ap (λ (d : Device). d.port) e.done.effect) (same _ _ refl refl refl refl refl refl refl)
 

@@ -1,7 +1,7 @@
 -- The disk that was last in is put in again, and what was in its cache is lost.
 use Rattle.std.proofs.Common.{ℕ, Bool, true, false, Option, Some, List, [], ◌∷◌, ◌++◌, ◌≡◌, ◌≢◌, ◌<◌, ◌≤◌, ◌+◌, ◌%◌, ◌^◌, ◌⊎◌, ◌&&◌, ◌∙◌, length, refl, ap, sym, subst, inl, inr, arith}
 use Rattle.std.specs.Prelude.{Contains, if◌then◌else◌, is_some, nat_eq, option_map, slice_set}
-use Rattle.adapter.specs.ToldSteps.{DoesPlug}
+use Rattle.adapter.specs.AskedSteps.{DoesPlug}
 use Rattle.adapter.specs.Device.{Device, Disk}
 use Rattle.adapter.specs.Steps.{device_after}
 use Rattle.adapter.specs.Steps.DeviceTransition.{Plug}
@@ -11,7 +11,7 @@ use Rattle.sector_store.specs.Stores.{AreSectors}
 use Rattle.sector_store.specs.declared.store.Failures.{Failures}
 use Rattle.std.proofs.lemmas.Option.{same_Some}
 use Rattle.device_model.specs.WriteCaches.{RollsBack, WritesFail, lasting_in, sector_told}
-use Rattle.device_model.specs.Disks.{LosesCache, bay_of, disk_in_bay, disk_number, identity, is_same, lasting_of, plugged_as}
+use Rattle.device_model.specs.Disks.{LosesCache, bay_of, disk_in_bay, disk_number, identity, is_same_index, lasting_of, plugged_as}
 use Rattle.device_model.specs.StepEffects.{LosesCacheIn, DidStep, IsLeftOut, LacksMemory, IsPossible}
 use Rattle.device_model.specs.ModelState.{device_at, media_of, all_media_at, tells}
 use Rattle.device_model.specs.OldSectors.{with_old_bytes}
@@ -78,15 +78,15 @@ again_never calls n some few same = omega (arith, some, few, same)
 
 -- what a store tells of writes of which so many have failed, one at least
 counted : (l : List ℕ) (was now : Option Failures) → WritesFail l was now → 1 ≤ length l →
-    (f : Failures) × (g : Failures) × (was ≡ Some f) × (now ≡ Some g) × (g.calls ≡ (f.calls + length l) % 2 ^ 64)
+    (f : Failures) × (g : Failures) × (was ≡ Some f) × (now ≡ Some g) × (g.failed_calls ≡ (f.failed_calls + length l) % 2 ^ 64)
 counted [] was now fail some = absurd (omega (arith, some))
-counted (s ∷ []) was now (mid, (f, is, next), same) some = (f, record { calls = (f.calls + 1) % 2 ^ 64; sector = s; is_write = true }, is, same ∙ next, refl)
+counted (s ∷ []) was now (mid, (f, is, next), same) some = (f, record { failed_calls = (f.failed_calls + 1) % 2 ^ 64; last_sector = s; last_is_write = true }, is, same ∙ next, refl)
 counted (s ∷ t ∷ l) was now (mid, (f, is, next), fail) some =
     let more = counted (t ∷ l) mid now fail (omega arith) in
     let h : Failures = more.0 in
     let g : Failures = more.1 in
-    let at : h.calls ≡ (f.calls + 1) % 2 ^ 64 = ap (λ (x : Failures). x.calls) (same_Some h (record { calls = (f.calls + 1) % 2 ^ 64; sector = s; is_write = true }) (sym more.2 ∙ next)) in
-    let up : g.calls ≡ (h.calls + length (t ∷ l)) % 2 ^ 64 = more.4 in
+    let at : h.failed_calls ≡ (f.failed_calls + 1) % 2 ^ 64 = ap (λ (x : Failures). x.failed_calls) (same_Some h (record { failed_calls = (f.failed_calls + 1) % 2 ^ 64; last_sector = s; last_is_write = true }) (sym more.2 ∙ next)) in
+    let up : g.failed_calls ≡ (h.failed_calls + length (t ∷ l)) % 2 ^ 64 = more.4 in
     (f, g, is, more.3, omega (arith, at, up))
 
 none_failed : (l : List ℕ) (was now : Option Failures) → WritesFail l was now → length l < 2 ^ 64 → now ≡ was → (k : ℕ) → Contains l k → ⊥
@@ -94,8 +94,8 @@ none_failed l was now fail few same k at =
     let c = counted l was now fail (omega (arith, at.1)) in
     let f : Failures = c.0 in
     let g : Failures = c.1 in
-    let one : g.calls ≡ f.calls = ap (λ (x : Failures). x.calls) (same_Some g f (sym c.3 ∙ (same ∙ c.2))) in
-    again_never f.calls (length l) (omega (arith, at.1)) few (sym one ∙ c.4)
+    let one : g.failed_calls ≡ f.failed_calls = ap (λ (x : Failures). x.failed_calls) (same_Some g f (sym c.3 ∙ (same ∙ c.2))) in
+    again_never f.failed_calls (length l) (omega (arith, at.1)) few (sym one ∙ c.4)
 
 module _ {S : Type 0} (size : S → ℕ) (told : S → Option (ℕ → List ℕ)) (failures : S → Option Failures) (into : Option (ℕ → List ℕ)) (was now : S) (t : RollsBack size told failures into was now)
     (fits : size was < 2 ^ 64) where
@@ -134,7 +134,7 @@ module _ {S : Type 0} (size : S → ℕ) (told : S → Option (ℕ → List ℕ)
             (ap (λ (x : Bay S). tells told (Some x)) rest))
             ∙ same (all_media_at size told m);
         held_ports_are = held;
-        page_source_is = seated_same m new p.0 a b was items (option_map (λ (x : Bay S). x.says)) (ap (λ (x : Bay S). Some x.says) rest) p.0;
+        page_source_is = seated_same m new p.0 a b was items (option_map (λ (x : Bay S). x.page_source)) (ap (λ (x : Bay S). Some x.page_source) rest) p.0;
         disk_index_is = seated_same m new p.0 a b was items (option_map (λ (x : Bay S). x.which)) (ap (λ (x : Bay S). Some x.which) rest) p.0;
         other_bays_are_kept = seated_others m new p.0 a b was items;
         disks_are_kept = λ w. seated_same m new p.0 a b was items (option_map (λ (x : Bay S). disk_in_bay x w)) (ap Some (kept w)) p.0;
@@ -144,22 +144,22 @@ module _ {S : Type 0} (size : S → ℕ) (told : S → Option (ℕ → List ℕ)
         starves_for_want = λ _. inr (may, lacks);
       }
 
-  module _ (lost : LosesCache size told failures a b) (rest : b ≡ record (with_back a b.disk.store) { later = b.later })
-      (later : (disk : DiskIndex → S → Disk) → plugged_as disk b.later ≡ plugged_as disk a.later ++ disk a.which b.disk.store ∷ []) where
+  module _ (lost : LosesCache size told failures a b) (rest : b ≡ record (with_back a b.disk.store) { plugged_later = b.plugged_later })
+      (later : (disk : DiskIndex → S → Disk) → plugged_as disk b.plugged_later ≡ plugged_as disk a.plugged_later ++ disk a.which b.disk.store ∷ []) where
     which_is : b.which ≡ a.which
     which_is = ap (λ (x : Bay S). x.which) rest
 
     tells_so : tells told (Some b) ≡ tells told (Some a)
     tells_so = ap (λ (x : Bay S). is_some (told b.disk.store) && is_some (told x.other.store)) rest ∙ ap (λ x. x && is_some (told a.other.store)) (lost_tells size told failures a b lost a.cache.is_on refl)
 
-    lasts : lasting_of told b ≡ (if is_same b.which a.which then lasting_of told a else told b.disk.store)
+    lasts : lasting_of told b ≡ (if is_same_index b.which a.which then lasting_of told a else told b.disk.store)
     lasts =
         ap (λ (x : Bay S). lasting_in x.cache (told b.disk.store) (told x.lasting.value)) rest
         ∙ (lost_lasts size told failures a b lost a.cache.is_on refl
-        ∙ ap (λ x. if x then lasting_of told a else told b.disk.store) (sym (ap (λ (w : DiskIndex). is_same w a.which) which_is ∙ same_self a.which)))
+        ∙ ap (λ x. if x then lasting_of told a else told b.disk.store) (sym (ap (λ (w : DiskIndex). is_same_index w a.which) which_is ∙ same_self a.which)))
 
-    later_so : (disk : DiskIndex → S → Disk) → plugged_as disk b.later ≡ plugged_as disk a.later ++ disk b.which b.disk.store ∷ []
-    later_so disk = later disk ∙ ap (λ (w : DiskIndex). plugged_as disk a.later ++ disk w b.disk.store ∷ []) (sym which_is)
+    later_so : (disk : DiskIndex → S → Disk) → plugged_as disk b.plugged_later ≡ plugged_as disk a.plugged_later ++ disk b.which b.disk.store ∷ []
+    later_so disk = later disk ∙ ap (λ (w : DiskIndex). plugged_as disk a.plugged_later ++ disk w b.disk.store ∷ []) (sym which_is)
 
     that : b.which ≡ a.which → (size b.disk.store ≡ size a.disk.store)
         × ((last comes : ℕ → List ℕ) → told a.disk.store ≡ Some last → told b.disk.store ≡ Some comes → (k : ℕ) →
@@ -170,10 +170,10 @@ module _ {S : Type 0} (size : S → ℕ) (told : S → Option (ℕ → List ℕ)
     first = ap (λ (x : Bay S). x.first) rest
 
     lost_out : (w : DiskIndex) → w ≢ a.which → disk_in_bay b w ≡ disk_in_bay a w
-    lost_out w ne = ap (λ (x : Bay S). disk_in_bay x w) rest ∙ kept_out (is_same w a.which) (record a.disk { store = b.disk.store }) a.disk a.other (not_same w a.which ne)
+    lost_out w ne = ap (λ (x : Bay S). disk_in_bay x w) rest ∙ kept_out (is_same_index w a.which) (record a.disk { store = b.disk.store }) a.disk a.other (not_same w a.which ne)
 
     lost_kept : {X : Type 0} (f : ModelDisk S → X) → f (record a.disk { store = b.disk.store }) ≡ f a.disk → (w : DiskIndex) → f (disk_in_bay b w) ≡ f (disk_in_bay a w)
-    lost_kept f same w = ap (λ (x : Bay S). f (disk_in_bay x w)) rest ∙ kept_in f (is_same w a.which) (record a.disk { store = b.disk.store }) a.disk a.other same
+    lost_kept f same w = ap (λ (x : Bay S). f (disk_in_bay x w)) rest ∙ kept_in f (is_same_index w a.which) (record a.disk { store = b.disk.store }) a.disk a.other same
 
     pub did_lose : p.0 < 4 → ((d : Device) → d ≡ device_at size told m → ((d.port p.0).present ≡ false)) → ((s : S) → AreSectors (size s) (told s)) →
         ((o : AllMedia) (disk : Disk) → disk.name ≡ disk_number a.which → true ≡ nat_eq disk.name (o.media p.0).disk.name → device_of new.hardware (all_media_after_plug o p.0 disk) ≡ device_after (Plug p.0 disk) (device_of m.hardware o)) →
@@ -182,18 +182,18 @@ module _ {S : Type 0} (size : S → ℕ) (told : S → Option (ℕ → List ℕ)
     did_lose small free are did starved =
         let may : IsPossible (asked.LosePlug p) (device_at size told m) = (small, has_disks size told m p.0 a was, free _ refl) in
         let name : disk_number a.which ≡ ((device_at size told m).port p.0).disk.name = sym (ap (λ x. (media_of size told x).disk.name) was) in
-        let so : (o : AllMedia) (disk : Disk) → disk.name ≡ disk_number a.which → is_same b.which a.which ≡ nat_eq disk.name (o.media p.0).disk.name →
+        let so : (o : AllMedia) (disk : Disk) → disk.name ≡ disk_number a.which → is_same_index b.which a.which ≡ nat_eq disk.name (o.media p.0).disk.name →
         device_of new.hardware (all_media_after_plug o p.0 disk) ≡ device_after (Plug p.0 disk) (device_of m.hardware o) =
-        λ o disk named same. did o disk named (sym (ap (λ (w : DiskIndex). is_same w a.which) which_is ∙ same_self a.which) ∙ same) in
+        λ o disk named same. did o disk named (sym (ap (λ (w : DiskIndex). is_same_index w a.which) which_is ∙ same_self a.which) ∙ same) in
         let P : ℕ → Type 0 = λ n. DoesPlug p.0 n (device_at size told m) (device_at size told new) in
         let both : Option (Bay S) → Option (Bay S) → Type 0 = λ x y. LosesCacheIn size told failures x y in (
           may,
           record {
             completes_or_fails = inl (record {
-              does_told_step = subst P name
+              does_asked_step = subst P name
                   (plugged_so size told failures m new p held queue accesses a b was items tells_so first later_so lasts that (disk_number a.which) (ap disk_number which_is) free are so);
               no_call_failed = λ no. true-false refl no;
-              page_source_is = seated_same m new p.0 a b was items (option_map (λ (x : Bay S). x.says)) (ap (λ (x : Bay S). Some x.says) rest) p.0;
+              page_source_is = seated_same m new p.0 a b was items (option_map (λ (x : Bay S). x.page_source)) (ap (λ (x : Bay S). Some x.page_source) rest) p.0;
               does_all_it_asks = λ _. tt;
               loses_cache = λ _. subst (λ x. both x (bay_of new p.0)) (sym was) (subst (both (Some a)) (sym (seated_here m new p.0 a b was items)) lost);
             });
@@ -205,6 +205,6 @@ module _ {S : Type 0} (size : S → ℕ) (told : S → Option (ℕ → List ℕ)
             step_keeps = seated_keeps m new p.0 a b was items size lost_out
                 (lost_kept (identity size) (ap (λ (n : ℕ). record { serial = a.disk.serial; size = n }) (lost_size size told failures a b lost a.cache.is_on refl)))
                 (ap (λ (x : Bay S). x.cache.is_on) rest) queue accesses;
-            starved = starved;
+            starved_is_kept = starved;
           },
         )

@@ -3,10 +3,10 @@ use Rattle.std.proofs.Common.{ℕ, true, false, zero, suc, ◌≡◌, ◌<◌, �
 use Rattle.std.specs.Prelude.{is_some}
 use Rattle.std.proofs.lemmas.Nat.Bits.{bit_at-zero}
 use Rattle.hba_regs.specs.Bits.{bit}
-use Rattle.adapter.specs.Device.{IsDisk}
+use Rattle.adapter.specs.Device.{HasValidSectors}
 use Rattle.adapter.specs.Idle.{IsIdlePort}
 use Rattle.device_model.specs.Disks.{disks_given_for}
-use Rattle.device_model.specs.ModelState.{IsNewMedia, IsNewPort, HasResetValues, all_tell, media_of}
+use Rattle.device_model.specs.ModelState.{IsNewMedia, IsNewPort, HasInitialValues, all_tell, media_of}
 use Rattle.device_model.specs.declared.disks.Disks.{Disks}
 use Rattle.device_model.specs.declared.disks.PortDisks.{PortDisks}
 use Rattle.sector_store.specs.Stores.{AreSectors}
@@ -32,17 +32,17 @@ abbrev pub IsIdleModel : PortModel → Type 0
 IsIdleModel p = (m : Media) → IsIdlePort (port_of p m)
 
 abbrev pub IsResetModel : PortModel → Type 0
-IsResetModel p = (m : Media) → HasResetValues (port_of p m)
+IsResetModel p = (m : Media) → HasInitialValues (port_of p m)
 
 pub blank_idle : IsIdleModel blank_port
 blank_idle = λ m. record {
-  st = refl;
-  cr = refl;
-  fre = refl;
-  fr = refl;
-  ci = zero_bit;
-  sact = zero_bit;
-  taken = λ slot. refl;
+  st_is_clear = refl;
+  cr_is_clear = refl;
+  fre_is_clear = refl;
+  fr_is_clear = refl;
+  ci_is_clear = zero_bit;
+  sact_is_clear = zero_bit;
+  none_is_taken = λ slot. refl;
 }
 
 -- what holds of four ports, each at its place, holds at each place, if past them it holds of a blank one
@@ -56,7 +56,7 @@ ports_are P a b c d pa pb pc pd (suc (suc (suc (suc k)))) past = past (omega ari
 
 -- what is behind a port is a disk, whatever disks the port has
 pub disks_are : {S : Type 0} (size : S → ℕ) (told : S → Option (ℕ → List ℕ)) → ((s : S) → AreSectors (size s) (told s)) → (bay : Option (Bay S)) →
-    IsDisk (media_of size told bay).disk
+    HasValidSectors (media_of size told bay).disk
 disks_are size told are None = λ f e k lt. absurd (omega (arith, lt))
 disks_are size told are (Some b) = λ f e. subst (λ (t : Option (ℕ → List ℕ)). AreSectors (size b.disk.store) t) e (are b.disk.store)
 
@@ -72,7 +72,7 @@ all_told told all (Some b ∷ bays) =
     ap (λ x. x && all_tell told bays) (both_tell (told b.disk.store) (told b.other.store) (all b.disk.store) (all b.other.store)) ∙ all_told told all bays
 
 -- a new port has in it what is given for it
-pub new_port : {S : Type 0} (size : S → ℕ) (told : S → Option (ℕ → List ℕ)) (given : Option (PortDisks S)) (p : PortModel) (m : Media) → p.present ≡ is_some given → p.lasting_at ≡ 0 →
+pub new_port : {S : Type 0} (size : S → ℕ) (told : S → Option (ℕ → List ℕ)) (given : Option (PortDisks S)) (p : PortModel) (m : Media) → p.present ≡ is_some given → p.lasting_tape_length ≡ 0 →
     IsNewMedia size told given m → IsNewPort size told given (port_of p m)
 new_port size told None p m present since is = (present, ap (λ (x : Media). x.plugged) is)
 new_port size told (Some disks) p m present since is = (present, is.0, is.1, λ i. record { sectors = is.2 i; tape_length = since i })

@@ -3,7 +3,7 @@ use Rattle.std.proofs.Common.{ℕ, length, Bool, zero, suc, true, false, ◌≡�
 use Rattle.std.proofs.lemmas.Bool.Decides.{eqb_tells}
 use Rattle.std.proofs.lemmas.List.Elements.{All-append, All-nil}
 use Rattle.std.specs.Prelude.{if◌then◌else◌, slice_index_or}
-use Rattle.adapter.specs.ToldSteps.{DoesFatal, DoesSlotStep, DoesSlotSteps, Fails, SlotGoesOn, fatal_bit}
+use Rattle.adapter.specs.AskedSteps.{DoesFatal, DoesSlotStep, DoesSlotSteps, FailsAndPosts, SlotGoesOn, fatal_bit}
 use Rattle.adapter.specs.Commands.{Meaning, is_queued}
 use Rattle.adapter.specs.Device.{DevicePort, Device, FetchedCommand}
 use Rattle.adapter.specs.Memory.{changed}
@@ -11,31 +11,31 @@ use Rattle.adapter.specs.declared.access.FatalError.{FatalError}
 use Rattle.adapter.specs.declared.command.Operation.{Operation}
 use Rattle.device_model.proofs.Absurd.{some-none, some_one, true-false}
 use Rattle.device_model.proofs.Places.{changed_other, changed_same}
-use Rattle.adapter.specs.Steps.{DeviceTransition, Can, Steps, device_after, begun, block_after, port_after_clear, port_after_done, port_after_flush, port_after_fault, port_after_fetch, port_after_move}
+use Rattle.adapter.specs.Steps.{DeviceTransition, Can, Steps, device_after, newly_fetched, block_after, port_after_clear, port_after_done, port_after_flush, port_after_fault, port_after_fetch, port_after_move}
 use Rattle.adapter.proofs.Runs.{Steps-one, Steps-refl, Steps-trans}
 use Rattle.adapter.specs.Steps.DeviceTransition.{Fetch, FetchFault, Move, Clear, Done, Fault, Fatal, Fall, FrFall, LinkUp, Unplug, Plug, ResetEnds, Scribble}
 use Rattle.device_model.specs.Finishing.{sends_page}
 use Rattle.device_model.specs.HeldPorts.{IsPortHeld, IsPortReleased}
-use Rattle.device_model.specs.SentFises.{SendsAfter, SendsEnd, SendsFailed, SendsFault}
-use Rattle.device_model.specs.ModelOwnSteps.{DoesOwn, EndsReset, SendsPages, IsOwnStep, LeadsOwn, LeadsSending}
+use Rattle.device_model.specs.SentFises.{SendsAfter, SendsEnd, SendsFaultOfOperation, SendsFault}
+use Rattle.device_model.specs.ModelOwnSteps.{DoesSpontaneousSteps, EndsResetUnlessHeld, SendsPages, IsSpontaneousStep, LeadsBySteps, LeadsSending}
 use Rattle.device_model.proofs.Posting.{after_rest, after_steps, end_rest, fault_rest}
 use Rattle.device_model.proofs.Transfers.{page_plain}
 
-pub own_none : (Own : DeviceTransition → Type 0) (d : Device) → LeadsOwn Own d d
+pub own_none : (Own : DeviceTransition → Type 0) (d : Device) → LeadsBySteps Own d d
 own_none Own d = record { steps = []; steps_are_own = All-nil Own; steps_lead = refl }
 
 all_one : {X : Type 0} (P : X → Type 0) (x : X) → P x → All P (x ∷ [])
 all_one P x here zero d small = here
 all_one P x here (suc k) d small = absurd (omega (arith, small))
 
-pub own_one : (Own : DeviceTransition → Type 0) (step : DeviceTransition) (old new : Device) → Own step → Can step old → SendsAfter step (device_after step old) new → LeadsOwn Own old new
+pub own_one : (Own : DeviceTransition → Type 0) (step : DeviceTransition) (old new : Device) → Own step → Can step old → SendsAfter step (device_after step old) new → LeadsBySteps Own old new
 own_one Own step old new own can sends = record { steps = step ∷ []; steps_are_own = all_one Own step own; steps_lead = (can, new, sends, refl) }
 
 leads_on : (first more : List DeviceTransition) (old mid new : Device) → LeadsSending first old mid → LeadsSending more mid new → LeadsSending (first ++ more) old new
 leads_on [] more old mid new e rest = let P : Device → Type 0 = λ d. LeadsSending more d new in subst P e rest
 leads_on (step ∷ steps) more old mid new (can, next, sends, lead) rest = (can, next, sends, leads_on steps more next mid new lead rest)
 
-pub own_on : (Own : DeviceTransition → Type 0) (old mid new : Device) → LeadsOwn Own old mid → LeadsOwn Own mid new → LeadsOwn Own old new
+pub own_on : (Own : DeviceTransition → Type 0) (old mid new : Device) → LeadsBySteps Own old mid → LeadsBySteps Own mid new → LeadsBySteps Own old new
 own_on Own old mid new a b = record {
   steps = a.steps ++ b.steps;
   steps_are_own = All-append Own a.steps b.steps a.steps_are_own b.steps_are_own;
@@ -47,10 +47,10 @@ leads_steps [] old new e = let P : Device → Type 0 = λ d. Steps old d in subs
 leads_steps (step ∷ steps) old new (can, next, sends, lead) =
     Steps-trans (Steps-one step old (device_after step old) can refl) (Steps-trans (after_steps step (device_after step old) next sends) (leads_steps steps next new lead))
 
-pub own_steps : (Own : DeviceTransition → Type 0) (old new : Device) → LeadsOwn Own old new → Steps old new
+pub own_steps : (Own : DeviceTransition → Type 0) (old new : Device) → LeadsBySteps Own old new → Steps old new
 own_steps Own old new d = leads_steps d.steps old new d.steps_lead
 
-pub reset_steps : (was held : List Bool) (old new : Device) → EndsReset was held old new → Steps old new
+pub reset_steps : (was held : List Bool) (old new : Device) → EndsResetUnlessHeld was held old new → Steps old new
 reset_steps was held old new (inl stays) = record { steps = []; lead = stays.2 }
 reset_steps was held old new (inr ends) = Steps-one ResetEnds old new ends.0 ends.3
 
@@ -74,13 +74,13 @@ one_keeps_present q port slot old new (inr (inl m)) =
 one_keeps_present q port slot old new (inr (inr (inr (most, c)))) =
     ap (λ (d : Device). (d.port q).present) c.effect ∙ present_with q old.port port (port_after_clear (old.port port) slot c.fetched_command c.first c.count) refl
 one_keeps_present q port slot old new (inr (inr (inl e))) =
-    ap (λ (d : Device). (d.port q).present) (end_rest port slot e.done.flag e.done.fetched_command.meaning.operation e.mid new e.posts)
-    ∙ (ap (λ (d : Device). (d.port q).present) e.done.effect ∙ present_with q old.port port (port_after_flush (port_after_done (old.port port) slot e.done.flag e.done.fetched_command.meaning.operation) e.done.fetched_command.meaning.operation (length old.tape)) refl)
+    ap (λ (d : Device). (d.port q).present) (end_rest port slot e.done.cause_bit e.done.fetched_command.meaning.operation e.after_end new e.posts)
+    ∙ (ap (λ (d : Device). (d.port q).present) e.done.effect ∙ present_with q old.port port (port_after_flush (port_after_done (old.port port) slot e.done.cause_bit e.done.fetched_command.meaning.operation) e.done.fetched_command.meaning.operation (length old.tape)) refl)
 
-pub fault_keeps_present : (q : ℕ) (port slot error kept : ℕ) (old new : Device) → Fails SendsFailed port slot error kept old new → (new.port q).present ≡ (old.port q).present
+pub fault_keeps_present : (q : ℕ) (port slot error kept : ℕ) (old new : Device) → FailsAndPosts SendsFaultOfOperation port slot error kept old new → (new.port q).present ≡ (old.port q).present
 fault_keeps_present q port slot error kept old new f =
     let queued : Bool = is_queued f.fault.fetched_command.meaning.operation in
-    ap (λ (d : Device). (d.port q).present) (fault_rest queued port f.mid new f.posts)
+    ap (λ (d : Device). (d.port q).present) (fault_rest queued port f.after_failure new f.posts)
     ∙ (ap (λ (d : Device). (d.port q).present) f.fault.effect ∙ present_with q old.port port (port_after_fault (old.port port) queued error kept) refl)
 
 pub fatal_keeps_present : (q : ℕ) (port : ℕ) (error : FatalError) (old new : Device) → DoesFatal port error old new → (new.port q).present ≡ (old.port q).present
@@ -117,8 +117,8 @@ module _ (P : Operation → List ℕ → Type 0) (is_plain : (o : Operation) (pl
   only_by_one : (old new : Device) → DoesSlotStep (SendsEnd slot) port slot old new → IsOnly P old port slot → IsOnly P new port slot
   only_by_one old new (inl f) only =
       let p : DevicePort = port_after_fetch (old.port port) slot f.meaning f.places in
-      only_with new p (begun f.meaning f.places) (ap (λ (d : Device). d.port port) f.effect ∙ changed_same old.port port p)
-      (changed_same (old.port port).taken slot (Some (begun f.meaning f.places))) (only.fetched f.meaning f.places f.can)
+      only_with new p (newly_fetched f.meaning f.places) (ap (λ (d : Device). d.port port) f.effect ∙ changed_same old.port port p)
+      (changed_same (old.port port).taken slot (Some (newly_fetched f.meaning f.places))) (only.fetched f.meaning f.places f.can)
   only_by_one old new (inr (inl m)) only =
       let p : DevicePort = port_after_move (old.port port) slot m.fetched_command m.bytes in
       let u : FetchedCommand = record m.fetched_command { moved = m.fetched_command.moved + 1; block = block_after m.fetched_command.meaning.operation m.bytes m.fetched_command.block } in
@@ -126,9 +126,9 @@ module _ (P : Operation → List ℕ → Type 0) (is_plain : (o : Operation) (pl
       (only.taken m.fetched_command m.can.works.taken)
   only_by_one old new (inr (inr (inl e))) only =
       let t : FetchedCommand = e.done.fetched_command in
-      let p : DevicePort = port_after_flush (port_after_done (old.port port) slot e.done.flag t.meaning.operation) t.meaning.operation (length old.tape) in
+      let p : DevicePort = port_after_flush (port_after_done (old.port port) slot e.done.cause_bit t.meaning.operation) t.meaning.operation (length old.tape) in
       let there : new.port port ≡ p =
-      ap (λ (d : Device). d.port port) (end_rest port slot e.done.flag t.meaning.operation e.mid new e.posts)
+      ap (λ (d : Device). d.port port) (end_rest port slot e.done.cause_bit t.meaning.operation e.after_end new e.posts)
       ∙ (ap (λ (d : Device). d.port port) e.done.effect ∙ changed_same old.port port p) in
       let none : (new.port port).taken slot ≡ None = ap (λ (x : DevicePort). x.taken slot) there ∙ changed_same (old.port port).taken slot None in
       let plain = is_plain t.meaning.operation t.places (only.taken t e.done.can.works.taken) in
@@ -157,22 +157,22 @@ module _ (P : Operation → List ℕ → Type 0) (is_page : (o : Operation) (pla
   plain : (o : Operation) (places : List ℕ) → P o places → is_queued o ≡ false
   plain o places holds = page_plain o (is_page o places holds)
 
-  own_by_one : (old new : Device) → DoesSlotStep (SendsEnd slot) port slot old new → IsOnly P old port slot → LeadsOwn (SendsPages held) old new
+  own_by_one : (old new : Device) → DoesSlotStep (SendsEnd slot) port slot old new → IsOnly P old port slot → LeadsBySteps (SendsPages held) old new
   own_by_one old new (inl f) only =
       own_one (SendsPages held) (Fetch port slot f.meaning f.places) old new ((loose, is_page _ _ (only.fetched f.meaning f.places f.can)), tt) f.can f.effect
   own_by_one old new (inr (inl m)) only =
       own_one (SendsPages held) (Move port slot m.fetched_command m.bytes) old new ((loose, is_page _ _ (only.taken m.fetched_command m.can.works.taken)), tt) m.can m.effect
   own_by_one old new (inr (inr (inl e))) only =
       let t : FetchedCommand = e.done.fetched_command in
-      let Sent : Device → Type 0 = λ d. SendsEnd slot port e.done.flag t.meaning.operation d new in
-      own_one (SendsPages held) (Done port slot e.done.flag t) old new ((loose, is_page _ _ (only.taken t e.done.can.works.taken)), tt) e.done.can
+      let Sent : Device → Type 0 = λ d. SendsEnd slot port e.done.cause_bit t.meaning.operation d new in
+      own_one (SendsPages held) (Done port slot e.done.cause_bit t) old new ((loose, is_page _ _ (only.taken t e.done.can.works.taken)), tt) e.done.can
       (subst Sent e.done.effect e.posts)
   own_by_one old new (inr (inr (inr (most, c)))) only =
       true-false (is_page _ _ (only.taken c.fetched_command c.can.works.taken)) (ap sends_page c.can.trim)
 
-  pub own_by_some : (n : ℕ) (old new : Device) → DoesSlotSteps (SendsEnd slot) n port slot old new → IsOnly P old port slot → LeadsOwn (SendsPages held) old new × IsOnly P new port slot
+  pub own_by_some : (n : ℕ) (old new : Device) → DoesSlotSteps (SendsEnd slot) n port slot old new → IsOnly P old port slot → LeadsBySteps (SendsPages held) old new × IsOnly P new port slot
   own_by_some zero old new e only =
-      let Q : Device → Type 0 = λ d. LeadsOwn (SendsPages held) old d × IsOnly P d port slot in
+      let Q : Device → Type 0 = λ d. LeadsBySteps (SendsPages held) old d × IsOnly P d port slot in
       subst Q (sym e) (own_none (SendsPages held) old, only)
   own_by_some (suc n) old new s only =
       let first = own_by_some n old s.0 s.1 only in (
@@ -182,7 +182,7 @@ module _ (P : Operation → List ℕ → Type 0) (is_page : (o : Operation) (pla
 
   -- a command went on, or didn't
   pub own_gone : (did : Bool) (old new : Device) → (did ≡ true → SlotGoesOn (SendsEnd slot) port slot old new) → (did ≡ false → new ≡ old) → IsOnly P old port slot →
-      LeadsOwn (SendsPages held) old new × IsOnly P new port slot
+      LeadsBySteps (SendsPages held) old new × IsOnly P new port slot
   own_gone true old new went same only = let g = went refl in own_by_some (suc g.0) old new g.1 only
   own_gone false old new went same only = own_by_some zero old new (same refl) only
 
@@ -193,7 +193,7 @@ module _ (held : List Bool) (port : ℕ) (is : IsPortHeld held port) where
   elsewhere : (q : ℕ) (p : DevicePort) (d : Device) → IsPortReleased held q → changed d.port q p port ≡ d.port port
   elsewhere q p d loose = changed_other d.port q p port (λ same. true-false is (ap (λ k. slice_index_or held k false) same ∙ loose))
 
-  one_stays : (step : DeviceTransition) (d : Device) → IsOwnStep held step → (device_after step d).port port ≡ d.port port
+  one_stays : (step : DeviceTransition) (d : Device) → IsSpontaneousStep held step → (device_after step d).port port ≡ d.port port
   one_stays (Fall q) d own = elsewhere q _ d own
   one_stays (FrFall q) d own = elsewhere q _ d own
   one_stays (LinkUp q sig n) d own = elsewhere q _ d own.0
@@ -209,13 +209,13 @@ module _ (held : List Bool) (port : ℕ) (is : IsPortHeld held port) where
   one_stays ResetEnds d own = absurd own
   one_stays (Scribble q slot at bytes) d own = absurd own
 
-  held_stays : (steps : List DeviceTransition) (old new : Device) → All (IsOwnStep held) steps → LeadsSending steps old new → new.port port ≡ old.port port
+  held_stays : (steps : List DeviceTransition) (old new : Device) → All (IsSpontaneousStep held) steps → LeadsSending steps old new → new.port port ≡ old.port port
   held_stays [] old new own e = ap (λ (d : Device). d.port port) e
   held_stays (step ∷ steps) old new own (can, next, sends, lead) =
       held_stays steps next new (λ k d small. own (suc k) d (omega (arith, small))) lead
       ∙ (ap (λ (d : Device). d.port port) (after_rest step (device_after step old) next sends) ∙ one_stays step old (own 0 step (omega arith)))
 
-  pub own_stays : (old new : Device) → DoesOwn held old new → new.port port ≡ old.port port
+  pub own_stays : (old new : Device) → DoesSpontaneousSteps held old new → new.port port ≡ old.port port
   own_stays old new d =
       held_stays d.sends_pages.steps d.settled new (λ k e small. (d.sends_pages.steps_are_own k e small).0) d.sends_pages.steps_lead
       ∙ held_stays d.settles_ports.steps old d.settled (λ k e small. (d.settles_ports.steps_are_own k e small).0) d.settles_ports.steps_lead

@@ -2,14 +2,14 @@
 use Rattle.std.proofs.Common.{ℕ, length, Bool, zero, suc, true, false, ◌≡◌, ◌≢◌, ◌<◌, ◌≤◌, ◌+◌, ◌^◌, ◌⊎◌, ◌∙◌, List, Option, None, Some, refl, sym, ap, subst, inl, inr, arith}
 use Rattle.std.specs.Prelude.{◌&&◌, not, if◌then◌else◌, is_some, option_map}
 use Rattle.std.proofs.lemmas.Bool.Decides.{eqb_tells}
-use Rattle.adapter.specs.Access.{note, noted}
-use Rattle.adapter.specs.ToldSteps.{DoesFetch, DoesSlotStep, DoesSlotSteps, SlotGoesOn}
+use Rattle.adapter.specs.Access.{notes_after_reading, device_after_reading}
+use Rattle.adapter.specs.AskedSteps.{DoesFetch, DoesSlotStep, DoesSlotSteps, SlotGoesOn}
 use Rattle.adapter.specs.Commands.{Meaning, is_queued, is_ranged}
 use Rattle.adapter.specs.Device.{Notes, DevicePort, Device, FetchedCommand}
 use Rattle.adapter.specs.Memory.{changed}
 use Rattle.adapter.specs.OneCommand.{IsFreeSlot}
 use Rattle.adapter.specs.Decoding.{DecodesTo}
-use Rattle.adapter.specs.Steps.{Can, IsFetchable, IsWorking, IsUnmixed, WorksOn, begun, port_after_clear, port_after_done, port_after_flush, port_after_fetch, port_after_move}
+use Rattle.adapter.specs.Steps.{Can, IsFetchable, IsWorking, IsUnmixed, WorksOn, newly_fetched, port_after_clear, port_after_done, port_after_flush, port_after_fetch, port_after_move}
 use Rattle.adapter.specs.Steps.DeviceTransition.{Fetch}
 use Rattle.adapter.specs.declared.command.Operation.{Operation}
 use Rattle.device_model.proofs.Absurd.{some-none, some_one, true-false}
@@ -21,8 +21,8 @@ use Rattle.ata_types.specs.declared.Port.{Port}
 use Rattle.ata_types.specs.declared.Slot.{Slot}
 use Rattle.adapter.specs.declared.access.DeviceStep.TheVariants as asked
 use Rattle.sector_store.specs.declared.store.Failures.{Failures}
-use Rattle.device_model.specs.StepEffects.{AnswersStep, LeavesMoves, AsksStore, Completes, DidStep, StepFails, FailsToClear, FailsToMove}
-use Rattle.device_model.specs.Finishing.{AreInside, HasPageCommand, FindsPageCommand, HasTakenCommand, IsCovered, MayFinish, MayTakePage, sends_page}
+use Rattle.device_model.specs.StepEffects.{AnswersStep, HasMovesOrClearsLeft, MayAskStore, Completes, DidStep, StepFails, FailsToClear, FailsToMove}
+use Rattle.device_model.specs.Finishing.{PiecesInside, HasPageCommand, FindsPageCommand, HasTakenCommand, HasMovesLeft, MayFinish, MayTakePage, sends_page}
 use Rattle.device_model.specs.ModelState.{device_at}
 use Rattle.device_model.specs.SentFises.{SendsEnd}
 use Rattle.device_model.specs.Slots.{IsNextMove}
@@ -47,7 +47,7 @@ use Rattle.device_model.proofs.TwoDisks.{each_port}
 
 -- a command that sends a page, and whose pieces have addresses of 32 bits
 abbrev pub IsPage : Operation → List ℕ → Type 0
-IsPage operation places = (sends_page operation ≡ true) × AreInside (2 ^ 32) places
+IsPage operation places = (sends_page operation ≡ true) × PiecesInside (2 ^ 32) places
 
 pub is_page : (o : Operation) (places : List ℕ) → IsPage o places → sends_page o ≡ true
 is_page o places page = page.0
@@ -60,7 +60,7 @@ only_of P d port slot left clears may holds = by may.is_begun_or_fetchable
     t : FetchedCommand
     t = may.fetched_command
 
-    by : WorksOn (d.port port) slot t t.meaning.operation ⊎ (Can (Fetch port slot t.meaning t.places) d × (t ≡ begun t.meaning t.places)) → IsOnly P d port slot
+    by : WorksOn (d.port port) slot t t.meaning.operation ⊎ (Can (Fetch port slot t.meaning t.places) d × (t ≡ newly_fetched t.meaning t.places)) → IsOnly P d port slot
     by (inl works) = record {
       taken = λ u is.
           let same : t ≡ u = some_one (sym works.taken ∙ is) in
@@ -77,7 +77,7 @@ only_of P d port slot left clears may holds = by may.is_begun_or_fetchable
     }
 
 pub has_only : (d : Device) (port slot : ℕ) → HasPageCommand d port slot → IsOnly IsPage d port slot
-has_only d port slot has = only_of IsPage d port slot has.left 0 has.may_finish (has.sends_page, has.addresses_are_low)
+has_only d port slot has = only_of IsPage d port slot has.moves_left 0 has.may_finish (has.sends_page, has.addresses_are_low)
 
 -- nor afterwards
 pub page_taken : (port slot : ℕ) (did : Bool) (old new : Device) → (did ≡ true → SlotGoesOn (SendsEnd slot) port slot old new) → (did ≡ false → new ≡ old) →
@@ -96,18 +96,18 @@ IsUnranged operation places = is_ranged operation ≡ false
 
 -- a Finish of it asks for none
 pub page_asks_none : (d : Device) (port slot left clears : ℕ) → HasPageCommand d port slot → (may : MayFinish d port slot left clears) →
-    LeavesMoves may.fetched_command.meaning.operation left clears → ⊥
+    HasMovesOrClearsLeft may.fetched_command.meaning.operation left clears → ⊥
 page_asks_none d port slot left clears has may asks = by asks
   where
     t : FetchedCommand
     t = may.fetched_command
 
-    kind : WorksOn (d.port port) slot t t.meaning.operation ⊎ (Can (Fetch port slot t.meaning t.places) d × (t ≡ begun t.meaning t.places)) →
+    kind : WorksOn (d.port port) slot t t.meaning.operation ⊎ (Can (Fetch port slot t.meaning t.places) d × (t ≡ newly_fetched t.meaning t.places)) →
         sends_page t.meaning.operation ≡ true
     kind (inl works) = ((has_only d port slot has).taken t works.taken).0
     kind (inr begins) = ((has_only d port slot has).fetched t.meaning t.places begins.0).0
 
-    by : LeavesMoves t.meaning.operation left clears → ⊥
+    by : HasMovesOrClearsLeft t.meaning.operation left clears → ⊥
     by (inl moves) = true-false moves.0 (page_unranged _ (kind may.is_begun_or_fetchable))
     by (inr some) =
         let none = page_cleared t.meaning.operation d.memory t clears (kind may.is_begun_or_fetchable) may.has_clears_left in absurd (omega (arith, some, none))
@@ -146,10 +146,10 @@ finish_keeps {S} size told failures old new p s false a has q w = each_port (opt
 -- a Move of what a Finish has begun asks for one only where the Finish does
 pub finish_moves : (p : Port) (s : Slot) (did : Bool) (old new : Device) (left clears : ℕ) → HasDisks old p.0 → 1 ≤ left →
     (did ≡ true → SlotGoesOn (SendsEnd s.0) p.0 s.0 old new) → (did ≡ false → new ≡ old) → MayFinish old p.0 s.0 left clears →
-    AsksStore (asked.Move p s) new → AsksStore (asked.Finish p s) old
+    MayAskStore (asked.Move p s) new → MayAskStore (asked.Finish p s) old
 finish_moves p s did old new left clears here some went stayed may moves = by (is_ranged may.fetched_command.meaning.operation) refl
   where
-    by : (b : Bool) → is_ranged may.fetched_command.meaning.operation ≡ b → AsksStore (asked.Finish p s) old
+    by : (b : Bool) → is_ranged may.fetched_command.meaning.operation ≡ b → MayAskStore (asked.Finish p s) old
     by true e = (here, moves.0, left, clears, may, inl (e, some))
     by false e =
         let only = only_of IsUnranged old p.0 s.0 left clears may e in
@@ -158,12 +158,12 @@ finish_moves p s did old new left clears here some went stayed may moves = by (i
 
 -- and so does a Finish that has a clear left
 pub finish_clears : (p : Port) (s : Slot) (old : Device) (left clears : ℕ) → HasDisks old p.0 → s.0 < 32 → 1 ≤ clears → MayFinish old p.0 s.0 left clears →
-    AsksStore (asked.Finish p s) old
+    MayAskStore (asked.Finish p s) old
 finish_clears p s old left clears here small some ready = (here, small, left, clears, ready, inr some)
 
 -- what the hardware moves next is a sector only where a Move moves one
 pub next_moves : (h : Hardware) (o : AllMedia) (d : Device) (p : Port) (s : Slot) (next : NextMove) (r : TakenCommand) → HasDisks d p.0 → s.0 < 32 →
-    device_of h o ≡ d → IsNextMove h p.0 s.0 next r → is_ranged (operation_of_kind next.command_kind) ≡ true → AsksStore (asked.Move p s) d
+    device_of h o ≡ d → IsNextMove h p.0 s.0 next r → is_ranged (operation_of_kind next.command_kind) ≡ true → MayAskStore (asked.Move p s) d
 next_moves h o d p s next r here small same is ranged = (
   small,
   taken_of r,
@@ -173,7 +173,7 @@ next_moves h o d p s next r here small same is ranged = (
 
 -- and else it is none
 pub next_unranged : (h : Hardware) (o : AllMedia) (d : Device) (p : Port) (s : Slot) (next : NextMove) (r : TakenCommand) → HasDisks d p.0 → s.0 < 32 →
-    device_of h o ≡ d → IsNextMove h p.0 s.0 next r → (AsksStore (asked.Move p s) d → ⊥) → is_ranged (operation_of_kind next.command_kind) ≡ false
+    device_of h o ≡ d → IsNextMove h p.0 s.0 next r → (MayAskStore (asked.Move p s) d → ⊥) → is_ranged (operation_of_kind next.command_kind) ≡ false
 next_unranged h o d p s next r here small same is none = by (is_ranged (operation_of_kind next.command_kind)) refl
   where
     by : (b : Bool) → is_ranged (operation_of_kind next.command_kind) ≡ b → is_ranged (operation_of_kind next.command_kind) ≡ false
@@ -197,7 +197,7 @@ may_only d port slot may = record {
 
 pub found_only : (d : Device) (port slot : ℕ) → MayTakePage d port slot ⊎ HasPageCommand d port slot → IsOnly BringsPage d port slot
 found_only d port slot (inl may) = may_only d port slot may
-found_only d port slot (inr has) = only_of BringsPage d port slot has.left 0 has.may_finish has.sends_page
+found_only d port slot (inr has) = only_of BringsPage d port slot has.moves_left 0 has.may_finish has.sends_page
 
 -- what a look at a slot has found
 pub found_ends : (d : Device) (port slot : ℕ) (ends : Bool) → not ends ≡ false → FindsPageCommand d port slot (Some ends) → HasPageCommand d port slot
@@ -212,13 +212,13 @@ found_stuck d port slot false e found = found
 pub taken_bars : (d : Device) (port slot k : ℕ) (t : FetchedCommand) → (d.port port).taken slot ≡ Some t → MayTakePage d port k → ⊥
 taken_bars d port slot k t is may = some-none is (alone_none (d.port port) may.meaning.operation (page_plain _ may.sends_page) may.can.is_unmixed slot)
 
-fetched_is : (port slot : ℕ) (old new : Device) (f : DoesFetch port slot old new) → (new.port port).taken ≡ changed (old.port port).taken slot (Some (begun f.meaning f.places))
+fetched_is : (port slot : ℕ) (old new : Device) (f : DoesFetch port slot old new) → (new.port port).taken ≡ changed (old.port port).taken slot (Some (newly_fetched f.meaning f.places))
 fetched_is port slot old new f =
     ap (λ (d : Device). (d.port port).taken) f.effect ∙ ap (λ (p : DevicePort). p.taken) (changed_same old.port port (port_after_fetch (old.port port) slot f.meaning f.places))
 
-fetched_taken : (port slot : ℕ) (old new : Device) (f : DoesFetch port slot old new) → (new.port port).taken slot ≡ Some (begun f.meaning f.places)
+fetched_taken : (port slot : ℕ) (old new : Device) (f : DoesFetch port slot old new) → (new.port port).taken slot ≡ Some (newly_fetched f.meaning f.places)
 fetched_taken port slot old new f =
-    ap (λ (g : ℕ → Option FetchedCommand). g slot) (fetched_is port slot old new f) ∙ changed_same (old.port port).taken slot (Some (begun f.meaning f.places))
+    ap (λ (g : ℕ → Option FetchedCommand). g slot) (fetched_is port slot old new f) ∙ changed_same (old.port port).taken slot (Some (newly_fetched f.meaning f.places))
 
 -- a port on which a command is taken is busy
 pub busy_bars : (d : Device) (port k : ℕ) → HasTakenCommand d port → MayTakePage d port k → ⊥
@@ -228,14 +228,14 @@ busy_bars d port k busy = taken_bars d port busy.0 k busy.1 busy.2
 pub fetched_busy : (port slot : ℕ) (did : Bool) (old new : Device) → (did ≡ true → DoesFetch port slot old new) →
     (did ≡ false → (m : Meaning) (places : List ℕ) → Can (Fetch port slot m places) old → ⊥) → (did ≡ false → new ≡ old) →
     MayTakePage old port slot ⊎ HasPageCommand old port slot → HasTakenCommand new port
-fetched_busy port slot true old new went never same there = let f = went refl in (slot, begun f.meaning f.places, fetched_taken port slot old new f)
+fetched_busy port slot true old new went never same there = let f = went refl in (slot, newly_fetched f.meaning f.places, fetched_taken port slot old new f)
 fetched_busy port slot false old new went never same (inl may) = absurd (never refl may.meaning may.places may.can)
 fetched_busy port slot false old new went never same (inr has) = by has.may_finish.is_begun_or_fetchable
   where
     t : FetchedCommand
     t = has.may_finish.fetched_command
 
-    by : WorksOn (old.port port) slot t t.meaning.operation ⊎ (Can (Fetch port slot t.meaning t.places) old × (t ≡ begun t.meaning t.places)) → HasTakenCommand new port
+    by : WorksOn (old.port port) slot t t.meaning.operation ⊎ (Can (Fetch port slot t.meaning t.places) old × (t ≡ newly_fetched t.meaning t.places)) → HasTakenCommand new port
     by (inl works) = (slot, t, ap (λ (d : Device). (d.port port).taken slot) (same refl) ∙ works.taken)
     by (inr may) = absurd (never refl t.meaning t.places may.0)
 
@@ -246,35 +246,35 @@ taken_has port slot k old new f has = by has.may_finish.is_begun_or_fetchable
     t : FetchedCommand
     t = has.may_finish.fetched_command
 
-    size : new.size ≡ old.size
-    size = ap (λ (d : Device). d.size) f.effect
+    size : new.memory_size ≡ old.memory_size
+    size = ap (λ (d : Device). d.memory_size) f.effect
 
-    by : WorksOn (new.port port) k t t.meaning.operation ⊎ (Can (Fetch port k t.meaning t.places) new × (t ≡ begun t.meaning t.places)) → HasPageCommand old port slot
+    by : WorksOn (new.port port) k t t.meaning.operation ⊎ (Can (Fetch port k t.meaning t.places) new × (t ≡ newly_fetched t.meaning t.places)) → HasPageCommand old port slot
     by (inr may) =
-        absurd (taken_bars new port slot k (begun f.meaning f.places) (fetched_taken port slot old new f)
+        absurd (taken_bars new port slot k (newly_fetched f.meaning f.places) (fetched_taken port slot old new f)
         (record { meaning = t.meaning; places = t.places; sends_page = has.sends_page; can = may.0 }))
     by (inl works) =
         elim (eqb_tells k slot) [
           | inl here ↦
               let P : ℕ → Type 0 = λ q. (new.port port).taken q ≡ Some t in
-              let one : t ≡ begun f.meaning f.places = some_one (sym (subst P here.1 works.taken) ∙ fetched_taken port slot old new f) in
-              let Q : ℕ → Type 0 = λ n. IsCovered t n has.left in
-              let R : FetchedCommand → Type 0 = λ x. IsCovered x old.size has.left in
+              let one : t ≡ newly_fetched f.meaning f.places = some_one (sym (subst P here.1 works.taken) ∙ fetched_taken port slot old new f) in
+              let Q : ℕ → Type 0 = λ n. HasMovesLeft t n has.moves_left in
+              let R : FetchedCommand → Type 0 = λ x. HasMovesLeft x old.memory_size has.moves_left in
               record {
-                left = has.left;
+                moves_left = has.moves_left;
                 may_finish = record {
-                  fetched_command = begun f.meaning f.places;
+                  fetched_command = newly_fetched f.meaning f.places;
                   is_covered = subst R one (subst Q size has.may_finish.is_covered);
-                  has_clears_left = page_clears f.meaning.operation old.memory (begun f.meaning f.places)
+                  has_clears_left = page_clears f.meaning.operation old.memory (newly_fetched f.meaning f.places)
                       (ap (λ (x : FetchedCommand). sends_page x.meaning.operation) (sym one) ∙ has.sends_page);
                   is_begun_or_fetchable = inr (f.can, refl);
                 };
                 sends_page = ap (λ (x : FetchedCommand). sends_page x.meaning.operation) (sym one) ∙ has.sends_page;
-                addresses_are_low = subst (λ (x : FetchedCommand). AreInside (2 ^ 32) x.places) one has.addresses_are_low;
+                addresses_are_low = subst (λ (x : FetchedCommand). PiecesInside (2 ^ 32) x.places) one has.addresses_are_low;
               }
           | inr there ↦
               let was : (old.port port).taken k ≡ Some t =
-              sym (changed_other (old.port port).taken slot (Some (begun f.meaning f.places)) k there.1)
+              sym (changed_other (old.port port).taken slot (Some (newly_fetched f.meaning f.places)) k there.1)
               ∙ (ap (λ (g : ℕ → Option FetchedCommand). g k) (sym (fetched_is port slot old new f)) ∙ works.taken) in
               let no : (is_queued f.meaning.operation && is_queued t.meaning.operation) ≡ false =
               plain_right (is_queued f.meaning.operation) (is_queued t.meaning.operation) (page_plain _ has.sends_page) in
@@ -290,12 +290,12 @@ fetched_has port slot k false old new went never may has = absurd (never refl ma
 -- one that can be done to its end still can be once it is taken
 pub fetched_left : (port slot : ℕ) (did : Bool) (old new : Device) (has : HasPageCommand old port slot) → (did ≡ true → DoesFetch port slot old new) →
     (did ≡ false → new ≡ old) → (did ≡ false → (m : Meaning) (places : List ℕ) → Can (Fetch port slot m places) old → ⊥) →
-    (now : HasPageCommand new port slot) × (now.left ≡ has.left)
+    (now : HasPageCommand new port slot) × (now.moves_left ≡ has.moves_left)
 fetched_left port slot did old new has went same never =
-    let going = fetched_goes port slot has.left 0 did old new has.may_finish went same never in
+    let going = fetched_goes port slot has.moves_left 0 did old new has.may_finish went same never in
     let page = page_taken port slot did old new (λ e. goes_one (SendsEnd slot) port slot old new (inl (went e))) same has going.fetched_command going.works.taken in (
       record {
-        left = has.left;
+        moves_left = has.moves_left;
         may_finish = record { fetched_command = going.fetched_command; is_covered = going.is_covered; has_clears_left = going.has_clears_left; is_begun_or_fetchable = inl going.works };
         sends_page = page.0;
         addresses_are_low = page.1;
@@ -364,9 +364,9 @@ one_elsewhere port slot old new (inr (inr (inr (most, c)))) k ne =
     let p : DevicePort = port_after_clear (old.port port) slot c.fetched_command c.first c.count in
     weight_with old new port p k (ap (λ (d : Device). d.port port) c.effect ∙ changed_same old.port port p) refl (changed_other (old.port port).taken slot _ k ne)
 one_elsewhere port slot old new (inr (inr (inl e))) k ne =
-    let p : DevicePort = port_after_flush (port_after_done (old.port port) slot e.done.flag e.done.fetched_command.meaning.operation) e.done.fetched_command.meaning.operation (length old.tape) in
+    let p : DevicePort = port_after_flush (port_after_done (old.port port) slot e.done.cause_bit e.done.fetched_command.meaning.operation) e.done.fetched_command.meaning.operation (length old.tape) in
     weight_with old new port p k
-    (ap (λ (d : Device). d.port port) (end_rest port slot e.done.flag e.done.fetched_command.meaning.operation e.mid new e.posts)
+    (ap (λ (d : Device). d.port port) (end_rest port slot e.done.cause_bit e.done.fetched_command.meaning.operation e.after_end new e.posts)
     ∙ (ap (λ (d : Device). d.port port) e.done.effect ∙ changed_same old.port port p))
     (kept_other (is_queued e.done.fetched_command.meaning.operation) (old.port port).ci slot k ne) (changed_other (old.port port).taken slot None k ne)
 
@@ -381,10 +381,10 @@ fewer_left port slot old new small has went free =
     total_less (weight new port) (weight old port) slot 32 small (some_elsewhere (suc went.0) port slot old new went.1) (less has.may_finish.is_begun_or_fetchable)
   where
     none : weight new port slot ≡ 0
-    none = λ i. (if free.ci i then 1 else 0) + (if is_some (free.taken i) then 1 else 0)
+    none = λ i. (if free.ci_is_clear i then 1 else 0) + (if is_some (free.is_not_taken i) then 1 else 0)
 
     less : WorksOn (old.port port) slot has.may_finish.fetched_command has.may_finish.fetched_command.meaning.operation
-        ⊎ (Can (Fetch port slot has.may_finish.fetched_command.meaning has.may_finish.fetched_command.places) old × (has.may_finish.fetched_command ≡ begun has.may_finish.fetched_command.meaning has.may_finish.fetched_command.places)) →
+        ⊎ (Can (Fetch port slot has.may_finish.fetched_command.meaning has.may_finish.fetched_command.places) old × (has.may_finish.fetched_command ≡ newly_fetched has.may_finish.fetched_command.meaning has.may_finish.fetched_command.places)) →
         weight new port slot < weight old port slot
     less (inl works) =
         let one : weight old port slot ≡ (if (old.port port).ci slot then 1 else 0) + 1 =
@@ -397,59 +397,59 @@ fewer_left port slot old new small has went free =
 
 -- ---- a command of one port leaves the others
 
-one_apart : (port slot : ℕ) (old new : Device) → DoesSlotStep (SendsEnd slot) port slot old new → (new.size ≡ old.size) × ((q : ℕ) → q ≢ port → new.port q ≡ old.port q)
+one_apart : (port slot : ℕ) (old new : Device) → DoesSlotStep (SendsEnd slot) port slot old new → (new.memory_size ≡ old.memory_size) × ((q : ℕ) → q ≢ port → new.port q ≡ old.port q)
 one_apart port slot old new (inl f) = (
-  ap (λ (d : Device). d.size) f.effect,
+  ap (λ (d : Device). d.memory_size) f.effect,
   λ q ne. ap (λ (d : Device). d.port q) f.effect ∙ changed_other old.port port (port_after_fetch (old.port port) slot f.meaning f.places) q ne,
 )
 one_apart port slot old new (inr (inl m)) = (
-  ap (λ (d : Device). d.size) m.effect,
+  ap (λ (d : Device). d.memory_size) m.effect,
   λ q ne. ap (λ (d : Device). d.port q) m.effect ∙ changed_other old.port port (port_after_move (old.port port) slot m.fetched_command m.bytes) q ne,
 )
 one_apart port slot old new (inr (inr (inr (most, c)))) = (
-  ap (λ (d : Device). d.size) c.effect,
+  ap (λ (d : Device). d.memory_size) c.effect,
   λ q ne. ap (λ (d : Device). d.port q) c.effect ∙ changed_other old.port port (port_after_clear (old.port port) slot c.fetched_command c.first c.count) q ne,
 )
 one_apart port slot old new (inr (inr (inl e))) =
-    let rest = end_rest port slot e.done.flag e.done.fetched_command.meaning.operation e.mid new e.posts in (
-      ap (λ (d : Device). d.size) rest ∙ ap (λ (d : Device). d.size) e.done.effect,
+    let rest = end_rest port slot e.done.cause_bit e.done.fetched_command.meaning.operation e.after_end new e.posts in (
+      ap (λ (d : Device). d.memory_size) rest ∙ ap (λ (d : Device). d.memory_size) e.done.effect,
       λ q ne.
           ap (λ (d : Device). d.port q) rest
           ∙ (ap (λ (d : Device). d.port q) e.done.effect
-          ∙ changed_other old.port port (port_after_flush (port_after_done (old.port port) slot e.done.flag e.done.fetched_command.meaning.operation) e.done.fetched_command.meaning.operation (length old.tape)) q ne),
+          ∙ changed_other old.port port (port_after_flush (port_after_done (old.port port) slot e.done.cause_bit e.done.fetched_command.meaning.operation) e.done.fetched_command.meaning.operation (length old.tape)) q ne),
     )
 
-some_apart : (n port slot : ℕ) (old new : Device) → DoesSlotSteps (SendsEnd slot) n port slot old new → (new.size ≡ old.size) × ((q : ℕ) → q ≢ port → new.port q ≡ old.port q)
-some_apart zero port slot old new e = (ap (λ (d : Device). d.size) e, λ q ne. ap (λ (d : Device). d.port q) e)
+some_apart : (n port slot : ℕ) (old new : Device) → DoesSlotSteps (SendsEnd slot) n port slot old new → (new.memory_size ≡ old.memory_size) × ((q : ℕ) → q ≢ port → new.port q ≡ old.port q)
+some_apart zero port slot old new e = (ap (λ (d : Device). d.memory_size) e, λ q ne. ap (λ (d : Device). d.port q) e)
 some_apart (suc n) port slot old new s =
     let first = some_apart n port slot old s.0 s.1 in
     let last = one_apart port slot s.0 new s.2 in
     (last.0 ∙ first.0, λ q ne. last.1 q ne ∙ first.1 q ne)
 
-pub gone_apart : (port slot : ℕ) (old new : Device) → SlotGoesOn (SendsEnd slot) port slot old new → (new.size ≡ old.size) × ((q : ℕ) → q ≢ port → new.port q ≡ old.port q)
+pub gone_apart : (port slot : ℕ) (old new : Device) → SlotGoesOn (SendsEnd slot) port slot old new → (new.memory_size ≡ old.memory_size) × ((q : ℕ) → q ≢ port → new.port q ≡ old.port q)
 gone_apart port slot old new went = some_apart (suc went.0) port slot old new went.1
 
 pub fetched_apart : (port slot : ℕ) (did : Bool) (old new : Device) → (did ≡ true → DoesFetch port slot old new) → (did ≡ false → new ≡ old) →
-    (new.size ≡ old.size) × ((q : ℕ) → q ≢ port → new.port q ≡ old.port q)
+    (new.memory_size ≡ old.memory_size) × ((q : ℕ) → q ≢ port → new.port q ≡ old.port q)
 fetched_apart port slot true old new went same = one_apart port slot old new (inl (went refl))
-fetched_apart port slot false old new went same = (ap (λ (d : Device). d.size) (same refl), λ q ne. ap (λ (d : Device). d.port q) (same refl))
+fetched_apart port slot false old new went same = (ap (λ (d : Device). d.memory_size) (same refl), λ q ne. ap (λ (d : Device). d.port q) (same refl))
 
 -- so what such a port has taken, and can be done to its end, still can be, and could before
-pub page_stays : (old new : Device) (port k : ℕ) → new.port port ≡ old.port port → new.size ≡ old.size → HasTakenCommand old port → (has : HasPageCommand old port k) →
-    (now : HasPageCommand new port k) × (now.left ≡ has.left)
+pub page_stays : (old new : Device) (port k : ℕ) → new.port port ≡ old.port port → new.memory_size ≡ old.memory_size → HasTakenCommand old port → (has : HasPageCommand old port k) →
+    (now : HasPageCommand new port k) × (now.moves_left ≡ has.moves_left)
 page_stays old new port k same size busy has = by has.may_finish.is_begun_or_fetchable
   where
     t : FetchedCommand
     t = has.may_finish.fetched_command
 
-    by : WorksOn (old.port port) k t t.meaning.operation ⊎ (Can (Fetch port k t.meaning t.places) old × (t ≡ begun t.meaning t.places)) →
-        (now : HasPageCommand new port k) × (now.left ≡ has.left)
+    by : WorksOn (old.port port) k t t.meaning.operation ⊎ (Can (Fetch port k t.meaning t.places) old × (t ≡ newly_fetched t.meaning t.places)) →
+        (now : HasPageCommand new port k) × (now.moves_left ≡ has.moves_left)
     by (inr may) = absurd (busy_bars old port k busy (record { meaning = t.meaning; places = t.places; sends_page = has.sends_page; can = may.0 }))
     by (inl works) =
         let P : DevicePort → Type 0 = λ p. WorksOn p k t t.meaning.operation in
-        let Q : ℕ → Type 0 = λ n. IsCovered t n has.left in (
+        let Q : ℕ → Type 0 = λ n. HasMovesLeft t n has.moves_left in (
           record {
-            left = has.left;
+            moves_left = has.moves_left;
             may_finish = record {
               fetched_command = t;
               is_covered = subst Q (sym size) has.may_finish.is_covered;
@@ -468,14 +468,14 @@ busy_stays old new port same busy = (busy.0, busy.1, ap (λ (p : DevicePort). p.
 -- ---- a reading leaves none where none was left
 
 working_noted : (p : DevicePort) (n : Notes) (operation : Operation) → IsWorking (record p { notes = n }) operation → IsWorking p operation
-working_noted p n operation w = record { running = w.running; present = w.present; fresh = w.fresh; admitted = w.admitted; whole = w.whole }
+working_noted p n operation w = record { cr_is_set = w.cr_is_set; present = w.present; fresh = w.fresh; admitted = w.admitted; is_not_broken = w.is_not_broken }
 
 works_noted : (p : DevicePort) (n : Notes) (slot : ℕ) (t : FetchedCommand) (operation : Operation) → WorksOn (record p { notes = n }) slot t operation → WorksOn p slot t operation
 works_noted p n slot t operation w = record { taken = w.taken; working = working_noted p n operation w.working }
 
 has_noted : (d : Device) (f : ℕ → DevicePort) (n : Notes) (port slot : ℕ) → f port ≡ record (d.port port) { notes = n } → HasPageCommand (record d { port = f }) port slot → HasPageCommand d port slot
 has_noted d f n port slot is has = record {
-  left = has.left;
+  moves_left = has.moves_left;
   may_finish = record {
     fetched_command = has.may_finish.fetched_command;
     is_covered = has.may_finish.is_covered;
@@ -489,15 +489,15 @@ has_noted d f n port slot is has = record {
     t : FetchedCommand
     t = has.may_finish.fetched_command
 
-    by : WorksOn (f port) slot t t.meaning.operation ⊎ (Can (Fetch port slot t.meaning t.places) (record d { port = f }) × (t ≡ begun t.meaning t.places)) →
-        WorksOn (d.port port) slot t t.meaning.operation ⊎ (Can (Fetch port slot t.meaning t.places) d × (t ≡ begun t.meaning t.places))
+    by : WorksOn (f port) slot t t.meaning.operation ⊎ (Can (Fetch port slot t.meaning t.places) (record d { port = f }) × (t ≡ newly_fetched t.meaning t.places)) →
+        WorksOn (d.port port) slot t t.meaning.operation ⊎ (Can (Fetch port slot t.meaning t.places) d × (t ≡ newly_fetched t.meaning t.places))
     by (inl works) = inl (works_noted (d.port port) n slot t t.meaning.operation (subst (λ (p : DevicePort). WorksOn p slot t t.meaning.operation) is works))
     by (inr may) =
         let fetchable = subst (λ (p : DevicePort). IsFetchable p slot) is may.0.fetchable in
         let working = subst (λ (p : DevicePort). IsWorking p t.meaning.operation) is may.0.working in
         inr (
           record {
-            fetchable = record { st = fetchable.st; issued = fetchable.issued; free = fetchable.free };
+            fetchable = record { st_is_set = fetchable.st_is_set; issued = fetchable.issued; free = fetchable.free };
             working = working_noted (d.port port) n t.meaning.operation working;
             is_unmixed = subst (λ (p : DevicePort). IsUnmixed p t.meaning.operation) is may.0.is_unmixed;
             says = subst (λ (p : DevicePort). DecodesTo d.memory p.bases.clb slot t.meaning t.places) is may.0.says;
@@ -514,21 +514,21 @@ may_noted d f n port slot is may =
       places = may.places;
       sends_page = may.sends_page;
       can = record {
-        fetchable = record { st = fetchable.st; issued = fetchable.issued; free = fetchable.free };
+        fetchable = record { st_is_set = fetchable.st_is_set; issued = fetchable.issued; free = fetchable.free };
         working = working_noted (d.port port) n may.meaning.operation working;
         is_unmixed = subst (λ (p : DevicePort). IsUnmixed p may.meaning.operation) is may.can.is_unmixed;
         says = subst (λ (p : DevicePort). DecodesTo d.memory p.bases.clb slot may.meaning may.places) is may.can.says;
       };
     }
 
-pub noted_may : (r : Reg) (v : ℕ) (d : Device) (port slot : ℕ) → MayTakePage (noted r v d) port slot → MayTakePage d port slot
+pub noted_may : (r : Reg) (v : ℕ) (d : Device) (port slot : ℕ) → MayTakePage (device_after_reading r v d) port slot → MayTakePage d port slot
 noted_may (Px q r) v d port slot may =
-    let p : DevicePort = record (d.port q.0) { notes = note r v (d.port q.0) } in
+    let p : DevicePort = record (d.port q.0) { notes = notes_after_reading r v (d.port q.0) } in
     elim (eqb_tells port q.0) [
       | inl here ↦
           let same : port ≡ q.0 = here.1 in
-          may_noted d (changed d.port q.0 p) (note r v (d.port q.0)) port slot
-          (ap (λ k. changed d.port q.0 p k) same ∙ (changed_same d.port q.0 p ∙ ap (λ k. record (d.port k) { notes = note r v (d.port q.0) }) (sym same))) may
+          may_noted d (changed d.port q.0 p) (notes_after_reading r v (d.port q.0)) port slot
+          (ap (λ k. changed d.port q.0 p k) same ∙ (changed_same d.port q.0 p ∙ ap (λ k. record (d.port k) { notes = notes_after_reading r v (d.port q.0) }) (sym same))) may
       | inr there ↦ may_noted d (changed d.port q.0 p) (d.port port).notes port slot (changed_other d.port q.0 p port there.1) may
     ]
 noted_may Cap v d port slot may = may
@@ -539,14 +539,14 @@ noted_may Vs v d port slot may = may
 noted_may Cap2 v d port slot may = may
 noted_may Bohc v d port slot may = may
 
-pub noted_page : (r : Reg) (v : ℕ) (d : Device) (port slot : ℕ) → HasPageCommand (noted r v d) port slot → HasPageCommand d port slot
+pub noted_page : (r : Reg) (v : ℕ) (d : Device) (port slot : ℕ) → HasPageCommand (device_after_reading r v d) port slot → HasPageCommand d port slot
 noted_page (Px q r) v d port slot has =
-    let p : DevicePort = record (d.port q.0) { notes = note r v (d.port q.0) } in
+    let p : DevicePort = record (d.port q.0) { notes = notes_after_reading r v (d.port q.0) } in
     elim (eqb_tells port q.0) [
       | inl here ↦
           let same : port ≡ q.0 = here.1 in
-          has_noted d (changed d.port q.0 p) (note r v (d.port q.0)) port slot
-          (ap (λ k. changed d.port q.0 p k) same ∙ (changed_same d.port q.0 p ∙ ap (λ k. record (d.port k) { notes = note r v (d.port q.0) }) (sym same))) has
+          has_noted d (changed d.port q.0 p) (notes_after_reading r v (d.port q.0)) port slot
+          (ap (λ k. changed d.port q.0 p k) same ∙ (changed_same d.port q.0 p ∙ ap (λ k. record (d.port k) { notes = notes_after_reading r v (d.port q.0) }) (sym same))) has
       | inr there ↦ has_noted d (changed d.port q.0 p) (d.port port).notes port slot (changed_other d.port q.0 p port there.1) has
     ]
 noted_page Cap v d port slot has = has

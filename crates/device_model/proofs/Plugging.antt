@@ -1,7 +1,7 @@
 -- A disk is put into a port, or isn't.
 use Rattle.std.proofs.Common.{ℕ, true, false, ◌⊎◌, ◌≡◌, ◌<◌, ◌∙◌, ◌++◌, ◌∷◌, [], List, Option, Some, refl, sym, ap, inl, inr, arith}
 use Rattle.std.specs.Prelude.{if◌then◌else◌, is_some, nat_eq, option_map, slice_set}
-use Rattle.adapter.specs.ToldSteps.{DoesPlug}
+use Rattle.adapter.specs.AskedSteps.{DoesPlug}
 use Rattle.adapter.specs.Device.{Device, Disk}
 use Rattle.std.proofs.lemmas.Option.{same_Some}
 use Rattle.adapter.specs.Steps.{device_after}
@@ -12,10 +12,10 @@ use Rattle.adapter.specs.declared.tape.Entry.TheVariants as entry
 use Rattle.ata_types.specs.declared.Port.{Port}
 use Rattle.sector_store.specs.Stores.{AreSectors}
 use Rattle.sector_store.specs.declared.store.Failures.{Failures}
-use Rattle.device_model.specs.Disks.{bay_of, disk_in_bay, disk_number, disk_over, identity, is_same, lasting_of, plugged_as}
+use Rattle.device_model.specs.Disks.{bay_of, disk_in_bay, disk_number, disk_over, identity, is_same_index, lasting_of, plugged_as}
 use Rattle.device_model.specs.StepEffects.{DidStep, IsLeftOut, LacksMemory, IsPossible}
 use Rattle.device_model.specs.ModelState.{device_at, media_of, all_media_at, tells}
-use Rattle.device_model.specs.ToldDisks.{bay_told, each_tells}
+use Rattle.device_model.specs.ToldDisks.{bay_disk_has_known_sectors, each_tells}
 use Rattle.device_model.specs.WholeAdapter.{AllMedia, device_of, media_after_plug, all_media_after_plug}
 use Rattle.device_model.specs.declared.bay.Bay.{Bay}
 use Rattle.device_model.specs.declared.disks.ModelDisk.{ModelDisk}
@@ -28,14 +28,14 @@ use Rattle.device_model.proofs.NewModel.{disks_are}
 use Rattle.device_model.proofs.Telling.{gains_one}
 use Rattle.device_model.proofs.TwoDisks.{both_turned, has_disks, in_kept, number_small, of_number, one_number, seated_behind, seated_here, seated_keeps, seated_others, seated_outside, seated_same}
 
-same_number : (w v : DiskIndex) → is_same w v ≡ nat_eq (disk_number w) (disk_number v)
+same_number : (w v : DiskIndex) → is_same_index w v ≡ nat_eq (disk_number w) (disk_number v)
 same_number Disk0 Disk0 = refl
 same_number Disk0 Disk1 = refl
 same_number Disk1 Disk0 = refl
 same_number Disk1 Disk1 = refl
 
 -- whichever it is, by its name
-by_name : (w v : DiskIndex) (was comes : Option (ℕ → List ℕ)) → (if is_same w v then was else comes) ≡ (if nat_eq (disk_number w) (disk_number v) then was else comes)
+by_name : (w v : DiskIndex) (was comes : Option (ℕ → List ℕ)) → (if is_same_index w v then was else comes) ≡ (if nat_eq (disk_number w) (disk_number v) then was else comes)
 by_name w v was comes = ap (λ x. if x then was else comes) (same_number w v)
 
 module _ {S : Type 0} (size : S → ℕ) (told : S → Option (ℕ → List ℕ)) (failures : S → Option Failures) (m new : Model S) (p : Port)
@@ -52,7 +52,7 @@ module _ {S : Type 0} (size : S → ℕ) (told : S → Option (ℕ → List ℕ)
             (ap (λ (x : Bay S). tells told (Some x)) rest))
             ∙ same (all_media_at size told m);
         held_ports_are = held;
-        page_source_is = seated_same m new p.0 a b was items (option_map (λ (x : Bay S). x.says)) (ap (λ (x : Bay S). Some x.says) rest) p.0;
+        page_source_is = seated_same m new p.0 a b was items (option_map (λ (x : Bay S). x.page_source)) (ap (λ (x : Bay S). Some x.page_source) rest) p.0;
         disk_index_is = seated_same m new p.0 a b was items (option_map (λ (x : Bay S). x.which)) (ap (λ (x : Bay S). Some x.which) rest) p.0;
         other_bays_are_kept = seated_others m new p.0 a b was items;
         disks_are_kept = λ w. seated_same m new p.0 a b was items (option_map (λ (x : Bay S). disk_in_bay x w)) (ap Some (kept w)) p.0;
@@ -64,8 +64,8 @@ module _ {S : Type 0} (size : S → ℕ) (told : S → Option (ℕ → List ℕ)
 
   -- a disk is put in, as it is then
   module _ (tells_so : tells told (Some b) ≡ tells told (Some a)) (first : b.first ≡ a.first)
-      (later : (disk : DiskIndex → S → Disk) → plugged_as disk b.later ≡ plugged_as disk a.later ++ disk b.which b.disk.store ∷ [])
-      (lasts : lasting_of told b ≡ (if is_same b.which a.which then lasting_of told a else told b.disk.store))
+      (later : (disk : DiskIndex → S → Disk) → plugged_as disk b.plugged_later ≡ plugged_as disk a.plugged_later ++ disk b.which b.disk.store ∷ [])
+      (lasts : lasting_of told b ≡ (if is_same_index b.which a.which then lasting_of told a else told b.disk.store))
       (that : b.which ≡ a.which → (size b.disk.store ≡ size a.disk.store)
       × ((last comes : ℕ → List ℕ) → told a.disk.store ≡ Some last → told b.disk.store ≡ Some comes → (k : ℕ) →
       (comes k ≡ last k) ⊎ (option_map (λ (f : ℕ → List ℕ). f k) (lasting_of told a) ≡ Some (comes k)))) where
@@ -83,11 +83,11 @@ module _ {S : Type 0} (size : S → ℕ) (told : S → Option (ℕ → List ℕ)
     disk_is = ap (λ x. (media_of size told x).disk) was
 
     -- whether it is the one that was in last
-    same_named : is_same b.which a.which ≡ nat_eq put_disk.name (media_of size told (bay_of m p.0)).disk.name
+    same_named : is_same_index b.which a.which ≡ nat_eq put_disk.name (media_of size told (bay_of m p.0)).disk.name
     same_named = same_number b.which a.which ∙ ap (λ (d : Disk). nat_eq (disk_number b.which) d.name) (sym disk_is)
 
     pub plugged_so : (number : ℕ) → disk_number b.which ≡ number → ((d : Device) → d ≡ device_at size told m → ((d.port p.0).present ≡ false)) → ((s : S) → AreSectors (size s) (told s)) →
-        ((o : AllMedia) (disk : Disk) → disk.name ≡ number → is_same b.which a.which ≡ nat_eq disk.name (o.media p.0).disk.name → device_of new.hardware (all_media_after_plug o p.0 disk) ≡ device_after (Plug p.0 disk) (device_of m.hardware o)) →
+        ((o : AllMedia) (disk : Disk) → disk.name ≡ number → is_same_index b.which a.which ≡ nat_eq disk.name (o.media p.0).disk.name → device_of new.hardware (all_media_after_plug o p.0 disk) ≡ device_after (Plug p.0 disk) (device_of m.hardware o)) →
         DoesPlug p.0 number (device_at size told m) (device_at size told new)
     plugged_so number name free are did =
         let o : AllMedia = all_media_at size told m in
@@ -97,12 +97,12 @@ module _ {S : Type 0} (size : S → ℕ) (told : S → Option (ℕ → List ℕ)
           can = (
             free _ refl,
             disks_are size told are (Some b),
-            λ telling. bay_told size told (Some b) (tells_so ∙ (ap (tells told) (sym was) ∙ each_tells size told m.bays.items telling p.0)),
+            λ telling. bay_disk_has_known_sectors size told (Some b) (tells_so ∙ (ap (tells told) (sym was) ∙ each_tells size told m.bays.items telling p.0)),
             λ same.
                 let which_same : b.which ≡ a.which = one_number b.which a.which (same ∙ ap (λ (d : Disk). d.name) disk_is) in
                 let so = that which_same in
                 record {
-                  size = so.0 ∙ sym (ap (λ (d : Disk). d.size) disk_is);
+                  size = so.0 ∙ sym (ap (λ (d : Disk). d.sector_count) disk_is);
                   holds = λ last comes is_last is_comes k lt.
                       elim (so.1 last comes (sym (ap (λ (d : Disk). d.sectors) disk_is) ∙ is_last) is_comes k) [
                         | inl kept ↦ inl kept
@@ -114,24 +114,24 @@ module _ {S : Type 0} (size : S → ℕ) (told : S → Option (ℕ → List ℕ)
         }
 
     pub plug_noted : (number : ℕ) → disk_number b.which ≡ number →
-        ((o : AllMedia) (disk : Disk) → disk.name ≡ number → is_same b.which a.which ≡ nat_eq disk.name (o.media p.0).disk.name → device_of new.hardware (all_media_after_plug o p.0 disk) ≡ device_after (Plug p.0 disk) (device_of m.hardware o)) →
+        ((o : AllMedia) (disk : Disk) → disk.name ≡ number → is_same_index b.which a.which ≡ nat_eq disk.name (o.media p.0).disk.name → device_of new.hardware (all_media_after_plug o p.0 disk) ≡ device_after (Plug p.0 disk) (device_of m.hardware o)) →
         GainsOwnPages size m new
     plug_noted number name did =
         gains_one size m new (entry.Plug p (disk_number b.which)) (ap (λ (d : Device). d.tape) (did (all_media_at size told m) put_disk name same_named)) (λ x e. absurd (cc e))
 
   -- one of the two is put in by its number, with the sectors that it had
   module _ (number : DiskNumber) (which : DiskIndex) (found : disk_number which ≡ number.0) (which_is : b.which ≡ which) (kept : (w : DiskIndex) → disk_in_bay b w ≡ disk_in_bay a w)
-      (later : (disk : DiskIndex → S → Disk) → plugged_as disk b.later ≡ plugged_as disk a.later ++ disk which b.disk.store ∷ [])
-      (says : b.says ≡ a.says) (first : b.first ≡ a.first) (cached : b.cache.is_on ≡ a.cache.is_on)
-      (lasting : lasting_of told b ≡ (if is_same which a.which then lasting_of told a else told b.disk.store)) where
+      (later : (disk : DiskIndex → S → Disk) → plugged_as disk b.plugged_later ≡ plugged_as disk a.plugged_later ++ disk which b.disk.store ∷ [])
+      (says : b.page_source ≡ a.page_source) (first : b.first ≡ a.first) (cached : b.cache.is_on ≡ a.cache.is_on)
+      (lasting : lasting_of told b ≡ (if is_same_index which a.which then lasting_of told a else told b.disk.store)) where
     tells_so : tells told (Some b) ≡ tells told (Some a)
     tells_so = both_turned (λ (x : ModelDisk S). is_some (told x.store)) a b kept
 
-    later_so : (disk : DiskIndex → S → Disk) → plugged_as disk b.later ≡ plugged_as disk a.later ++ disk b.which b.disk.store ∷ []
-    later_so disk = later disk ∙ ap (λ (w : DiskIndex). plugged_as disk a.later ++ disk w b.disk.store ∷ []) (sym which_is)
+    later_so : (disk : DiskIndex → S → Disk) → plugged_as disk b.plugged_later ≡ plugged_as disk a.plugged_later ++ disk b.which b.disk.store ∷ []
+    later_so disk = later disk ∙ ap (λ (w : DiskIndex). plugged_as disk a.plugged_later ++ disk w b.disk.store ∷ []) (sym which_is)
 
-    lasts_so : lasting_of told b ≡ (if is_same b.which a.which then lasting_of told a else told b.disk.store)
-    lasts_so = lasting ∙ ap (λ (w : DiskIndex). if is_same w a.which then lasting_of told a else told b.disk.store) (sym which_is)
+    lasts_so : lasting_of told b ≡ (if is_same_index b.which a.which then lasting_of told a else told b.disk.store)
+    lasts_so = lasting ∙ ap (λ (w : DiskIndex). if is_same_index w a.which then lasting_of told a else told b.disk.store) (sym which_is)
 
     that_so : b.which ≡ a.which → (size b.disk.store ≡ size a.disk.store)
         × ((last comes : ℕ → List ℕ) → told a.disk.store ≡ Some last → told b.disk.store ≡ Some comes → (k : ℕ) →
@@ -144,21 +144,21 @@ module _ {S : Type 0} (size : S → ℕ) (told : S → Option (ℕ → List ℕ)
     )
 
     pub did_plug : p.0 < 4 → ((d : Device) → d ≡ device_at size told m → ((d.port p.0).present ≡ false)) → ((s : S) → AreSectors (size s) (told s)) →
-        ((o : AllMedia) (disk : Disk) → disk.name ≡ number.0 → is_same which a.which ≡ nat_eq disk.name (o.media p.0).disk.name → device_of new.hardware (all_media_after_plug o p.0 disk) ≡ device_after (Plug p.0 disk) (device_of m.hardware o)) →
+        ((o : AllMedia) (disk : Disk) → disk.name ≡ number.0 → is_same_index which a.which ≡ nat_eq disk.name (o.media p.0).disk.name → device_of new.hardware (all_media_after_plug o p.0 disk) ≡ device_after (Plug p.0 disk) (device_of m.hardware o)) →
         new.hardware.starved ≡ m.hardware.starved →
         IsPossible (asked.Plug p number) (device_at size told m) × DidStep size told failures (asked.Plug p number) m new
     did_plug small free are did starved =
         let few = number_small which in
         let name : disk_number b.which ≡ number.0 = ap disk_number which_is ∙ found in
-        let so : (o : AllMedia) (disk : Disk) → disk.name ≡ number.0 → is_same b.which a.which ≡ nat_eq disk.name (o.media p.0).disk.name → device_of new.hardware (all_media_after_plug o p.0 disk) ≡ device_after (Plug p.0 disk) (device_of m.hardware o) =
-        λ o disk named same. did o disk named (ap (λ (w : DiskIndex). is_same w a.which) (sym which_is) ∙ same) in (
+        let so : (o : AllMedia) (disk : Disk) → disk.name ≡ number.0 → is_same_index b.which a.which ≡ nat_eq disk.name (o.media p.0).disk.name → device_of new.hardware (all_media_after_plug o p.0 disk) ≡ device_after (Plug p.0 disk) (device_of m.hardware o) =
+        λ o disk named same. did o disk named (ap (λ (w : DiskIndex). is_same_index w a.which) (sym which_is) ∙ same) in (
           (small, has_disks size told m p.0 a was, omega (arith, few, found), free _ refl),
           record {
             completes_or_fails = inl (record {
-              does_told_step = plugged_so tells_so first later_so lasts_so that_so number.0 name free are so;
+              does_asked_step = plugged_so tells_so first later_so lasts_so that_so number.0 name free are so;
               no_call_failed = λ _ q w. seated_same m new p.0 a b was items (λ x. option_map (λ (y : ModelDisk S). failures y.store) (option_map (λ (y : Bay S). disk_in_bay y w) x))
                   (ap (λ (y : ModelDisk S). Some (failures y.store)) (kept w)) q;
-              page_source_is = seated_same m new p.0 a b was items (option_map (λ (x : Bay S). x.says)) (ap Some says) p.0;
+              page_source_is = seated_same m new p.0 a b was items (option_map (λ (x : Bay S). x.page_source)) (ap Some says) p.0;
               does_all_it_asks = λ _. tt;
               loses_cache = λ yes. true-false yes refl;
             });
@@ -170,6 +170,6 @@ module _ {S : Type 0} (size : S → ℕ) (told : S → Option (ℕ → List ℕ)
             gains_own_pages = plug_noted tells_so first later_so lasts_so that_so number.0 name so;
             disks_are_kept = λ _ w. seated_same m new p.0 a b was items (option_map (λ (x : Bay S). disk_in_bay x w)) (ap Some (kept w)) p.0;
             step_keeps = seated_keeps m new p.0 a b was items size (λ w _. kept w) (λ w. ap (identity size) (kept w)) cached queue accesses;
-            starved = starved;
+            starved_is_kept = starved;
           },
         )

@@ -6,7 +6,7 @@ use Rattle.std.proofs.lemmas.Bool.Decides.{eqb_tells}
 use Rattle.adapter.specs.Memory.{changed}
 use Rattle.adapter.specs.Device.{DevicePort, Device}
 use Rattle.adapter.specs.Steps.{MayLinkUp, port_after_link_up, with_port, with_port_and_entry}
-use Rattle.adapter.specs.Access.{note, noted}
+use Rattle.adapter.specs.Access.{notes_after_reading, device_after_reading}
 use Rattle.adapter.specs.Rules.{MayRead, MayWrite}
 use Rattle.adapter.specs.declared.tape.Entry.{Entry}
 use Rattle.device_model.proofs.Places.{fun_ext, changed_same, changed_other, changed_each}
@@ -14,8 +14,8 @@ use Rattle.hba_regs.specs.declared.reg.Reg.{Reg}
 use Rattle.hba_regs.specs.declared.reg.Reg.TheVariants.{Cap, Ghc, Is, Pi, Vs, Cap2, Bohc, Px}
 use Rattle.device_model.specs.FetchedBytes.{bytes_of}
 use Rattle.device_model.specs.HeldPorts.{IsPortHeld, IsPortReleased}
-use Rattle.device_model.specs.SentFises.{SendsRegisters, signature_fis}
-use Rattle.device_model.specs.ModelOwnSteps.{LeadsOwn, Settles, SettlesPort, IsSettled}
+use Rattle.device_model.specs.SentFises.{SendsDeviceToHost, signature_fis}
+use Rattle.device_model.specs.ModelOwnSteps.{LeadsBySteps, Settles, SettlesPort, IsSettled}
 use Rattle.device_model.specs.PortView.{Media, port_of, blank_port}
 use Rattle.device_model.specs.WholeAdapter.{AllMedia, device_of, HasRegister}
 use Rattle.device_model.specs.declared.port.PortModel.{PortModel}
@@ -80,17 +80,17 @@ has_port_write Bohc v d may = tt
 -- one port that isn't held did what it does by itself
 pub port_settles : (h : Hardware) (o : AllMedia) (p : ℕ) (new : PortModel) (held : List Bool) → p < length h.ports → IsPortReleased held p →
     SettlesPort (port_of (slice_index_or h.ports p blank_port) (o.media p)) (port_of new (o.media p)) →
-    LeadsOwn (Settles held) (device_of h o) (device_of (record h { ports = slice_set h.ports p new }) o)
+    LeadsBySteps (Settles held) (device_of h o) (device_of (record h { ports = slice_set h.ports p new }) o)
 port_settles h o p new held small loose goes =
-    let P : Device → Type 0 = λ d. LeadsOwn (Settles held) (device_of h o) d in
+    let P : Device → Type 0 = λ d. LeadsBySteps (Settles held) (device_of h o) d in
     subst P (sym (set_port h o p new _ small refl)) (goes held (device_of h o) p loose refl)
 
 -- its link came up, and the disk's first FIS was sent
 pub port_links : (h : Hardware) (o : AllMedia) (p : ℕ) (linked : PortModel) (held : List Bool) (new : Device) → p < length h.ports → IsPortReleased held p →
     MayLinkUp (port_of (slice_index_or h.ports p blank_port) (o.media p)) 0x101 →
     port_of linked (o.media p) ≡ port_after_link_up (port_of (slice_index_or h.ports p blank_port) (o.media p)) 0x101 true →
-    SendsRegisters p (signature_fis ((device_of (record h { ports = slice_set h.ports p linked }) o).port p)) (device_of (record h { ports = slice_set h.ports p linked }) o) new →
-    LeadsOwn (Settles held) (device_of h o) new
+    SendsDeviceToHost p (signature_fis ((device_of (record h { ports = slice_set h.ports p linked }) o).port p)) (device_of (record h { ports = slice_set h.ports p linked }) o) new →
+    LeadsBySteps (Settles held) (device_of h o) new
 port_links h o p linked held new small loose may is sends =
     own_linked held (device_of h o) (device_of (record h { ports = slice_set h.ports p linked }) o) new p (port_of (slice_index_or h.ports p blank_port) (o.media p)) loose refl may
     (set_port h o p linked _ small is) sends
@@ -127,12 +127,12 @@ pub set_port_moved : (h : Hardware) (o : AllMedia) (p : ℕ) (new : PortModel) (
     ≡ record (with_port_and_entry (device_of h o) p state entry) { memory = bytes }
 set_port_moved h o p new media state tape entry memory bytes small is more size same =
     set_both (record h { memory = memory; tape = tape }) o p new media state small is
-    ∙ (λ i. record (with_port (device_of h o) p state) { size = size i; memory = same i; tape = more i })
+    ∙ (λ i. record (with_port (device_of h o) p state) { memory_size = size i; memory = same i; tape = more i })
 
 -- a reading leaves settled what is
-pub noted_settled : (r : Reg) (v : ℕ) (d : Device) (held : List Bool) → IsSettled held d → IsSettled held (noted r v d)
+pub noted_settled : (r : Reg) (v : ℕ) (d : Device) (held : List Bool) → IsSettled held d → IsSettled held (device_after_reading r v d)
 noted_settled (Px q r) v d held s =
-    let new : DevicePort = record (d.port q.0) { notes = note r v (d.port q.0) } in
+    let new : DevicePort = record (d.port q.0) { notes = notes_after_reading r v (d.port q.0) } in
     record {
       reset_has_ended = s.reset_has_ended;
       crs_have_fallen = changed_each d.port q.0 new (λ k p. (p.st ≡ false) × (p.cr ≡ true) → IsPortHeld held k) (s.crs_have_fallen q.0) s.crs_have_fallen;

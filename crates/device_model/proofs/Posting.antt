@@ -1,7 +1,7 @@
 -- What the model sends is one of the device's own steps, and changes the memory alone.
 use Rattle.std.proofs.Common.{ℕ, Bool, true, false, zero, suc, ◌≡◌, ◌∙◌, ◌+◌, ◌≤◌, ◌⊎◌, List, Option, refl, sym, ap, inl, inr, arith}
 use Rattle.std.proofs.lemmas.Bool.Decides.{leb_tells}
-use Rattle.adapter.specs.ToldSteps.{DoesOrFailsStep, DoesClear, DoesSlotStep, DoesToldStep, Fails, FailsAfter, SlotGoesOn, DoesSlotSteps, EndsAndPosts, MayPost, busy}
+use Rattle.adapter.specs.AskedSteps.{DoesOrFailsStep, DoesClear, DoesSlotStep, DoesAskedStep, FailsAndPosts, FailsAfter, SlotGoesOn, DoesSlotSteps, EndsAndPosts, MayPost, bsy_mask}
 use Rattle.adapter.specs.Commands.{is_queued}
 use Rattle.adapter.specs.Device.{DevicePort, Device}
 use Rattle.adapter.specs.Steps.{DeviceTransition, Steps, device_after}
@@ -14,7 +14,7 @@ use Rattle.adapter.proofs.Going.{post_steps}
 use Rattle.sector_store.specs.declared.store.Failures.{Failures}
 use Rattle.device_model.specs.StepEffects.{ClearsFewer, DidStep, StepFails, FailsToClear, FailsToMove}
 use Rattle.device_model.specs.ModelState.{device_at}
-use Rattle.device_model.specs.SentFises.{IsSent, Sends, SendsAfter, SendsEnd, SendsFailed, SendsFault, receives_fis}
+use Rattle.device_model.specs.SentFises.{IsSentOrLost, Sends, SendsAfter, SendsEnd, SendsFaultOfOperation, SendsFault, receives_fis}
 use Rattle.device_model.specs.declared.bay.PageSource.{PageSource}
 use Rattle.device_model.specs.declared.model.Model.{Model}
 
@@ -26,10 +26,10 @@ received_there p size fre inside =
     ]
 
 -- a FIS is posted or lost
-sent_may : (port place : ℕ) (bytes : List ℕ) (old new : Device) → IsSent port place bytes old new → MayPost port 0 operation.Read old new
-sent_may port place bytes old new s = by (receives_fis (old.port port) old.size) refl
+sent_may : (port place : ℕ) (bytes : List ℕ) (old new : Device) → IsSentOrLost port place bytes old new → MayPost port 0 operation.Read old new
+sent_may port place bytes old new s = by (receives_fis (old.port port) old.memory_size) refl
   where
-    by : (b : Bool) → receives_fis (old.port port) old.size ≡ b → MayPost port 0 operation.Read old new
+    by : (b : Bool) → receives_fis (old.port port) old.memory_size ≡ b → MayPost port 0 operation.Read old new
     by true e = inr ((old.port port).bases.fb + place, bytes, s.is_posted e)
     by false e = inl (s.is_lost e)
 
@@ -89,7 +89,7 @@ after_steps step old new s = let m = after_may step old new s in post_steps m.0 
 -- ---- what was asked of the model was asked of an adapter
 
 ends_may : (port slot : ℕ) (old new : Device) → EndsAndPosts (SendsEnd slot) port slot old new → EndsAndPosts MayPost port slot old new
-ends_may port slot old new e = record { mid = e.mid; done = e.done; posts = end_may port slot e.done.flag e.done.fetched_command.meaning.operation e.mid new e.posts }
+ends_may port slot old new e = record { after_end = e.after_end; done = e.done; posts = end_may port slot e.done.cause_bit e.done.fetched_command.meaning.operation e.after_end new e.posts }
 
 one_may : (port slot : ℕ) (old new : Device) → DoesSlotStep (SendsEnd slot) port slot old new → DoesSlotStep MayPost port slot old new
 one_may port slot old new (inl f) = inl f
@@ -101,19 +101,19 @@ some_may : (n port slot : ℕ) (old new : Device) → DoesSlotSteps (SendsEnd sl
 some_may zero port slot old new e = e
 some_may (suc n) port slot old new s = (s.0, some_may n port slot old s.0 s.1, one_may port slot s.0 new s.2)
 
-failed_may : (port slot error kept : ℕ) (old new : Device) → Fails SendsFailed port slot error kept old new → Fails MayPost port slot error kept old new
+failed_may : (port slot error kept : ℕ) (old new : Device) → FailsAndPosts SendsFaultOfOperation port slot error kept old new → FailsAndPosts MayPost port slot error kept old new
 failed_may port slot error kept old new f =
     let o : Operation = f.fault.fetched_command.meaning.operation in
-    record { mid = f.mid; fault = f.fault; posts = fault_may (is_queued o) port o f.mid new f.posts }
+    record { after_failure = f.after_failure; fault = f.fault; posts = fault_may (is_queued o) port o f.after_failure new f.posts }
 
-done_may : (s : DeviceStep) (old new : Device) → DoesToldStep (Sends s) s old new → DoesToldStep MayPost s old new
+done_may : (s : DeviceStep) (old new : Device) → DoesAskedStep (Sends s) s old new → DoesAskedStep MayPost s old new
 done_may (asked.Fetch p slot) old new did = did
 done_may (asked.Move p slot) old new did = did
 done_may (asked.Clear p slot most) old new did = did
 done_may (asked.Done p slot) old new did = ends_may p.0 slot.0 old new did
 done_may (asked.Finish p slot) old new did = (did.0, some_may (suc did.0) p.0 slot.0 old new did.1)
 done_may (asked.Fault p slot error) old new did = failed_may p.0 slot.0 error 0 old new did
-done_may (asked.FaultBusy p slot error) old new did = failed_may p.0 slot.0 error busy old new did
+done_may (asked.FaultBusy p slot error) old new did = failed_may p.0 slot.0 error bsy_mask old new did
 done_may (asked.Scribble p byte) old new did = did
 done_may (asked.Fatal p error) old new did = did
 done_may (asked.Lie p page offset bits) old new did = did
@@ -126,25 +126,25 @@ done_may (asked.LosePlug p) old new did = did
 
 -- a fault in the place of a step, or on its way, is one of the device's own
 pub moving_fails : (cached : Bool) (port slot : ℕ) (was now : Option Failures) (says later : Option PageSource) (old new : Device) (f : FailsToMove cached port slot was now says later old new) →
-    Fails SendsFailed port slot f.error 0 old new
+    FailsAndPosts SendsFaultOfOperation port slot f.error 0 old new
 moving_fails cached port slot was now says later old new f =
-    record { mid = device_after (Fault port slot f.error 0 f.fetched_command) old; fault = record { fetched_command = f.fetched_command; can = f.can; effect = refl }; posts = f.sends }
+    record { after_failure = device_after (Fault port slot f.error 0 f.fetched_command) old; fault = record { fetched_command = f.fetched_command; can = f.can; effect = refl }; posts = f.sends }
 
 pub clearing_fails : (cached : Bool) (port slot : ℕ) (was now : Option Failures) (says later : Option PageSource) (old new : Device) (f : FailsToClear cached port slot was now says later old new) →
-    Fails SendsFailed port slot f.error 0 old new
+    FailsAndPosts SendsFaultOfOperation port slot f.error 0 old new
 clearing_fails cached port slot was now says later old new f =
-    record { mid = device_after (Fault port slot f.error 0 f.fetched_command) old; fault = record { fetched_command = f.fetched_command; can = f.can; effect = refl }; posts = f.sends }
+    record { after_failure = device_after (Fault port slot f.error 0 f.fetched_command) old; fault = record { fetched_command = f.fetched_command; can = f.can; effect = refl }; posts = f.sends }
 
 fails_after_may : (port slot error : ℕ) (Part More : Device → Device → Type 0) → ((old mid : Device) → Part old mid → More old mid) → (old mid new : Device) →
-    (mid ≡ old) ⊎ Part old mid → Fails SendsFailed port slot error 0 mid new → FailsAfter MayPost More port slot old new
+    (mid ≡ old) ⊎ Part old mid → FailsAndPosts SendsFaultOfOperation port slot error 0 mid new → FailsAfter MayPost More port slot old new
 fails_after_may port slot error Part More more old mid new (inl same) f =
-    record { mid = mid; part_is_done = inl same; error = error; fails = failed_may port slot error 0 mid new f }
+    record { after_part = mid; part_is_done = inl same; error = error; fails = failed_may port slot error 0 mid new f }
 fails_after_may port slot error Part More more old mid new (inr some) f =
-    record { mid = mid; part_is_done = inr (more old mid some); error = error; fails = failed_may port slot error 0 mid new f }
+    record { after_part = mid; part_is_done = inr (more old mid some); error = error; fails = failed_may port slot error 0 mid new f }
 
 fails_may : (s : DeviceStep) (cached : Bool) (was now : Option Failures) (says later : Option PageSource) (old new : Device) → StepFails s cached was now says later old new → DoesOrFailsStep s old new
 fails_may (asked.Fetch p s) cached was now says later old new f = inr (record {
-  mid = device_after (FetchFault p.0 s.0 false 0) old;
+  after_failure = device_after (FetchFault p.0 s.0 false 0) old;
   fault = record { queued = false; can = f.can; effect = refl };
   posts = λ o. fault_may false p.0 o (device_after (FetchFault p.0 s.0 false 0) old) new f.sends;
 })
@@ -176,6 +176,6 @@ pub did_may : {S : Type 0} (size : S → ℕ) (told : S → Option (ℕ → List
     DidStep size told failures s old new → DoesOrFailsStep s (device_at size told old) (device_at size told new)
 did_may size told failures s old new did =
     elim did.completes_or_fails [
-      | inl whole ↦ inl (done_may s _ _ whole.does_told_step)
+      | inl whole ↦ inl (done_may s _ _ whole.does_asked_step)
       | inr failed ↦ fails_may s _ _ _ _ _ _ _ failed
     ]

@@ -11,7 +11,7 @@ use Rattle.adapter.proofs.Runs.{Steps-refl, Steps-trans}
 use Rattle.sector_store.specs.declared.store.Failures.{Failures}
 use Rattle.device_model.specs.StepEffects.{AnswersStep}
 use Rattle.device_model.specs.ModelState.{device_at}
-use Rattle.device_model.specs.Queue.{BeginsAccess, due_steps, later_steps, DoesEach}
+use Rattle.device_model.specs.Queue.{BeginsAccess, due_steps, later_steps, AnswersEachStep}
 use Rattle.device_model.specs.declared.model.Model.{Model}
 use Rattle.device_model.specs.declared.model.QueuedStep.{QueuedStep}
 use Rattle.device_model.proofs.Doing.{answers_steps}
@@ -19,14 +19,14 @@ use Rattle.device_model.proofs.Doing.{answers_steps}
 -- ---- steps, one more at the end
 
 module _ {S : Type 0} (size : S → ℕ) (told : S → Option (ℕ → List ℕ)) (failures : S → Option Failures) where
-  pub each_more : (done : List DeviceStep) (s : DeviceStep) (answer : Bool) (old mid new : Model S) → DoesEach size told failures done old mid →
-      AnswersStep size told failures s answer mid new → DoesEach size told failures (done ++ s ∷ []) old new
+  pub each_more : (done : List DeviceStep) (s : DeviceStep) (answer : Bool) (old mid new : Model S) → AnswersEachStep size told failures done old mid →
+      AnswersStep size told failures s answer mid new → AnswersEachStep size told failures (done ++ s ∷ []) old new
   each_more [] s answer old mid new e one =
       let P : Model S → Type 0 = λ m. AnswersStep size told failures s answer m new in
       (answer, new, subst P e one, refl)
   each_more (x ∷ done) s answer old mid new d one = (d.0, d.1, d.2, each_more done s answer d.1 mid new d.3 one)
 
-  pub each_steps : (done : List DeviceStep) (old new : Model S) → DoesEach size told failures done old new → Steps (device_at size told old) (device_at size told new)
+  pub each_steps : (done : List DeviceStep) (old new : Model S) → AnswersEachStep size told failures done old new → Steps (device_at size told old) (device_at size told new)
   each_steps [] old new e =
       let P : Model S → Type 0 = λ m. Steps (device_at size told old) (device_at size told m) in
       subst P (sym e) (Steps-refl (device_at size told old))
@@ -34,12 +34,12 @@ module _ {S : Type 0} (size : S → ℕ) (told : S → Option (ℕ → List ℕ)
       Steps-trans (answers_steps size told failures s old d.1 d.0 d.2) (each_steps done d.1 new d.3)
 
   pub begins_steps : (old new : Model S) → BeginsAccess size told failures old new → Steps (device_at size told old) (device_at size told new)
-  begins_steps old new b = each_steps (due_steps new.accesses.shown old.queue.items) (record old { accesses = new.accesses; queue = new.queue }) new b.does_due_steps
+  begins_steps old new b = each_steps (due_steps new.accesses.saturating_count old.queue.items) (record old { accesses = new.accesses; queue = new.queue }) new b.does_due_steps
 
 -- these steps lead from the one model to the other, whatever is queued in both
 abbrev pub DoneSo : {S : Type 0} → (S → ℕ) → (S → Option (ℕ → List ℕ)) → (S → Option Failures) → Model S → Model S → List DeviceStep → Type 0
 DoneSo size told failures old new done =
-    (q : Vec QueuedStep) → DoesEach size told failures done (record old { queue = q }) (record new { queue = q })
+    (q : Vec QueuedStep) → AnswersEachStep size told failures done (record old { queue = q }) (record new { queue = q })
 
 -- ---- the queue
 

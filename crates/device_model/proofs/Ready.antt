@@ -5,21 +5,21 @@ use Rattle.std.proofs.lemmas.List.{get_or_append_left, get_or-append_right}
 use Rattle.std.specs.Prelude.{IfSome}
 use Rattle.std.specs.Option.{SomeIff}
 use Rattle.std.specs.Vec.{vec_len}
-use Rattle.adapter.specs.ToldSteps.{DoesFetch}
+use Rattle.adapter.specs.AskedSteps.{DoesFetch}
 use Rattle.adapter.specs.Commands.{Meaning}
 use Rattle.adapter.specs.Device.{Device, DevicePort, FetchedCommand}
 use Rattle.adapter.specs.Decoding.{DecodesTo, pieces, piece_addresses}
-use Rattle.adapter.specs.Steps.{Can, IsUnmixed, WorksOn, admits, begun, port_after_fetch}
+use Rattle.adapter.specs.Steps.{Can, IsUnmixed, WorksOn, admits, newly_fetched, port_after_fetch}
 use Rattle.adapter.specs.Steps.DeviceTransition.{Fetch}
 use Rattle.adapter.specs.declared.command.Operation.{Operation}
 use Rattle.adapter.specs.declared.command.Prd.{Prd}
 use Rattle.device_model.proofs.Absurd.{some-none, some_one, true-false}
 use Rattle.adapter.proofs.SaysLemmas.{says_meaning, says_places, cut_length, cut_index}
-use Rattle.device_model.specs.Finishing.{HasPageCommand, FindsPageCommand, IsInside, AreInside, IsCovered, IsRemaining, MayFinish, MayTakePage, sends_page}
-use Rattle.device_model.specs.FetchedBytes.{IsUntouched, bytes_of}
-use Rattle.device_model.specs.WriteCaches.{HasRoomForOld}
+use Rattle.device_model.specs.Finishing.{HasPageCommand, FindsPageCommand, IsInside, PiecesInside, HasMovesLeft, IsRemaining, MayFinish, MayTakePage, sends_page}
+use Rattle.device_model.specs.FetchedBytes.{IsNewlyTaken, bytes_of}
+use Rattle.device_model.specs.WriteCaches.{HasRoomForOldSectors}
 use Rattle.device_model.specs.Trims.{HasClearsLeft, changes_ahead}
-use Rattle.device_model.specs.Slots.{IsOpenTo, MayTake, HasUntaken, WorksOnIn}
+use Rattle.device_model.specs.Slots.{IsOpenTo, MayTake, HasIssuedUntaken, WorksOnIn}
 use Rattle.device_model.specs.WordBits.{word_bits}
 use Rattle.device_model.specs.PortView.{Media, halt_of, taken_in, operation_of_kind, port_of, taken_of, blank_port}
 use Rattle.device_model.specs.WholeAdapter.{AllMedia, device_of}
@@ -48,7 +48,7 @@ module _ (size : ℕ) (x : Prd) (xs : List Prd) where
   behind k past = get_or-append_right front (pieces xs) (length front) k 0 refl past
 
   -- the first one's pieces are inside, and so are the others'
-  inside_first : AreInside size (pieces (x ∷ xs)) → IsInside size x
+  inside_first : PiecesInside size (pieces (x ∷ xs)) → IsInside size x
   inside_first all some =
       let n : ℕ = x.bytes / 512 in
       let sizes : length (pieces (x ∷ xs)) ≡ length front + length (pieces xs) = length-append front (pieces xs) in
@@ -56,7 +56,7 @@ module _ (size : ℕ) (x : Prd) (xs : List Prd) where
       let place = in_front (n - 1) (omega (arith, some)) in
       omega (arith, last, place, some)
 
-  inside_rest : AreInside size (pieces (x ∷ xs)) → AreInside size (pieces xs)
+  inside_rest : PiecesInside size (pieces (x ∷ xs)) → PiecesInside size (pieces xs)
   inside_rest all k small =
       let sizes : length (pieces (x ∷ xs)) ≡ length front + length (pieces xs) = length-append front (pieces xs) in
       let here = all (length front + k) (omega (arith, sizes, small)) in
@@ -66,7 +66,7 @@ module _ (size : ℕ) (x : Prd) (xs : List Prd) where
       let there = subst P same place in
       omega (arith, here, there)
 
-  inside_both : IsInside size x → AreInside size (pieces xs) → AreInside size (pieces (x ∷ xs))
+  inside_both : IsInside size x → PiecesInside size (pieces xs) → PiecesInside size (pieces (x ∷ xs))
   inside_both first rest k small =
       let sizes : length (pieces (x ∷ xs)) ≡ length front + length (pieces xs) = length-append front (pieces xs) in
       elim (cases_lt k (length front)) [
@@ -79,20 +79,20 @@ module _ (size : ℕ) (x : Prd) (xs : List Prd) where
             omega (arith, behind k past, there)
       ]
 
-pub all_inside : (size : ℕ) (xs : List Prd) → All (IsInside size) xs → AreInside size (pieces xs)
+pub all_inside : (size : ℕ) (xs : List Prd) → All (IsInside size) xs → PiecesInside size (pieces xs)
 all_inside size [] all k small = absurd (omega (arith, small))
 all_inside size (x ∷ xs) all k small =
     inside_both size x xs (all 0 x (omega arith)) (all_inside size xs (λ i d lt. all (suc i) d (omega (arith, lt)))) k small
 
-pub inside_all : (size : ℕ) (xs : List Prd) → AreInside size (pieces xs) → All (IsInside size) xs
+pub inside_all : (size : ℕ) (xs : List Prd) → PiecesInside size (pieces xs) → All (IsInside size) xs
 inside_all size [] all k d small = absurd (omega (arith, small))
 inside_all size (x ∷ xs) all zero d small = inside_first size x xs all
 inside_all size (x ∷ xs) all (suc k) d small = inside_all size xs (inside_rest size x xs all) k d (omega (arith, small))
 
 -- ---- what is left
 
-pub left_covered : (r : TakenCommand) (size n : ℕ) (o : Option ℕ) → n ≡ length (pieces r.prds) → AreInside size (pieces r.prds) →
-    SomeIff o (r.moved ≤ n) (n - r.moved) → IfSome o (λ left. IsCovered (taken_of r) size left)
+pub left_covered : (r : TakenCommand) (size n : ℕ) (o : Option ℕ) → n ≡ length (pieces r.prds) → PiecesInside size (pieces r.prds) →
+    SomeIff o (r.moved ≤ n) (n - r.moved) → IfSome o (λ left. HasMovesLeft (taken_of r) size left)
 left_covered r size n None many all none = tt
 left_covered r size n (Some left) many all fits = record { moves_left_are = omega (arith, fits.0, fits.1, many); pieces_are_inside = all }
 
@@ -110,7 +110,7 @@ MayTakeNone p slot = (m : Media) (operation : Operation) → MayTake (port_of p 
 abbrev pub IsBeside : PortModel → TakenCommand → Type 0
 IsBeside p r = IsOpenTo p (operation_of_kind r.command_kind)
 
-pub may_be_taken : (p : PortModel) (slot : ℕ) (r : TakenCommand) → HasUntaken p slot → IsBeside p r → (m : Media) →
+pub may_be_taken : (p : PortModel) (slot : ℕ) (r : TakenCommand) → HasIssuedUntaken p slot → IsBeside p r → (m : Media) →
     MayTake (port_of p m) slot (operation_of_kind r.command_kind)
 may_be_taken p slot r may beside m =
     let w = may m (operation_of_kind r.command_kind) beside.0 in record { fetchable = w.0; working = w.1; is_unmixed = beside.1 m }
@@ -119,24 +119,24 @@ module _ (h : Hardware) (o : AllMedia) (p port slot left clears : ℕ) (e : p �
   abbrev state : PortModel
   state = slice_index_or h.ports p blank_port
 
-  pub ready_fetch : HasUntaken state slot →
-      Can (Fetch port slot ready.fetched_command.meaning ready.fetched_command.places) (device_of h o) × (ready.fetched_command ≡ begun ready.fetched_command.meaning ready.fetched_command.places)
+  pub ready_fetch : HasIssuedUntaken state slot →
+      Can (Fetch port slot ready.fetched_command.meaning ready.fetched_command.places) (device_of h o) × (ready.fetched_command ≡ newly_fetched ready.fetched_command.meaning ready.fetched_command.places)
   ready_fetch may = by ready.is_begun_or_fetchable
     where
       by : WorksOn ((device_of h o).port port) slot ready.fetched_command ready.fetched_command.meaning.operation
-          ⊎ (Can (Fetch port slot ready.fetched_command.meaning ready.fetched_command.places) (device_of h o) × (ready.fetched_command ≡ begun ready.fetched_command.meaning ready.fetched_command.places)) →
-          Can (Fetch port slot ready.fetched_command.meaning ready.fetched_command.places) (device_of h o) × (ready.fetched_command ≡ begun ready.fetched_command.meaning ready.fetched_command.places)
+          ⊎ (Can (Fetch port slot ready.fetched_command.meaning ready.fetched_command.places) (device_of h o) × (ready.fetched_command ≡ newly_fetched ready.fetched_command.meaning ready.fetched_command.places)) →
+          Can (Fetch port slot ready.fetched_command.meaning ready.fetched_command.places) (device_of h o) × (ready.fetched_command ≡ newly_fetched ready.fetched_command.meaning ready.fetched_command.places)
       by (inl works) = some-none (ap (λ (q : ℕ). ((device_of h o).port q).taken slot) e ∙ works.taken) (may (o.media p) ready.fetched_command.meaning.operation (ap (λ (q : ℕ). admits ((device_of h o).port q).halt ready.fetched_command.meaning.operation) e ∙ works.working.admitted)).0.free
       by (inr begins) = begins
 
-  pub ready_said : HasUntaken state slot → DecodesTo (bytes_of h.memory.items) state.addresses.clb slot ready.fetched_command.meaning ready.fetched_command.places
+  pub ready_said : HasIssuedUntaken state slot → DecodesTo (bytes_of h.memory.items) state.addresses.clb slot ready.fetched_command.meaning ready.fetched_command.places
   ready_said may = fetch_says h o p port slot ready.fetched_command.meaning ready.fetched_command.places e (ready_fetch may).0
 
   pub ready_held : MayTakeNone state slot → (r : TakenCommand) × WorksOnIn state slot r × (ready.fetched_command ≡ taken_of r)
   ready_held never = by ready.is_begun_or_fetchable
     where
       by : WorksOn ((device_of h o).port port) slot ready.fetched_command ready.fetched_command.meaning.operation
-          ⊎ (Can (Fetch port slot ready.fetched_command.meaning ready.fetched_command.places) (device_of h o) × (ready.fetched_command ≡ begun ready.fetched_command.meaning ready.fetched_command.places)) →
+          ⊎ (Can (Fetch port slot ready.fetched_command.meaning ready.fetched_command.places) (device_of h o) × (ready.fetched_command ≡ newly_fetched ready.fetched_command.meaning ready.fetched_command.places)) →
           (r : TakenCommand) × WorksOnIn state slot r × (ready.fetched_command ≡ taken_of r)
       by (inl works) =
           let P : ℕ → Type 0 = λ q. (r : TakenCommand) × WorksOnIn (slice_index_or h.ports q blank_port) slot r × (ready.fetched_command ≡ taken_of r) in
@@ -145,8 +145,8 @@ module _ (h : Hardware) (o : AllMedia) (p port slot left clears : ℕ) (e : p �
 
 module _ (h : Hardware) (p port slot : ℕ) (r : TakenCommand) (e : p ≡ port) where
   -- a command that may be taken is ready
-  pub ready_to_take : (left clears : ℕ) → IsRemaining r h.memory.items left clears → IsUntouched r →
-      HasUntaken (slice_index_or h.ports p blank_port) slot → IsBeside (slice_index_or h.ports p blank_port) r →
+  pub ready_to_take : (left clears : ℕ) → IsRemaining r h.memory.items left clears → IsNewlyTaken r →
+      HasIssuedUntaken (slice_index_or h.ports p blank_port) slot → IsBeside (slice_index_or h.ports p blank_port) r →
       DecodesTo (bytes_of h.memory.items) (slice_index_or h.ports p blank_port).addresses.clb slot (taken_of r).meaning (taken_of r).places →
       (o : AllMedia) → MayFinish (device_of h o) port slot left clears
   ready_to_take left clears rest new may beside says o =
@@ -171,12 +171,12 @@ module _ (h : Hardware) (p port slot : ℕ) (r : TakenCommand) (e : p ≡ port) 
   rest_back : (left clears : ℕ) (o : AllMedia) (ready : MayFinish (device_of h o) port slot left clears) → ready.fetched_command ≡ taken_of r →
       IsRemaining r h.memory.items left clears
   rest_back left clears o ready same =
-      let Q : FetchedCommand → Type 0 = λ t. IsCovered t (length h.memory.items) left in
+      let Q : FetchedCommand → Type 0 = λ t. HasMovesLeft t (length h.memory.items) left in
       let R : FetchedCommand → Type 0 = λ t. HasClearsLeft t.meaning.operation (bytes_of h.memory.items) t clears in
       (subst Q same ready.is_covered, subst R same ready.has_clears_left)
 
   -- where a command may be taken, one that is ready is the one that its slot's bytes say
-  pub ready_is_one : HasUntaken (slice_index_or h.ports p blank_port) slot → IsUntouched r →
+  pub ready_is_one : HasIssuedUntaken (slice_index_or h.ports p blank_port) slot → IsNewlyTaken r →
       DecodesTo (bytes_of h.memory.items) (slice_index_or h.ports p blank_port).addresses.clb slot (taken_of r).meaning (taken_of r).places →
       (o : AllMedia) (left clears : ℕ) (ready : MayFinish (device_of h o) port slot left clears) → ready.fetched_command ≡ taken_of r
   ready_is_one may new says o left clears ready =
@@ -186,16 +186,16 @@ module _ (h : Hardware) (p port slot : ℕ) (r : TakenCommand) (e : p ≡ port) 
       let there = ready_said h o p port slot left clears e ready may in
       let meaning = says_meaning memory list slot t.meaning (taken_of r).meaning t.places (taken_of r).places there says in
       let places = says_places memory list slot t.meaning (taken_of r).meaning t.places (taken_of r).places there says in
-      (ready_fetch h o p port slot left clears e ready may).1 ∙ ((λ i. begun (meaning i) (places i)) ∙ sym (new_begun r new))
+      (ready_fetch h o p port slot left clears e ready may).1 ∙ ((λ i. newly_fetched (meaning i) (places i)) ∙ sym (new_begun r new))
 
-  pub ready_is_said : HasUntaken (slice_index_or h.ports p blank_port) slot → IsUntouched r →
+  pub ready_is_said : HasIssuedUntaken (slice_index_or h.ports p blank_port) slot → IsNewlyTaken r →
       DecodesTo (bytes_of h.memory.items) (slice_index_or h.ports p blank_port).addresses.clb slot (taken_of r).meaning (taken_of r).places →
       (o : AllMedia) (left clears : ℕ) → MayFinish (device_of h o) port slot left clears → IsRemaining r h.memory.items left clears
   ready_is_said may new says o left clears ready =
       rest_back left clears o ready (ready_is_one may new says o left clears ready)
 
   -- one that may not be taken beside those that are isn't ready
-  pub ready_beside : HasUntaken (slice_index_or h.ports p blank_port) slot → IsUntouched r →
+  pub ready_beside : HasIssuedUntaken (slice_index_or h.ports p blank_port) slot → IsNewlyTaken r →
       DecodesTo (bytes_of h.memory.items) (slice_index_or h.ports p blank_port).addresses.clb slot (taken_of r).meaning (taken_of r).places →
       (o : AllMedia) (left clears : ℕ) → MayFinish (device_of h o) port slot left clears →
       (admits (halt_of (slice_index_or h.ports p blank_port).halting) (operation_of_kind r.command_kind) ≡ true)
@@ -219,21 +219,21 @@ module _ (h : Hardware) (p port slot : ℕ) (r : TakenCommand) (e : p ≡ port) 
 -- what a command is going to change is what is left of the one that is ready
 pub ahead_is : (h : Hardware) (o : AllMedia) (cache : Cache) (port slot left changes n m : ℕ) (r : TakenCommand) (may : MayFinish (device_of h o) port slot n m) → may.fetched_command ≡ taken_of r →
     left ≡ n → changes ≡ changes_ahead (operation_of_kind r.command_kind) (bytes_of h.memory.items) (taken_of r) left →
-    HasRoomForOld cache (changes_ahead may.fetched_command.meaning.operation (bytes_of h.memory.items) may.fetched_command n) → HasRoomForOld cache changes
+    HasRoomForOldSectors cache (changes_ahead may.fetched_command.meaning.operation (bytes_of h.memory.items) may.fetched_command n) → HasRoomForOldSectors cache changes
 ahead_is h o cache port slot left changes n m r may same number is =
     let memory = bytes_of h.memory.items in
     let here : changes_ahead may.fetched_command.meaning.operation memory may.fetched_command n ≡ changes = (λ i. changes_ahead (same i).meaning.operation memory (same i) (sym number i)) ∙ sym is in
-    subst (HasRoomForOld cache) here
+    subst (HasRoomForOldSectors cache) here
 
 -- and of the one that is taken
 pub ahead_of : (cache : Cache) (memory : ℕ → ℕ) (left changes : ℕ) (r : TakenCommand) (t : FetchedCommand) → taken_of r ≡ t →
-    changes ≡ changes_ahead (operation_of_kind r.command_kind) memory (taken_of r) left → HasRoomForOld cache changes → HasRoomForOld cache (changes_ahead t.meaning.operation memory t left)
+    changes ≡ changes_ahead (operation_of_kind r.command_kind) memory (taken_of r) left → HasRoomForOldSectors cache changes → HasRoomForOldSectors cache (changes_ahead t.meaning.operation memory t left)
 ahead_of cache memory left changes r t same is =
     let there : changes ≡ changes_ahead t.meaning.operation memory t left = is ∙ (λ i. changes_ahead (same i).meaning.operation memory (same i) left) in
-    subst (HasRoomForOld cache) there
+    subst (HasRoomForOldSectors cache) there
 
 -- the one that was taken just now
-pub fetched_is : (port slot : ℕ) (old new : Device) (r : TakenCommand) (f : DoesFetch port slot old new) → IsUntouched r →
+pub fetched_is : (port slot : ℕ) (old new : Device) (r : TakenCommand) (f : DoesFetch port slot old new) → IsNewlyTaken r →
     DecodesTo old.memory (old.port port).bases.clb slot (taken_of r).meaning (taken_of r).places → (t : FetchedCommand) → (new.port port).taken slot ≡ Some t → taken_of r ≡ t
 fetched_is port slot old new r f fresh says t taken =
     let p : DevicePort = old.port port in
@@ -241,8 +241,8 @@ fetched_is port slot old new r f fresh says t taken =
     let meaning : f.meaning ≡ (taken_of r).meaning = says_meaning old.memory p.bases.clb slot f.meaning (taken_of r).meaning f.places (taken_of r).places f.can.says says in
     let places : f.places ≡ (taken_of r).places = says_places old.memory p.bases.clb slot f.meaning (taken_of r).meaning f.places (taken_of r).places f.can.says says in
     let there : new.port port ≡ state = ap (λ (d : Device). d.port port) f.effect ∙ here_after old port state in
-    let held : (new.port port).taken slot ≡ Some (begun (taken_of r).meaning (taken_of r).places) =
-    ap (λ (x : DevicePort). x.taken slot) there ∙ (taken_after p slot (Some (begun f.meaning f.places)) ∙ (λ i. Some (begun (meaning i) (places i)))) in
+    let held : (new.port port).taken slot ≡ Some (newly_fetched (taken_of r).meaning (taken_of r).places) =
+    ap (λ (x : DevicePort). x.taken slot) there ∙ (taken_after p slot (Some (newly_fetched f.meaning f.places)) ∙ (λ i. Some (newly_fetched (meaning i) (places i)))) in
     new_begun r fresh ∙ some_one (sym held ∙ taken)
 
 -- ---- commands that send a page
@@ -254,11 +254,11 @@ module _ (h : Hardware) (port slot size : ℕ) (sized : size ≡ vec_len h.memor
   memory_size : size ≡ length h.memory.items
   memory_size = let ok = h.memory.ok.0 in omega (arith, sized, ok)
 
-  covers : (r : TakenCommand) (left : ℕ) → IsCovered (taken_of r) size left → IsCovered (taken_of r) (length h.memory.items) left
-  covers r left covered = let P : ℕ → Type 0 = λ n. IsCovered (taken_of r) n left in subst P memory_size covered
+  covers : (r : TakenCommand) (left : ℕ) → HasMovesLeft (taken_of r) size left → HasMovesLeft (taken_of r) (length h.memory.items) left
+  covers r left covered = let P : ℕ → Type 0 = λ n. HasMovesLeft (taken_of r) n left in subst P memory_size covered
 
-  covers_back : (r : TakenCommand) (left : ℕ) → IsCovered (taken_of r) (length h.memory.items) left → IsCovered (taken_of r) size left
-  covers_back r left covered = let P : ℕ → Type 0 = λ n. IsCovered (taken_of r) n left in subst P (sym memory_size) covered
+  covers_back : (r : TakenCommand) (left : ℕ) → HasMovesLeft (taken_of r) (length h.memory.items) left → HasMovesLeft (taken_of r) size left
+  covers_back r left covered = let P : ℕ → Type 0 = λ n. HasMovesLeft (taken_of r) n left in subst P (sym memory_size) covered
 
   -- it clears nothing
   clears : (r : TakenCommand) → sends_page (operation_of_kind r.command_kind) ≡ true → HasClearsLeft (operation_of_kind r.command_kind) (bytes_of h.memory.items) (taken_of r) 0
@@ -266,15 +266,15 @@ module _ (h : Hardware) (port slot size : ℕ) (sized : size ≡ vec_len h.memor
 
   -- a command that can be done to its end
   abbrev pub Ends : TakenCommand → Type 0
-  Ends r = (left : ℕ) × IsCovered (taken_of r) size left × AreInside (2 ^ 32) (pieces r.prds)
+  Ends r = (left : ℕ) × HasMovesLeft (taken_of r) size left × PiecesInside (2 ^ 32) (pieces r.prds)
 
   -- one that may be taken
-  pub page_said : (r : TakenCommand) → IsUntouched r → DecodesTo (bytes_of h.memory.items) here.addresses.clb slot (taken_of r).meaning (taken_of r).places →
-      sends_page (operation_of_kind r.command_kind) ≡ true → HasUntaken here slot → IsBeside here r → Ends r → (o : AllMedia) → HasPageCommand (device_of h o) port slot
+  pub page_said : (r : TakenCommand) → IsNewlyTaken r → DecodesTo (bytes_of h.memory.items) here.addresses.clb slot (taken_of r).meaning (taken_of r).places →
+      sends_page (operation_of_kind r.command_kind) ≡ true → HasIssuedUntaken here slot → IsBeside here r → Ends r → (o : AllMedia) → HasPageCommand (device_of h o) port slot
   page_said r new says kind may beside ends o =
       let m = may (o.media port) (operation_of_kind r.command_kind) beside.0 in
       record {
-        left = ends.0;
+        moves_left = ends.0;
         may_finish = record {
           fetched_command = taken_of r;
           is_covered = covers r ends.0 ends.1;
@@ -287,23 +287,23 @@ module _ (h : Hardware) (port slot size : ℕ) (sized : size ≡ vec_len h.memor
 
   -- no other one may be
   pub page_unsaid : ((m : Meaning) (places : List ℕ) → sends_page m.operation ≡ true → DecodesTo (bytes_of h.memory.items) here.addresses.clb slot m places → ⊥) →
-      HasUntaken here slot → (o : AllMedia) → HasPageCommand (device_of h o) port slot → ⊥
+      HasIssuedUntaken here slot → (o : AllMedia) → HasPageCommand (device_of h o) port slot → ⊥
   page_unsaid none may o has =
-      none has.may_finish.fetched_command.meaning has.may_finish.fetched_command.places has.sends_page (ready_said h o port port slot has.left 0 refl has.may_finish may)
+      none has.may_finish.fetched_command.meaning has.may_finish.fetched_command.places has.sends_page (ready_said h o port port slot has.moves_left 0 refl has.may_finish may)
 
   -- and where one may be taken, it is the one that is ready
-  pub page_endless : (r : TakenCommand) → IsUntouched r → DecodesTo (bytes_of h.memory.items) here.addresses.clb slot (taken_of r).meaning (taken_of r).places →
-      HasUntaken here slot → ((left : ℕ) → IsCovered (taken_of r) size left → AreInside (2 ^ 32) (pieces r.prds) → ⊥) → (o : AllMedia) →
+  pub page_endless : (r : TakenCommand) → IsNewlyTaken r → DecodesTo (bytes_of h.memory.items) here.addresses.clb slot (taken_of r).meaning (taken_of r).places →
+      HasIssuedUntaken here slot → ((left : ℕ) → HasMovesLeft (taken_of r) size left → PiecesInside (2 ^ 32) (pieces r.prds) → ⊥) → (o : AllMedia) →
       HasPageCommand (device_of h o) port slot → ⊥
   page_endless r new says may never o has =
-      let same = ready_is_one h port port slot r refl may new says o has.left 0 has.may_finish in
-      never has.left (covers_back r has.left (ready_is_said h port port slot r refl may new says o has.left 0 has.may_finish).0)
-      (subst (λ (t : FetchedCommand). AreInside (2 ^ 32) t.places) same has.addresses_are_low)
+      let same = ready_is_one h port port slot r refl may new says o has.moves_left 0 has.may_finish in
+      never has.moves_left (covers_back r has.moves_left (ready_is_said h port port slot r refl may new says o has.moves_left 0 has.may_finish).0)
+      (subst (λ (t : FetchedCommand). PiecesInside (2 ^ 32) t.places) same has.addresses_are_low)
 
   -- one that is taken
   pub page_held : (r : TakenCommand) → WorksOnIn here slot r → sends_page (operation_of_kind r.command_kind) ≡ true → Ends r → (o : AllMedia) → HasPageCommand (device_of h o) port slot
   page_held r held kind ends o = record {
-    left = ends.0;
+    moves_left = ends.0;
     may_finish = record {
       fetched_command = taken_of r;
       is_covered = covers r ends.0 ends.1;
@@ -317,9 +317,9 @@ module _ (h : Hardware) (port slot size : ℕ) (sized : size ≡ vec_len h.memor
   pub page_unheld : ((r : TakenCommand) → WorksOnIn here slot r → sends_page (operation_of_kind r.command_kind) ≡ true → Ends r → ⊥) → MayTakeNone here slot → (o : AllMedia) →
       HasPageCommand (device_of h o) port slot → ⊥
   page_unheld none never o has =
-      let w = ready_held h o port port slot has.left 0 refl has.may_finish never in
+      let w = ready_held h o port port slot has.moves_left 0 refl has.may_finish never in
       none w.0 w.1 (sym (ap (λ (t : FetchedCommand). sends_page t.meaning.operation) w.2) ∙ has.sends_page)
-      (has.left, covers_back w.0 has.left (rest_back h port port slot w.0 refl has.left 0 o has.may_finish w.2).0, subst (λ (t : FetchedCommand). AreInside (2 ^ 32) t.places) w.2 has.addresses_are_low)
+      (has.moves_left, covers_back w.0 has.moves_left (rest_back h port port slot w.0 refl has.moves_left 0 o has.may_finish w.2).0, subst (λ (t : FetchedCommand). PiecesInside (2 ^ 32) t.places) w.2 has.addresses_are_low)
 
 -- what a look at a slot finds, by whether it can be done to its end
 pub finds : (d : Device) (port slot : ℕ) (ends : Bool) → (ends ≡ true → HasPageCommand d port slot) → (ends ≡ false → MayTakePage d port slot × (HasPageCommand d port slot → ⊥)) →
@@ -333,7 +333,7 @@ module _ (h : Hardware) (port slot : ℕ) where
 
   -- one that its slot's bytes say may be taken
   pub may_page : (r : TakenCommand) → DecodesTo (bytes_of h.memory.items) first.addresses.clb slot (taken_of r).meaning (taken_of r).places →
-      sends_page (operation_of_kind r.command_kind) ≡ true → HasUntaken first slot → IsBeside first r → (o : AllMedia) → MayTakePage (device_of h o) port slot
+      sends_page (operation_of_kind r.command_kind) ≡ true → HasIssuedUntaken first slot → IsBeside first r → (o : AllMedia) → MayTakePage (device_of h o) port slot
   may_page r says kind may beside o =
       let m = may (o.media port) (operation_of_kind r.command_kind) beside.0 in
       record {
@@ -344,12 +344,12 @@ module _ (h : Hardware) (port slot : ℕ) where
       }
 
   -- and so may one that can be done to its end, where one may be
-  pub ready_may : HasUntaken first slot → (o : AllMedia) → HasPageCommand (device_of h o) port slot → MayTakePage (device_of h o) port slot
+  pub ready_may : HasIssuedUntaken first slot → (o : AllMedia) → HasPageCommand (device_of h o) port slot → MayTakePage (device_of h o) port slot
   ready_may may o has = record {
     meaning = has.may_finish.fetched_command.meaning;
     places = has.may_finish.fetched_command.places;
     sends_page = has.sends_page;
-    can = (ready_fetch h o port port slot has.left 0 refl has.may_finish may).0;
+    can = (ready_fetch h o port port slot has.moves_left 0 refl has.may_finish may).0;
   }
 
   -- none may be beside others that are taken

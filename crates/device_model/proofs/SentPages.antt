@@ -3,7 +3,7 @@ use Rattle.std.proofs.Common.{ℕ, Bool, true, false, ◌≡◌, ◌≢◌, ◌<
 use Rattle.std.specs.Prelude.{if◌then◌else◌, is_some}
 use Rattle.std.proofs.lemmas.List.{length-set}
 use Rattle.std.proofs.lemmas.Bool.Decides.{eqb_tells}
-use Rattle.adapter.specs.ToldSteps.{SlotGoesOn}
+use Rattle.adapter.specs.AskedSteps.{SlotGoesOn}
 use Rattle.adapter.specs.Device.{Device, DevicePort}
 use Rattle.adapter.specs.OneCommand.{IsFreeSlot}
 use Rattle.adapter.specs.declared.access.DeviceStep.TheVariants as asked
@@ -17,7 +17,7 @@ use Rattle.device_model.specs.HeldPorts.{IsPortHeld, IsPortReleased}
 use Rattle.device_model.specs.ModelState.{device_at}
 use Rattle.device_model.specs.PageTaking.{TakesPage}
 use Rattle.device_model.specs.SentFises.{SendsEnd}
-use Rattle.device_model.specs.ModelOwnSteps.{IsSettled, LeadsOwn, LeavesPageWithoutMemory, NoPageIsLeft, SendsPages}
+use Rattle.device_model.specs.ModelOwnSteps.{IsSettled, LeadsBySteps, LeavesPageWithoutMemory, NoPageIsLeft, SendsPages}
 use Rattle.device_model.specs.WholeAdapter.{HasDisks}
 use Rattle.device_model.specs.declared.disks.DiskIndex.{DiskIndex}
 use Rattle.device_model.specs.declared.model.Model.{Model}
@@ -46,7 +46,7 @@ module _ {S : Type 0} (size : S → ℕ) (told : S → Option (ℕ → List ℕ)
     pub disks : HasDisks (device_at size told m) port
     pub busy : HasTakenCommand (device_at size told m) port
     pub has : HasPageCommand (device_at size told m) port slot
-    pub lacks : TapeHasRoom m.hardware (has.left + 1) → ⊥
+    pub lacks : TapeHasRoom m.hardware (has.moves_left + 1) → ⊥
 
   -- a port on which nothing more goes on by itself: a command is taken, and one that can be done to its end lacks memory
   abbrev pub Waits : Model S → ℕ → Type 0
@@ -54,7 +54,7 @@ module _ {S : Type 0} (size : S → ℕ) (told : S → Option (ℕ → List ℕ)
 
   -- So far it came: these ports are left out, each since it is held, or waits; and the tape has lacked memory, or not.
   pub record IsSoFar (first m : Model S) (left_out : List Bool) (lacks : Bool) : Type 0 where
-    pub own : LeadsOwn (SendsPages first.held) (device_at size told first) (device_at size told m)
+    pub own : LeadsBySteps (SendsPages first.held) (device_at size told first) (device_at size told m)
     pub settled : (held : List Bool) → IsSettled held (device_at size told first) → IsSettled held (device_at size told m)
     pub rest : OwnStepsKeep size first m
     pub disks : (q : ℕ) (w : DiskIndex) → numbered_disk m q w ≡ numbered_disk first q w
@@ -65,7 +65,7 @@ module _ {S : Type 0} (size : S → ℕ) (told : S → Option (ℕ → List ℕ)
     pub lacking : lacks ≡ true → (m.hardware.starved ≡ true) × Lacks left_out m
 
   -- what goes on on one port leaves another one waiting
-  waits_on : (old new : Model S) (q : ℕ) → (device_at size told new).port q ≡ (device_at size told old).port q → (device_at size told new).size ≡ (device_at size told old).size →
+  waits_on : (old new : Model S) (q : ℕ) → (device_at size told new).port q ≡ (device_at size told old).port q → (device_at size told new).memory_size ≡ (device_at size told old).memory_size →
       (old.hardware.starved ≡ true → new.hardware.starved ≡ true) → Waits old q → Waits new q
   waits_on old new q same large on waits =
       let busy = busy_stays (device_at size told old) (device_at size told new) q same waits.0 in (
@@ -75,7 +75,7 @@ module _ {S : Type 0} (size : S → ℕ) (told : S → Option (ℕ → List ℕ)
 
   -- and one that lacks memory lacking it, where no more is found
   lacks_on : (old new : Model S) (left_out out_then : List Bool) (p : ℕ) → IsPortReleased left_out p → ((q : ℕ) → q ≢ p → IsPortHeld left_out q → IsPortHeld out_then q) →
-      ((q : ℕ) → q ≢ p → (device_at size told new).port q ≡ (device_at size told old).port q) → (device_at size told new).size ≡ (device_at size told old).size →
+      ((q : ℕ) → q ≢ p → (device_at size told new).port q ≡ (device_at size told old).port q) → (device_at size told new).memory_size ≡ (device_at size told old).memory_size →
       ((q : ℕ) → disk_index_of new q ≡ disk_index_of old q) → ((n : ℕ) → TapeHasRoom new.hardware n → TapeHasRoom old.hardware n) → Lacks left_out old → Lacks out_then new
   lacks_on old new left_out out_then p loose on others large which room one =
       let apart : one.port ≢ p = λ (same : one.port ≡ p). true-false one.out (subst (IsPortReleased left_out) (sym same) loose) in
@@ -103,7 +103,7 @@ module _ {S : Type 0} (size : S → ℕ) (told : S → Option (ℕ → List ℕ)
 
     -- the port is left out from then on, and waits
     out_then : (new : Model S) → HasTakenCommand (device_at size told new) p.0 → ((k : ℕ) → HasPageCommand (device_at size told new) p.0 k → new.hardware.starved ≡ true) →
-        ((q : ℕ) → q ≢ p.0 → (device_at size told new).port q ≡ old_device.port q) → (device_at size told new).size ≡ old_device.size →
+        ((q : ℕ) → q ≢ p.0 → (device_at size told new).port q ≡ old_device.port q) → (device_at size told new).memory_size ≡ old_device.memory_size →
         (m.hardware.starved ≡ true → new.hardware.starved ≡ true) → (q : ℕ) → IsPortHeld (slice_set left_out p.0 true) q → IsPortHeld first.held q ⊎ Waits new q
     out_then new busy starves ports large on q held =
         elim (eqb_tells q p.0) [
@@ -132,7 +132,7 @@ module _ {S : Type 0} (size : S → ℕ) (told : S → Option (ℕ → List ℕ)
       completes e = page_completes size told failures m new p s (did_it size told failures (asked.Finish p s) m new answer answers e) has
 
       went : answer ≡ true → SlotGoesOn (SendsEnd s.0) p.0 s.0 old_device (device_at size told new)
-      went e = (completes e).does_told_step
+      went e = (completes e).does_asked_step
 
       same : answer ≡ false → device_at size told new ≡ old_device
       same e = (left_it size told failures (asked.Finish p s) m new answer answers e).device_is_kept
@@ -140,7 +140,7 @@ module _ {S : Type 0} (size : S → ℕ) (told : S → Option (ℕ → List ℕ)
       goes : OwnStepsKeep size m new
       goes = finish_goes_so size told failures p s answer m new answers (λ e. (completes e).page_source_is)
 
-      leads : LeadsOwn (SendsPages first.held) (device_at size told first) (device_at size told new)
+      leads : LeadsBySteps (SendsPages first.held) (device_at size told first) (device_at size told new)
       leads = own_on (SendsPages first.held) _ old_device (device_at size told new) is.own
           (own_gone IsPage is_page first.held p.0 s.0 (is.loose p.0 loose) answer old_device (device_at size told new) went same (has_only old_device p.0 s.0 has)).0
 
@@ -163,7 +163,7 @@ module _ {S : Type 0} (size : S → ℕ) (told : S → Option (ℕ → List ℕ)
                   | inr waits ↦ inr (waits_on m new q (far.1 q (apart_of q held)) far.0 goes.stays_starved waits)
                 ];
             loose = is.loose;
-            fed = λ e. did.starved ∙ is.fed e;
+            fed = λ e. did.starved_is_kept ∙ is.fed e;
             lacking = λ never. true-false never fed;
           }
 
@@ -179,18 +179,18 @@ module _ {S : Type 0} (size : S → ℕ) (told : S → Option (ℕ → List ℕ)
 
       -- ---- one that lacks memory is taken, and no more
 
-      pub so_far_lacking : (last : Model S) → lacks ≡ false → answer ≡ false → (new.hardware.starved ≡ true) × (TapeHasRoom new.hardware (has.left + 1) → ⊥) →
+      pub so_far_lacking : (last : Model S) → lacks ≡ false → answer ≡ false → (new.hardware.starved ≡ true) × (TapeHasRoom new.hardware (has.moves_left + 1) → ⊥) →
           TakesPage size told p.0 s.0 new last → IsSoFar first last (slice_set left_out p.0 true) true
       so_far_lacking last fed left missed t =
-          let P : Device → Type 0 = λ d. (there : HasPageCommand d p.0 s.0) × (TapeHasRoom new.hardware (there.left + 1) → ⊥) in
+          let P : Device → Type 0 = λ d. (there : HasPageCommand d p.0 s.0) × (TapeHasRoom new.hardware (there.moves_left + 1) → ⊥) in
           let one = subst P (sym (same left)) (has, missed.1) in
           let now = t.as_much_is_left one.0 in
           let long : p.0 < length left_out = subst (λ (n : ℕ). p.0 < n) (sym is.long) small in
           let rest = goes_so_on size told failures m new last goes t.own_steps_keep in
           let ports : (q : ℕ) → q ≢ p.0 → (device_at size told last).port q ≡ old_device.port q =
           λ (q : ℕ) (ne : q ≢ p.0). t.other_ports_are_kept q ne ∙ ap (λ (d : Device). d.port q) (same left) in
-          let large : (device_at size told last).size ≡ old_device.size = t.size_is_kept ∙ ap (λ (d : Device). d.size) (same left) in
-          let told_so : last.hardware.starved ≡ true = t.starved ∙ missed.0 in
+          let large : (device_at size told last).memory_size ≡ old_device.memory_size = t.size_is_kept ∙ ap (λ (d : Device). d.memory_size) (same left) in
+          let told_so : last.hardware.starved ≡ true = t.starved_is_kept ∙ missed.0 in
           record {
             own = own_on (SendsPages first.held) _ (device_at size told new) (device_at size told last) leads (t.by_own_steps first.held (is.loose p.0 loose));
             settled = λ held x. t.stays_settled held (settles held x);
@@ -230,18 +230,18 @@ module _ {S : Type 0} (size : S → ℕ) (told : S → Option (ℕ → List ℕ)
           long = still_long left_out p.0 is.long;
           out = out_then new t.has_taken_command (λ k has. starves lacks refl k has) t.other_ports_are_kept t.size_is_kept t.own_steps_keep.stays_starved;
           loose = loose_then long;
-          fed = λ e. t.starved ∙ is.fed e;
+          fed = λ e. t.starved_is_kept ∙ is.fed e;
           lacking = λ e.
               let before = is.lacking e in (
-                t.starved ∙ before.0,
+                t.starved_is_kept ∙ before.0,
                 lacks_on m new left_out (slice_set left_out p.0 true) p.0 loose (λ q ne held. get_or-set_other left_out p.0 q true false ne ∙ held) t.other_ports_are_kept t.size_is_kept
                     t.own_steps_keep.disk_index_is t.tape_had_room before.1,
               );
         }
       where
         starves : (b : Bool) → lacks ≡ b → (k : ℕ) → HasPageCommand (device_at size told new) p.0 k → new.hardware.starved ≡ true
-        starves true e k has = t.starved ∙ (is.lacking e).0
-        starves false e k has = let one = stuck e in absurd (one.1 (t.page_is_stuck_before one.0 k has))
+        starves true e k has = t.starved_is_kept ∙ (is.lacking e).0
+        starves false e k has = let one = stuck e in absurd (one.1 (t.finishable_was_finishable one.0 k has))
 
   -- ---- none is left, on the ports that aren't left out
 

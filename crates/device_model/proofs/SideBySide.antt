@@ -1,9 +1,9 @@
 -- Queued commands go on side by side: one that is taken, or that ends, leaves the others as they were.
 use Rattle.std.proofs.Common.{ℕ, Bool, true, ◌≡◌, ◌≢◌, ◌∙◌, ◌&&◌, List, None, Some, refl, sym, ap, subst}
-use Rattle.adapter.specs.ToldSteps.{DoesFetch, EndsAndPosts}
+use Rattle.adapter.specs.AskedSteps.{DoesFetch, EndsAndPosts}
 use Rattle.adapter.specs.Commands.{Meaning, is_queued}
 use Rattle.adapter.specs.Device.{FetchedCommand, DevicePort, Device}
-use Rattle.adapter.specs.Steps.{Can, IsUnmixed, IsFetchable, IsWorking, WorksOn, begun, port_after_fetch}
+use Rattle.adapter.specs.Steps.{Can, IsUnmixed, IsFetchable, IsWorking, WorksOn, newly_fetched, port_after_fetch}
 use Rattle.adapter.specs.Steps.DeviceTransition.{Fetch}
 use Rattle.adapter.specs.Decoding.{DecodesTo}
 use Rattle.adapter.specs.declared.command.Operation.{Operation}
@@ -22,7 +22,7 @@ module _ (port slot other : ℕ) (apart : other ≢ slot) (old new : Device) whe
   beside : (m : Meaning) (places : List ℕ) (o : Operation) → is_queued o && is_queued m.operation ≡ true → IsUnmixed was o →
       IsUnmixed (port_after_fetch was slot m places) o
   beside m places o both alone =
-      changed_each was.taken slot (Some (begun m places)) (λ k x. (t : FetchedCommand) → x ≡ Some t → is_queued o && is_queued t.meaning.operation ≡ true)
+      changed_each was.taken slot (Some (newly_fetched m places)) (λ k x. (t : FetchedCommand) → x ≡ Some t → is_queued o && is_queued t.meaning.operation ≡ true)
       (λ t is. subst (λ (x : FetchedCommand). is_queued o && is_queued x.meaning.operation ≡ true) (some_one is) both) alone
 
   -- another one that may be taken may still be, once one was
@@ -38,17 +38,17 @@ module _ (port slot other : ℕ) (apart : other ≢ slot) (old new : Device) whe
       record {
         fetchable = subst (λ (x : DevicePort). IsFetchable x other) now
             (record {
-              st = there.fetchable.st;
+              st_is_set = there.fetchable.st_is_set;
               issued = cleared_other (is_queued f.meaning.operation) was.ci slot other apart ∙ there.fetchable.issued;
-              free = changed_other was.taken slot (Some (begun f.meaning f.places)) other apart ∙ there.fetchable.free;
+              free = changed_other was.taken slot (Some (newly_fetched f.meaning f.places)) other apart ∙ there.fetchable.free;
             });
         working = subst (λ (x : DevicePort). IsWorking x n.operation) now
             (record {
-              running = there.working.running;
+              cr_is_set = there.working.cr_is_set;
               present = there.working.present;
               fresh = there.working.fresh;
               admitted = there.working.admitted;
-              whole = there.working.whole;
+              is_not_broken = there.working.is_not_broken;
             });
         is_unmixed = subst (λ (x : DevicePort). IsUnmixed x n.operation) now (beside f.meaning f.places n.operation both there.is_unmixed);
         says = subst (λ (x : DevicePort). DecodesTo new.memory x.bases.clb other n ys) now
@@ -63,10 +63,10 @@ module _ (port slot other : ℕ) (apart : other ≢ slot) (old new : Device) whe
       (record {
         taken = changed_other was.taken slot None other apart ∙ works.taken;
         working = record {
-          running = works.working.running;
+          cr_is_set = works.working.cr_is_set;
           present = works.working.present;
           fresh = works.working.fresh;
           admitted = refl;
-          whole = works.working.whole;
+          is_not_broken = works.working.is_not_broken;
         };
       })

@@ -9,13 +9,13 @@ use Rattle.std.proofs.lemmas.Nat.Bits.{bit_at_above}
 use Rattle.std.proofs.lemmas.Option.{slice_get_cases, slice_get-get_or, slice_get_within}
 use Rattle.adapter.specs.Device.{FetchedCommand}
 use Rattle.adapter.specs.Memory.{changed}
-use Rattle.adapter.specs.Steps.{begun}
+use Rattle.adapter.specs.Steps.{newly_fetched}
 use Rattle.hba_regs.specs.Bits.{bit}
 use Rattle.device_model.proofs.Absurd.{some-none, true-false}
 use Rattle.device_model.proofs.Places.{fun_ext, changed_same, changed_other}
 use Rattle.device_model.specs.WordBits.{word_bits}
 use Rattle.device_model.specs.TakenBlocks.{brought, taken_in_slot, taken_list_from}
-use Rattle.device_model.specs.FetchedBytes.{IsUntouched}
+use Rattle.device_model.specs.FetchedBytes.{IsNewlyTaken}
 use Rattle.device_model.specs.PortView.{taken_in, taken_slots, taken_of, blank_port}
 use Rattle.device_model.specs.declared.port.PortModel.{PortModel}
 use Rattle.device_model.specs.declared.port.TakenCommand.{TakenCommand}
@@ -180,12 +180,12 @@ none_filled None e = refl
 none_filled (Some r) e = absurd (cc e)
 
 -- a command of which nothing was moved or cleared yet has just begun
-pub new_begun : (r : TakenCommand) → IsUntouched r → taken_of r ≡ begun (taken_of r).meaning (taken_of r).places
+pub new_begun : (r : TakenCommand) → IsNewlyTaken r → taken_of r ≡ newly_fetched (taken_of r).meaning (taken_of r).places
 new_begun r new = λ i. record (taken_of r) { moved = new.nothing_is_moved i; block = brought (new.has_no_block i); cleared = new.nothing_is_cleared i }
 
 -- what is taken in such a slot
-pub slots_begun : (taken : ℕ → Option TakenCommand) (slot : ℕ) (r : TakenCommand) → IsUntouched r →
-    taken_slots (changed taken slot (Some r)) ≡ changed (taken_slots taken) slot (Some (begun (taken_of r).meaning (taken_of r).places))
+pub slots_begun : (taken : ℕ → Option TakenCommand) (slot : ℕ) (r : TakenCommand) → IsNewlyTaken r →
+    taken_slots (changed taken slot (Some r)) ≡ changed (taken_slots taken) slot (Some (newly_fetched (taken_of r).meaning (taken_of r).places))
 slots_begun taken slot r new =
     slots_changed taken slot (Some r) ∙ ap (λ (t : FetchedCommand). changed (taken_slots taken) slot (Some t)) (new_begun r new)
 

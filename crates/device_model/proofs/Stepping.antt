@@ -3,7 +3,7 @@ use Rattle.std.proofs.Common.{ℕ, Bool, true, false, ◌≡◌, ◌<◌, List, 
 use Rattle.std.specs.Prelude.{slice_set, slice_index_or, IfSome, if◌then◌else◌}
 use Rattle.std.specs.Global.{Vec}
 use Rattle.adapter.specs.Commands.{Meaning, direction_of, is_queued, is_ranged, reads_memory}
-use Rattle.adapter.specs.Device.{Disk, Lasting, DevicePort, Device, IsSector}
+use Rattle.adapter.specs.Device.{Disk, DurableState, DevicePort, Device, IsValidSector}
 use Rattle.adapter.specs.Memory.{changed, patched, bytes_at}
 use Rattle.adapter.specs.Decoding.{DecodesTo}
 use Rattle.adapter.specs.Steps.{AreBsyDrqBits, admits, device_after, IsFinished, MayBeDone, MayFault, MayFetch, MayFetchFault, MayMove, MayBring, with_port_and_entry, port_after_clear, port_after_fault, port_after_fetch, port_after_move, port_after_done, port_after_flush, clear_entry, done_entry, fault_entry, move_of, snapshot_of_bytes, memory_after_move, next_place, next_sector}
@@ -16,10 +16,10 @@ use Rattle.adapter.specs.declared.command.Operation.TheVariants.{Identify}
 use Rattle.adapter.specs.declared.tape.Entry.{Entry}
 use Rattle.adapter.specs.declared.tape.Entry.TheVariants as entry
 use Rattle.adapter.specs.declared.tape.Move as tape_move
-use Rattle.adapter.specs.ToldSteps.{DoesFatal, DoesFault, DoesFetch, EndsAndPosts, fatal_bit}
+use Rattle.adapter.specs.AskedSteps.{DoesFatal, DoesFault, DoesFetch, EndsAndPosts, fatal_bit}
 use Rattle.device_model.specs.FetchedBytes.{bytes_of}
 use Rattle.device_model.specs.SentFises.{SendsEnd}
-use Rattle.device_model.specs.Slots.{HasUntaken, MayTake, WorksOnIn, IsNextMove}
+use Rattle.device_model.specs.Slots.{HasIssuedUntaken, MayTake, WorksOnIn, IsNextMove}
 use Rattle.device_model.specs.PortView.{Media, cause_of, halt_of, taken_in, busy_if_left, media_after_move, media_after_clear, media_after_end, operation_of_kind, port_of, taken_of, blank_port}
 use Rattle.device_model.specs.WholeAdapter.{AllMedia, device_of, media_after_plug, all_media_after_move, all_media_after_clear, all_media_after_end, all_media_after_plug}
 use Rattle.device_model.specs.declared.port.TakenCommand.{TakenCommand}
@@ -80,25 +80,25 @@ unplugged h o p port new tape e small is more =
 
 -- what of another disk is lasting, or of the same
 lasting_put : (same : Bool) (was comes : Option (ℕ → List ℕ)) (at here since : ℕ) → since ≡ (if same then at else here) →
-    ◌≡◌ {A = Lasting} (record { sectors = if same then was else comes; tape_length = since }) (if same then record { sectors = was; tape_length = at } else record { sectors = comes; tape_length = here })
+    ◌≡◌ {A = DurableState} (record { sectors = if same then was else comes; tape_length = since }) (if same then record { sectors = was; tape_length = at } else record { sectors = comes; tape_length = here })
 lasting_put true was comes at here since e = λ i. record { sectors = was; tape_length = e i }
 lasting_put false was comes at here since e = λ i. record { sectors = comes; tape_length = e i }
 
 -- a disk is put in
 pub plugged_in : (h : Hardware) (o : AllMedia) (p port : ℕ) (new : PortModel) (tape : Vec Entry) (disk : Disk) (number since : ℕ) → disk.name ≡ number → p ≡ port → p < length h.ports →
-    since ≡ (if nat_eq disk.name (o.media p).disk.name then (slice_index_or h.ports p blank_port).lasting_at else length h.tape.items) →
+    since ≡ (if nat_eq disk.name (o.media p).disk.name then (slice_index_or h.ports p blank_port).lasting_tape_length else length h.tape.items) →
     ((m : Media) → port_of new m ≡ record (port_of (slice_index_or h.ports p blank_port) m) { ssts_det = 3; present = true; fresh = false; serr_n = true; serr_x = true; lasting = record { sectors = m.lasting; tape_length = since } }) →
     tape.items ≡ h.tape.items ++ entry.Plug (record { 0 = port }) number ∷ [] →
     device_of (record h { ports = slice_set h.ports p new; tape = tape }) (all_media_after_plug o port disk) ≡ device_after (Plug port disk) (device_of h o)
 plugged_in h o p port new tape disk number since name e some lasts is more =
     let media : Media = media_after_plug (o.media p) disk in
     let state : DevicePort = port_of (slice_index_or h.ports p blank_port) media in
-    let lasting = lasting_put (nat_eq disk.name (o.media p).disk.name) (o.media p).lasting disk.sectors (slice_index_or h.ports p blank_port).lasting_at (length h.tape.items) since lasts in
+    let lasting = lasting_put (nat_eq disk.name (o.media p).disk.name) (o.media p).lasting disk.sectors (slice_index_or h.ports p blank_port).lasting_tape_length (length h.tape.items) since lasts in
     let named : entry.Plug (record { 0 = p }) number ≡ entry.Plug (record { 0 = p }) disk.name = ap (entry.Plug (record { 0 = p })) (sym name) in
     let P : ℕ → Type 0 = λ q. device_of (record h { ports = slice_set h.ports p new; tape = tape }) (all_media_after_plug o q disk) ≡ device_after (Plug q disk) (device_of h o) in
     subst P e
     (set_port_plugged h o p new media _ tape (entry.Plug (record { 0 = p }) disk.name) some
-    (is media ∙ ap (λ (l : Lasting). record state { ssts_det = 3; present = true; fresh = false; serr_n = true; serr_x = true; lasting = l }) lasting)
+    (is media ∙ ap (λ (l : DurableState). record state { ssts_det = 3; present = true; fresh = false; serr_n = true; serr_x = true; lasting = l }) lasting)
     (rw (← e) at more ∙ ap (λ (x : Entry). h.tape.items ++ x ∷ []) named))
 
 is_cause : (k : CommandKind) → (cause_of k ≡ 0) ⊎ (cause_of k ≡ 1) ⊎ (cause_of k ≡ 3)
@@ -130,9 +130,9 @@ pub port_ends : (h : Hardware) (o : AllMedia) (p port slot : ℕ) (new : PortMod
 port_ends h o p port slot new t tape last e small holds all is more sends =
     subst (λ q. EndsAndPosts (SendsEnd slot) q slot (device_of h o) last) e
     (record {
-      mid = device_of (record h { ports = slice_set h.ports p new; tape = tape }) (all_media_after_end o p (operation_of_kind t.command_kind));
+      after_end = device_of (record h { ports = slice_set h.ports p new; tape = tape }) (all_media_after_end o p (operation_of_kind t.command_kind));
       done = record {
-        flag = cause_of t.command_kind;
+        cause_bit = cause_of t.command_kind;
         fetched_command = taken_of t;
         can = may_end h o p slot t holds all;
         effect = set_port_plugged h o p new (media_after_end (o.media p) (operation_of_kind t.command_kind)) _ tape (done_entry p slot (operation_of_kind t.command_kind)) small is (rw e more);
@@ -141,7 +141,7 @@ port_ends h o p port slot new t tape last e small holds all is more sends =
     })
 
 -- what is issued and means no command may fail for that, where no fault keeps it waiting
-pub may_fail_senseless : (h : Hardware) (o : AllMedia) (p port slot : ℕ) → p ≡ port → HasUntaken (slice_index_or h.ports p blank_port) slot →
+pub may_fail_senseless : (h : Hardware) (o : AllMedia) (p port slot : ℕ) → p ≡ port → HasIssuedUntaken (slice_index_or h.ports p blank_port) slot →
     admits (halt_of (slice_index_or h.ports p blank_port).halting) Identify ≡ true →
     ((m : Meaning) (places : List ℕ) → DecodesTo (bytes_of h.memory.items) (slice_index_or h.ports p blank_port).addresses.clb slot m places → ⊥) →
     MayFetchFault (device_of h o) port slot 0
@@ -169,7 +169,7 @@ pub may_fail : (h : Hardware) (o : AllMedia) (port slot error : ℕ) (busy : Boo
     (slice_index_or h.ports port blank_port).cr ≡ true → MayFault ((device_of h o).port port) slot error (busy_if_left busy) (taken_of t)
 may_fail h o port slot error busy t byte held cr = record {
   taken = slot_taken (taken_in (slice_index_or h.ports port blank_port).taken) t slot held;
-  running = cr;
+  cr_is_set = cr;
   is_byte = byte;
   kept_bits_are_allowed = kept_well busy;
 }
@@ -243,7 +243,7 @@ port_moves h o p port slot next new t tape memory bytes operation direction e sm
 
 -- what the disk gave or took may be moved
 pub may_move : (h : Hardware) (o : AllMedia) (port slot : ℕ) (next : NextMove) (t : TakenCommand) (bytes : List ℕ) → IsNextMove h port slot next t →
-    IsSector bytes → (is_ranged (operation_of_kind next.command_kind) ≡ true → next.sector < (o.media port).disk.size) →
+    IsValidSector bytes → (is_ranged (operation_of_kind next.command_kind) ≡ true → next.sector < (o.media port).disk.sector_count) →
     (is_ranged (operation_of_kind next.command_kind) ≡ true → reads_memory (operation_of_kind next.command_kind) ≡ false → IfSome (o.media port).disk.sectors (λ f. bytes ≡ f next.sector)) →
     (reads_memory (operation_of_kind next.command_kind) ≡ true → bytes ≡ bytes_at (bytes_of h.memory.items) next.address 512) → MayMove (device_of h o) port slot (taken_of t) bytes
 may_move h o port slot next t bytes is sized small gives takes =
@@ -256,13 +256,13 @@ may_move h o port slot next t bytes is sized small gives takes =
     }
   where
     given : is_ranged (operation_of_kind next.command_kind) ≡ true → reads_memory (operation_of_kind next.command_kind) ≡ false →
-        (next_sector (taken_of t) < (o.media port).disk.size) × IfSome (o.media port).disk.sectors (λ f. bytes ≡ f (next_sector (taken_of t)))
+        (next_sector (taken_of t) < (o.media port).disk.sector_count) × IfSome (o.media port).disk.sectors (λ f. bytes ≡ f (next_sector (taken_of t)))
     given ranged reads =
         let sector : next.sector ≡ next_sector (taken_of t) = is.sector_is in
         (rw sector at (small ranged), rw sector at (gives ranged reads))
 
     taken : is_ranged (operation_of_kind next.command_kind) ≡ true → reads_memory (operation_of_kind next.command_kind) ≡ true →
-        (next_sector (taken_of t) < (o.media port).disk.size) × (bytes ≡ bytes_at (bytes_of h.memory.items) (next_place (taken_of t)) 512)
+        (next_sector (taken_of t) < (o.media port).disk.sector_count) × (bytes ≡ bytes_at (bytes_of h.memory.items) (next_place (taken_of t)) 512)
     taken ranged reads =
         let sector : next.sector ≡ next_sector (taken_of t) = is.sector_is in
         let place : next.address ≡ next_place (taken_of t) = is.address_is in

@@ -2,8 +2,8 @@
 use Rattle.std.proofs.Common.{ℕ, zero, suc, ◌≡◌, [], ◌∷◌, ◌++◌, List, Some, All, refl, sym, ◌∙◌, ap, subst, arith, append-nil, append_assoc}
 use Rattle.std.proofs.lemmas.List.Elements.{All-append, All-nil}
 use Rattle.std.specs.Prelude.{option_map}
-use Rattle.adapter.specs.Access.{noted}
-use Rattle.adapter.specs.ToldSteps.{EndsAndPosts}
+use Rattle.adapter.specs.Access.{device_after_reading}
+use Rattle.adapter.specs.AskedSteps.{EndsAndPosts}
 use Rattle.adapter.specs.Device.{Device}
 use Rattle.adapter.specs.Steps.{done_entry}
 use Rattle.adapter.specs.declared.tape.Entry.{Entry}
@@ -24,7 +24,7 @@ use Rattle.device_model.proofs.Transfers.{is_identify, is_log}
 use Rattle.device_model.specs.declared.port.CommandKind.TheVariants as command_kind
 
 -- a reading and a write leave the tape
-pub noted_tape : (r : Reg) (v : ℕ) (d : Device) → (noted r v d).tape ≡ d.tape
+pub noted_tape : (r : Reg) (v : ℕ) (d : Device) → (device_after_reading r v d).tape ≡ d.tape
 noted_tape (Px q r) v d = refl
 noted_tape Cap v d = refl
 noted_tape Ghc v d = refl
@@ -73,22 +73,22 @@ module _ {S : Type 0} (size : S → ℕ) where
   -- a move was noted, of a port that has these disks
   pub gains_moved : (old new : Model S) (bay : Bay S) (k : CommandKind) (m : Move) → bay_of old m.port.0 ≡ Some bay →
       new.hardware.tape.items ≡ old.hardware.tape.items ++ entry.Move m ∷ [] → m.operation ≡ operation_of_kind k →
-      (k ≡ command_kind.Identify → IsSentIdentify (identity size bay.disk) bay.says m.bytes.value) → (k ≡ command_kind.ReadLog → IsSentLog bay.says m.bytes.value) →
+      (k ≡ command_kind.Identify → IsSentIdentify (identity size bay.disk) bay.page_source m.bytes.value) → (k ≡ command_kind.ReadLog → IsSentLog bay.page_source m.bytes.value) →
       GainsOwnPages size old new
   gains_moved old new bay k m was more named page log =
       gains_one old new (entry.Move m) more
       (λ x e.
       let same : m ≡ x = cc in
-      let its : BringsPageOfPort (Some (identity size bay.disk)) (Some bay.says) m =
+      let its : BringsPageOfPort (Some (identity size bay.disk)) (Some bay.page_source) m =
       record { identify_page_is_sent = λ is. page (is_identify k (sym named ∙ is)); log_page_is_sent = λ is. log (is_log k (sym named ∙ is)) } in
       let here : BringsPageOfPort (identity_of size old m.port.0) (page_source_of old m.port.0) m =
-      subst (λ b. BringsPageOfPort (option_map (λ (y : Bay S). identity size y.disk) b) (option_map (λ (y : Bay S). y.says) b) m) (sym was) its in
+      subst (λ b. BringsPageOfPort (option_map (λ (y : Bay S). identity size y.disk) b) (option_map (λ (y : Bay S). y.page_source) b) m) (sym was) its in
       subst (λ (y : Move). BringsPageOfPort (identity_of size old y.port.0) (page_source_of old y.port.0) y) same here)
 
   -- a command ended
   pub gains_done : (o later : AllMedia) (port slot : ℕ) (old new : Model S) → EndsAndPosts (SendsEnd slot) port slot (device_of old.hardware o) (device_of new.hardware later) →
       GainsOwnPages size old new
   gains_done o later port slot old new e =
-      let rest = end_rest port slot e.done.flag e.done.fetched_command.meaning.operation e.mid (device_of new.hardware later) e.posts in
+      let rest = end_rest port slot e.done.cause_bit e.done.fetched_command.meaning.operation e.after_end (device_of new.hardware later) e.posts in
       gains_one old new (done_entry port slot e.done.fetched_command.meaning.operation) (ap (λ (x : Device). x.tape) rest ∙ ap (λ (x : Device). x.tape) e.done.effect)
       (λ x is. absurd (cc is))

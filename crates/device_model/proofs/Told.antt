@@ -2,8 +2,8 @@
 use Rattle.std.proofs.Common.{ℕ, Bool, true, false, ◌≡◌, ◌<◌, ◌∙◌, List, [], ◌∷◌, ◌++◌, Option, None, Some, refl, sym, ap, subst, inl, inr}
 use Rattle.std.specs.Global.{Vec}
 use Rattle.std.specs.Prelude.{if◌then◌else◌, option_map, slice_set}
-use Rattle.adapter.specs.ToldSteps.{DoesFatal, DoesFault, DoesFetch, DoesScribble, DoesToldStep, EndsAndPosts, Fails, fatal_bit}
-use Rattle.adapter.specs.ToldSteps.{busy as busy_bit}
+use Rattle.adapter.specs.AskedSteps.{DoesFatal, DoesFault, DoesFetch, DoesScribble, DoesAskedStep, EndsAndPosts, FailsAndPosts, fatal_bit}
+use Rattle.adapter.specs.AskedSteps.{bsy_mask as busy_bit}
 use Rattle.adapter.specs.Commands.{Meaning, is_queued}
 use Rattle.adapter.specs.Device.{Device, FetchedCommand}
 use Rattle.adapter.specs.Steps.{Can, device_after, fault_entry}
@@ -19,12 +19,12 @@ use Rattle.adapter.specs.declared.tape.Move.{Move}
 use Rattle.ata_types.specs.declared.Port.{Port}
 use Rattle.ata_types.specs.declared.Slot.{Slot}
 use Rattle.sector_store.specs.declared.store.Failures.{Failures}
-use Rattle.device_model.specs.Disks.{EndsCommandIn, OnlyEndsCommand, EndsCommand, OnlyChangesPageSource, bay_of, disk_in_bay, lasting_of, page_source_of, disk_index_of}
-use Rattle.device_model.specs.StepEffects.{AnswersStep, DoesAllItAsks, IsLeftOut, is_losing, MayBeFetched, StepKeeps, LacksMemory, IsPossible, asked_fault, asked_port, page_source_after, page_source_after_failure, disk_index_after}
+use Rattle.device_model.specs.Disks.{EndsCommandIn, OnlyEndsCommand, BayEndsCommand, OnlyChangesPageSource, bay_of, disk_in_bay, lasting_of, page_source_of, disk_index_of}
+use Rattle.device_model.specs.StepEffects.{AnswersStep, DoesAllItAsks, IsLeftOut, is_cache_loss, MayBeFetched, StepKeeps, LacksMemory, IsPossible, asked_fault, asked_port, page_source_after, page_source_after_failure, disk_index_after}
 use Rattle.device_model.specs.Finishing.{TapeHasRoom, IsStepSkipped}
 use Rattle.device_model.specs.HeldPorts.{held_after}
 use Rattle.device_model.specs.ModelState.{device_at, media_of, all_media_at, tells}
-use Rattle.device_model.specs.SentFises.{Sends, SendsEnd, SendsFailed, SendsFault}
+use Rattle.device_model.specs.SentFises.{Sends, SendsEnd, SendsFaultOfOperation, SendsFault}
 use Rattle.device_model.specs.PortView.{busy_if_left, media_after_end}
 use Rattle.device_model.specs.WholeAdapter.{AllMedia, device_of, all_media_after_end}
 use Rattle.device_model.specs.declared.hardware.Hardware.{Hardware}
@@ -44,24 +44,24 @@ use Rattle.device_model.specs.DiskPages.{with_logged_error}
 
 -- a command failed, and then its FIS was sent
 abbrev pub fault_sent : (port at slot error kept : ℕ) (queued : Bool) (old mid new : Device) (f : DoesFault port slot error kept old mid) → queued ≡ is_queued f.fetched_command.meaning.operation →
-    at ≡ port → SendsFault queued at mid new → Fails SendsFailed port slot error kept old new
+    at ≡ port → SendsFault queued at mid new → FailsAndPosts SendsFaultOfOperation port slot error kept old new
 fault_sent port at slot error kept queued old mid new f kind here sent = record {
-  mid = mid;
+  after_failure = mid;
   fault = f;
   posts = subst (λ (b : Bool). SendsFault b port mid new) kind (subst (λ (q : ℕ). SendsFault queued q mid new) here sent);
 }
 
 -- the bay of a port becomes one whose command has ended
 ended_put : {S : Type 0} (o : Operation) (x bay : Option (Bay S)) → EndsCommandIn o x bay →
-    (put : Bay S → Bay S) × (bay ≡ option_map put x) × ((b : Bay S) → x ≡ Some b → EndsCommand o b (put b))
+    (put : Bay S → Bay S) × (bay ≡ option_map put x) × ((b : Bay S) → x ≡ Some b → BayEndsCommand o b (put b))
 ended_put o None bay is = ((λ b. b), is, λ b e. some-none e refl)
 ended_put o (Some a) None is = absurd is
-ended_put o (Some a) (Some c) is = ((λ _. c), refl, λ b e. subst (λ x. EndsCommand o x c) (some_one e) is)
+ended_put o (Some a) (Some c) is = ((λ _. c), refl, λ b e. subst (λ x. BayEndsCommand o x c) (some_one e) is)
 
 module _ {S : Type 0} (size : S → ℕ) (told : S → Option (ℕ → List ℕ)) where
   -- what such a one leaves
-  ended_rest : (o : Operation) (a b : Bay S) → EndsCommand o a b → (b ≡ record a { lasting = b.lasting; cache = b.cache }) × (b.cache.is_on ≡ a.cache.is_on)
-  ended_rest operation.Flush a b is = (is.1 ∙ (λ i. record a { lasting = (sym (ap (λ (x : Bay S). x.lasting) is.1)) i; cache = b.cache }), is.0.is_on)
+  ended_rest : (o : Operation) (a b : Bay S) → BayEndsCommand o a b → (b ≡ record a { lasting = b.lasting; cache = b.cache }) × (b.cache.is_on ≡ a.cache.is_on)
+  ended_rest operation.Flush a b is = (is.1 ∙ (λ i. record a { lasting = (sym (ap (λ (x : Bay S). x.lasting) is.1)) i; cache = b.cache }), is.0.cache_mode_is_kept)
   ended_rest operation.Identify a b is = (is ∙ (λ i. record a { lasting = (sym is i).lasting; cache = (sym is i).cache }), ap (λ (x : Bay S). x.cache.is_on) is)
   ended_rest operation.ReadLog a b is = (is ∙ (λ i. record a { lasting = (sym is i).lasting; cache = (sym is i).cache }), ap (λ (x : Bay S). x.cache.is_on) is)
   ended_rest operation.Read a b is = (is ∙ (λ i. record a { lasting = (sym is i).lasting; cache = (sym is i).cache }), ap (λ (x : Bay S). x.cache.is_on) is)
@@ -77,7 +77,7 @@ module _ {S : Type 0} (size : S → ℕ) (told : S → Option (ℕ → List ℕ)
   none_older true items (Some f) none = ap (λ (l : List OldSector). Some (with_old_bytes l f)) none
 
   -- what is behind a port once a command has ended
-  ended_some : (o : Operation) (a b : Bay S) → EndsCommand o a b → media_of size told (Some b) ≡ media_after_end (media_of size told (Some a)) o
+  ended_some : (o : Operation) (a b : Bay S) → BayEndsCommand o a b → media_of size told (Some b) ≡ media_after_end (media_of size told (Some a)) o
   ended_some operation.Flush a b is =
       let lasts : lasting_of told b ≡ told a.disk.store =
       ap (λ (x : Bay S). lasting_in b.cache (told x.disk.store) (told x.lasting.value)) is.1 ∙ none_older b.cache.is_on b.cache.kept.sectors.items (told a.disk.store) is.0.old_sectors_are in
@@ -187,14 +187,14 @@ module _ {S : Type 0} (size : S → ℕ) (told : S → Option (ℕ → List ℕ)
   fetch_answers p s port slot f tape starved = (
     (port, slot, inl (f.meaning, f.places, f.can)),
     record {
-      completes_or_fails = inl (record { does_told_step = f; no_call_failed = λ _ _ _. refl; page_source_is = refl; does_all_it_asks = λ _. tt; loses_cache = λ yes. true-false yes refl });
+      completes_or_fails = inl (record { does_asked_step = f; no_call_failed = λ _ _ _. refl; page_source_is = refl; does_all_it_asks = λ _. tt; loses_cache = λ yes. true-false yes refl });
       held_ports_are = refl;
       disk_index_is = refl;
       other_bays_are_kept = λ _ _. refl;
       gains_own_pages = gains_none size m new (ap (λ (v : Vec Entry). v.items) tape);
       disks_are_kept = λ _ _. refl;
       step_keeps = on_hardware;
-      starved = starved;
+      starved_is_kept = starved;
     },
   )
 
@@ -215,7 +215,7 @@ module _ {S : Type 0} (size : S → ℕ) (told : S → Option (ℕ → List ℕ)
           gains_own_pages = gains_one size m new (fault_entry p.0 s.0 4 0) (ap (λ (x : Device). x.tape) (fault_rest false p.0 (device_after (FetchFault p.0 s.0 false 0) (device_of m.hardware behind)) (device_of h behind) d.1)) (λ x e. absurd (cc e));
           disks_are_kept = λ _ _. refl;
           step_keeps = on_hardware;
-          starved = starved refl;
+          starved_is_kept = starved refl;
         },
       )
   senseless_answers p s false port slot only done same passed starved =
@@ -236,13 +236,13 @@ module _ {S : Type 0} (size : S → ℕ) (told : S → Option (ℕ → List ℕ)
       put_outside put m last p.0 items size told (λ x. media_after_end x o) (λ b e. ap (λ (x : Bay S). tells told (Some x)) (rest b e).0)
       (ap (media_of size told) (sym ended.1) ∙ ended_media size told o (bay_of m p.0) bay is) in
       let P : AllMedia → Type 0 = λ x. EndsAndPosts (SendsEnd s.0) p.0 s.0 (device_of m.hardware behind) (device_of h x) in (
-        (port, slot, d.done.flag, d.done.fetched_command, d.done.can),
+        (port, slot, d.done.cause_bit, d.done.fetched_command, d.done.can),
         record {
           completes_or_fails = inl (record {
-            does_told_step = subst P (sym behind_then) d;
+            does_asked_step = subst P (sym behind_then) d;
             no_call_failed = λ _ q w. put_same put m last p.0 items (λ x. option_map (λ (y : ModelDisk S). failures y.store) (option_map (λ (y : Bay S). disk_in_bay y w) x))
                 (λ b e. ap (λ (x : Bay S). Some (failures (disk_in_bay x w).store)) (rest b e).0) q;
-            page_source_is = put_same put m last p.0 items (option_map (λ (y : Bay S). y.says)) (λ b e. ap (λ (x : Bay S). Some x.says) (rest b e).0) p.0;
+            page_source_is = put_same put m last p.0 items (option_map (λ (y : Bay S). y.page_source)) (λ b e. ap (λ (x : Bay S). Some x.page_source) (rest b e).0) p.0;
             does_all_it_asks = λ _. tt;
             loses_cache = λ yes. true-false yes refl;
           });
@@ -252,7 +252,7 @@ module _ {S : Type 0} (size : S → ℕ) (told : S → Option (ℕ → List ℕ)
           gains_own_pages = gains_done size behind (all_media_after_end behind p.0 o) p.0 s.0 m last d;
           disks_are_kept = λ _ w. put_same put m last p.0 items (option_map (λ (y : Bay S). disk_in_bay y w)) (λ b e. ap (λ (x : Bay S). Some (disk_in_bay x w)) (rest b e).0) p.0;
           step_keeps = put_keeps put m last p.0 items size (λ b e w. ap (λ (x : Bay S). disk_in_bay x w) (rest b e).0) (λ b e. (rest b e).1) refl refl;
-          starved = starved;
+          starved_is_kept = starved;
         },
       )
 
@@ -265,10 +265,10 @@ module _ {S : Type 0} (size : S → ℕ) (told : S → Option (ℕ → List ℕ)
 
   -- a command that is taken fails: in the model the log names it, if it is queued
   module _ (step : DeviceStep) (s : Slot) (error kept : ℕ) (may : IsPossible step (device_at size told m))
-      (f : Fails SendsFailed (asked_port step) s.0 error kept (device_of m.hardware behind) (device_of h behind)) (starved : h.starved ≡ m.hardware.starved)
-      (done : (old last : Device) → Fails SendsFailed (asked_port step) s.0 error kept old last → DoesToldStep (Sends step) step old last)
+      (f : FailsAndPosts SendsFaultOfOperation (asked_port step) s.0 error kept (device_of m.hardware behind) (device_of h behind)) (starved : h.starved ≡ m.hardware.starved)
+      (done : (old last : Device) → FailsAndPosts SendsFaultOfOperation (asked_port step) s.0 error kept old last → DoesAskedStep (Sends step) step old last)
       (ends : (old last : Device) → DoesAllItAsks step old last)
-      (safe : is_losing step ≡ false)
+      (safe : is_cache_loss step ≡ false)
       (tells : (said : Option PageSource) → page_source_after step (device_at size told m) said ≡ page_source_after_failure (((device_at size told m).port (asked_port step)).taken s.0) s.0 error said)
       (held : m.held ≡ held_after step m.held) (which : disk_index_of m (asked_port step) ≡ disk_index_after step (disk_index_of m (asked_port step))) where
     abbrev at : ℕ
@@ -278,7 +278,7 @@ module _ {S : Type 0} (size : S → ℕ) (told : S → Option (ℕ → List ℕ)
     name = with_logged_error (record { tag = s.0; error = error })
 
     noted : h.tape.items ≡ m.hardware.tape.items ++ fault_entry at s.0 error kept ∷ []
-    noted = ap (λ (x : Device). x.tape) (fault_rest (is_queued f.fault.fetched_command.meaning.operation) at f.mid (device_of h behind) f.posts) ∙ ap (λ (x : Device). x.tape) f.fault.effect
+    noted = ap (λ (x : Device). x.tape) (fault_rest (is_queued f.fault.fetched_command.meaning.operation) at f.after_failure (device_of h behind) f.posts) ∙ ap (λ (x : Device). x.tape) f.fault.effect
 
     said : (queued : Bool) → is_queued f.fault.fetched_command.meaning.operation ≡ queued →
         (if queued then option_map name (page_source_of m at) else page_source_of m at) ≡ page_source_after step (device_at size told m) (page_source_of m at)
@@ -290,14 +290,14 @@ module _ {S : Type 0} (size : S → ℕ) (told : S → Option (ℕ → List ℕ)
     plain_fails plain = (
       may,
       record {
-        completes_or_fails = inl (record { does_told_step = done _ _ f; no_call_failed = λ _ _ _. refl; page_source_is = said false plain; does_all_it_asks = λ _. ends _ _; loses_cache = λ yes. true-false yes safe });
+        completes_or_fails = inl (record { does_asked_step = done _ _ f; no_call_failed = λ _ _ _. refl; page_source_is = said false plain; does_all_it_asks = λ _. ends _ _; loses_cache = λ yes. true-false yes safe });
         held_ports_are = held;
         disk_index_is = which;
         other_bays_are_kept = λ _ _. refl;
         gains_own_pages = gains_one size m new (fault_entry at s.0 error kept) noted (λ x e. absurd (cc e));
         disks_are_kept = λ _ _. refl;
         step_keeps = on_hardware;
-        starved = starved;
+        starved_is_kept = starved;
       },
     )
 
@@ -305,11 +305,11 @@ module _ {S : Type 0} (size : S → ℕ) (told : S → Option (ℕ → List ℕ)
         AnswersStep size told failures step true m (record new { bays = bays })
     queued_fails bays only queued =
         let last : Model S = record new { bays = bays } in
-        let P : AllMedia → Type 0 = λ o. Fails SendsFailed at s.0 error kept (device_of m.hardware behind) (device_of h o) in (
+        let P : AllMedia → Type 0 = λ o. FailsAndPosts SendsFaultOfOperation at s.0 error kept (device_of m.hardware behind) (device_of h o) in (
           may,
           record {
             completes_or_fails = inl (record {
-              does_told_step = done _ _ (subst P (sym (saying_outside name m last at only size told)) f);
+              does_asked_step = done _ _ (subst P (sym (saying_outside name m last at only size told)) f);
               no_call_failed = λ _ q w. saying_same name m last at only (λ x. option_map (λ (y : ModelDisk S). failures y.store) (option_map (λ (y : Bay S). disk_in_bay y w) x)) (λ b. refl) q;
               page_source_is = saying_here name m last at only ∙ said true queued;
               does_all_it_asks = λ _. ends _ _;
@@ -321,13 +321,13 @@ module _ {S : Type 0} (size : S → ℕ) (told : S → Option (ℕ → List ℕ)
             gains_own_pages = gains_one size m last (fault_entry at s.0 error kept) noted (λ x e. absurd (cc e));
             disks_are_kept = λ _ w. saying_same name m last at only (option_map (λ (y : Bay S). disk_in_bay y w)) (λ b. refl) at;
             step_keeps = saying_keeps name m last at only size refl refl;
-            starved = starved;
+            starved_is_kept = starved;
           },
         )
 
   -- the one or the other: its disk is left busy, or not
   pub plain_answers : (busy : Bool) (p : Port) (s : Slot) (error : ℕ) → p.0 < 4 → s.0 < 32 →
-      (f : Fails SendsFailed p.0 s.0 error (busy_if_left busy) (device_of m.hardware behind) (device_of h behind)) → h.starved ≡ m.hardware.starved →
+      (f : FailsAndPosts SendsFaultOfOperation p.0 s.0 error (busy_if_left busy) (device_of m.hardware behind) (device_of h behind)) → h.starved ≡ m.hardware.starved →
       is_queued f.fault.fetched_command.meaning.operation ≡ false → AnswersStep size told failures (asked_fault busy p s error) true m new
   plain_answers false p s error port slot f starved plain =
       plain_fails (asked.Fault p s error) s error 0 (port, slot, f.fault.fetched_command, f.fault.can) f starved (λ _ _ g. g) (λ _ _. tt) refl (λ _. refl) refl refl plain
@@ -335,7 +335,7 @@ module _ {S : Type 0} (size : S → ℕ) (told : S → Option (ℕ → List ℕ)
       plain_fails (asked.FaultBusy p s error) s error busy_bit (port, slot, f.fault.fetched_command, f.fault.can) f starved (λ _ _ g. g) (λ _ _. tt) refl (λ _. refl) refl refl plain
 
   pub queued_answers : (busy : Bool) (p : Port) (s : Slot) (error : ℕ) → p.0 < 4 → s.0 < 32 →
-      (f : Fails SendsFailed p.0 s.0 error (busy_if_left busy) (device_of m.hardware behind) (device_of h behind)) → h.starved ≡ m.hardware.starved →
+      (f : FailsAndPosts SendsFaultOfOperation p.0 s.0 error (busy_if_left busy) (device_of m.hardware behind) (device_of h behind)) → h.starved ≡ m.hardware.starved →
       (bays : Vec (Option (Bay S))) → OnlyChangesPageSource (with_logged_error (record { tag = s.0; error = error })) p.0 m.bays.items bays.items →
       is_queued f.fault.fetched_command.meaning.operation ≡ true → AnswersStep size told failures (asked_fault busy p s error) true m (record new { bays = bays })
   queued_answers false p s error port slot f starved bays only queued =
@@ -362,14 +362,14 @@ module _ {S : Type 0} (size : S → ℕ) (told : S → Option (ℕ → List ℕ)
       let d = done refl in (
         (port, d.receives),
         record {
-          completes_or_fails = inl (record { does_told_step = d; no_call_failed = λ _ _ _. refl; page_source_is = refl; does_all_it_asks = λ _. tt; loses_cache = λ yes. true-false yes refl });
+          completes_or_fails = inl (record { does_asked_step = d; no_call_failed = λ _ _ _. refl; page_source_is = refl; does_all_it_asks = λ _. tt; loses_cache = λ yes. true-false yes refl });
           held_ports_are = refl;
           disk_index_is = refl;
           other_bays_are_kept = λ _ _. refl;
           gains_own_pages = gains_none size m new (ap (λ (x : Hardware). x.tape.items) rest);
           disks_are_kept = λ _ _. refl;
           step_keeps = on_hardware;
-          starved = ap (λ (x : Hardware). x.starved) rest;
+          starved_is_kept = ap (λ (x : Hardware). x.starved) rest;
         },
       )
   scribble_answers p byte false port done never same rest =
@@ -381,22 +381,22 @@ module _ {S : Type 0} (size : S → ℕ) (told : S → Option (ℕ → List ℕ)
       (IsPossible s (device_at size told m) → possible) → (possible → IsPossible s (device_at size told m)) →
       ((TapeHasRoom m.hardware 1 → ⊥) → LacksMemory s (device_at size told m) m.hardware m.bays.items) → page_source_of m (asked_port s) ≡ page_source_after s (device_at size told m) (page_source_of m (asked_port s)) →
       m.held ≡ held_after s m.held → disk_index_of m (asked_port s) ≡ disk_index_after s (disk_index_of m (asked_port s)) → DoesAllItAsks s (device_of m.hardware behind) (device_of h behind) →
-      is_losing s ≡ false →
-      (did ≡ true → possible × DoesToldStep (Sends s) s (device_of m.hardware behind) (device_of h behind) × (h.tape.items ≡ m.hardware.tape.items ++ note ∷ [])) →
+      is_cache_loss s ≡ false →
+      (did ≡ true → possible × DoesAskedStep (Sends s) s (device_of m.hardware behind) (device_of h behind) × (h.tape.items ≡ m.hardware.tape.items ++ note ∷ [])) →
       (did ≡ false → device_of h behind ≡ device_of m.hardware behind) → (did ≡ false → IsStepSkipped m.hardware h possible) →
       (did ≡ true → h.starved ≡ m.hardware.starved) → AnswersStep size told failures s did m new
   noted_answers s true possible note no_move forth back lacks says held which ends safe done same passed starved =
       let d = done refl in (
         back d.0,
         record {
-          completes_or_fails = inl (record { does_told_step = d.1; no_call_failed = λ _ _ _. refl; page_source_is = says; does_all_it_asks = λ _. ends; loses_cache = λ yes. true-false yes safe });
+          completes_or_fails = inl (record { does_asked_step = d.1; no_call_failed = λ _ _ _. refl; page_source_is = says; does_all_it_asks = λ _. ends; loses_cache = λ yes. true-false yes safe });
           held_ports_are = held;
           disk_index_is = which;
           other_bays_are_kept = λ _ _. refl;
           gains_own_pages = gains_one size m new note d.2 (λ x e. absurd (no_move x e));
           disks_are_kept = λ _ _. refl;
           step_keeps = on_hardware;
-          starved = starved refl;
+          starved_is_kept = starved refl;
         },
       )
   noted_answers s false possible note no_move forth back lacks says held which ends safe done same passed starved =
@@ -428,8 +428,8 @@ module _ {S : Type 0} (size : S → ℕ) (told : S → Option (ℕ → List ℕ)
   lied = record m { bays = bays }
 
   -- a step that asks for nothing else is done
-  pub lie_answers : IsPossible s (device_at size told m) → ((old new : Device) → new ≡ old → DoesToldStep (Sends s) s old new) → ((old new : Device) → DoesAllItAsks s old new) →
-      is_losing s ≡ false →
+  pub lie_answers : IsPossible s (device_at size told m) → ((old new : Device) → new ≡ old → DoesAskedStep (Sends s) s old new) → ((old new : Device) → DoesAllItAsks s old new) →
+      is_cache_loss s ≡ false →
       option_map name (page_source_of m (asked_port s)) ≡ page_source_after s (device_at size told m) (page_source_of m (asked_port s)) → m.held ≡ held_after s m.held →
       disk_index_of m (asked_port s) ≡ disk_index_after s (disk_index_of m (asked_port s)) → AnswersStep size told failures s true m lied
   lie_answers may done ends safe says held which =
@@ -437,7 +437,7 @@ module _ {S : Type 0} (size : S → ℕ) (told : S → Option (ℕ → List ℕ)
         may,
         record {
           completes_or_fails = inl (record {
-            does_told_step = done _ _ (ap (λ (o : AllMedia). device_of m.hardware o) (saying_outside name m lied port only size told));
+            does_asked_step = done _ _ (ap (λ (o : AllMedia). device_of m.hardware o) (saying_outside name m lied port only size told));
             no_call_failed = λ _ q w. saying_same name m lied port only (λ x. option_map (λ (y : ModelDisk S). failures y.store) (option_map (λ (y : Bay S). disk_in_bay y w) x)) (λ b. refl) q;
             page_source_is = saying_here name m lied port only ∙ says;
             does_all_it_asks = λ _. ends _ _;
@@ -449,6 +449,6 @@ module _ {S : Type 0} (size : S → ℕ) (told : S → Option (ℕ → List ℕ)
           gains_own_pages = gains_none size m lied refl;
           disks_are_kept = λ _ w. saying_same name m lied port only (option_map (λ (y : Bay S). disk_in_bay y w)) (λ b. refl) port;
           step_keeps = saying_keeps name m lied port only size refl refl;
-          starved = refl;
+          starved_is_kept = refl;
         },
       )

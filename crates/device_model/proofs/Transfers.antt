@@ -2,9 +2,9 @@
 use Rattle.std.proofs.Common.{ℕ, Bool, true, false, ◌≡◌, ◌<◌, ◌&&◌, List, Option, None, Some, refl, ap}
 use Rattle.std.proofs.lemmas.Grind.{get_or_default_zero}
 use Rattle.std.specs.Prelude.{is_some, length, option_map, slice_index}
-use Rattle.sector_store.specs.Stores.{replaced}
+use Rattle.sector_store.specs.Stores.{with_sector}
 use Rattle.adapter.specs.Commands.{is_queued, is_ranged}
-use Rattle.adapter.specs.Device.{Disk, FetchedCommand, DevicePort, IsSector}
+use Rattle.adapter.specs.Device.{Disk, FetchedCommand, DevicePort, IsValidSector}
 use Rattle.adapter.specs.Memory.{changed}
 use Rattle.adapter.specs.Steps.{IsUnmixed, block_after, disk_after}
 use Rattle.adapter.specs.declared.command.Operation.{Operation}
@@ -17,7 +17,7 @@ use Rattle.device_model.specs.declared.port.CommandKind.{CommandKind}
 use Rattle.device_model.specs.declared.port.CommandKind.TheVariants as command_kind
 
 -- so many bytes are a sector
-pub fits_sector : (bytes : List ℕ) → length bytes ≡ 512 → ((k : ℕ) → slice_index bytes k < 256) → IsSector bytes
+pub fits_sector : (bytes : List ℕ) → length bytes ≡ 512 → ((k : ℕ) → slice_index bytes k < 256) → IsValidSector bytes
 fits_sector bytes long small = (long, λ k d less. rw (get_or_default_zero bytes k d less) (small k))
 
 -- no command but a trim keeps what it moves
@@ -88,13 +88,13 @@ still_tells command_kind.ReadLog disk sector bytes = refl
 still_tells command_kind.Write disk sector bytes = mapped_tells sector bytes disk.sectors
 still_tells command_kind.WriteQueued disk sector bytes = mapped_tells sector bytes disk.sectors
 
-one_replaced : (f : ℕ → List ℕ) (sector : ℕ) (bytes : List ℕ) → replaced f sector bytes ≡ changed f sector bytes
+one_replaced : (f : ℕ → List ℕ) (sector : ℕ) (bytes : List ℕ) → with_sector f sector bytes ≡ changed f sector bytes
 unfolding changed
 one_replaced f sector bytes = refl
 
 -- what a store tells after a write is what its disk has
 pub replaced_is : (told : Option (ℕ → List ℕ)) (sector : ℕ) (bytes : List ℕ) →
-    option_map (λ f. replaced f sector bytes) told ≡ option_map (λ f. changed f sector bytes) told
+    option_map (λ f. with_sector f sector bytes) told ≡ option_map (λ f. changed f sector bytes) told
 replaced_is told sector bytes = ap (λ (g : (ℕ → List ℕ) → ℕ → List ℕ). option_map g told) (λ i f. one_replaced f sector bytes i)
 
 -- the command whose operation is IDENTIFY DEVICE

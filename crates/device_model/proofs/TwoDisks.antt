@@ -8,7 +8,7 @@ use Rattle.adapter.specs.Memory.{changed}
 use Rattle.adapter.specs.Steps.{disk_after, disk_cleared, next_sector}
 use Rattle.device_model.proofs.Places.{fun_ext, changed_same, changed_other}
 use Rattle.sector_store.specs.declared.store.Failures.{Failures}
-use Rattle.device_model.specs.Disks.{bay_of, disk_in_bay, disk_number, numbered_disk, disk_over, bay_failures, disk_failures, has_cache, identity, identity_of, is_same, lasting_of, page_source_of, disk_index_of}
+use Rattle.device_model.specs.Disks.{bay_of, disk_in_bay, disk_number, numbered_disk, disk_over, bay_failures, disk_failures, has_cache, identity, identity_of, is_same_index, lasting_of, page_source_of, disk_index_of}
 use Rattle.device_model.specs.StepEffects.{NoCallFailed, StepKeeps}
 use Rattle.device_model.specs.ModelState.{all_tell, device_at, media_of, all_media_at, tells}
 use Rattle.device_model.specs.PortView.{Media, media_after_move, media_after_clear, operation_of_kind, taken_of}
@@ -28,11 +28,11 @@ use Rattle.device_model.proofs.Transfers.{still_tells}
 
 -- ---- which disk it is
 
-pub same_self : (w : DiskIndex) → is_same w w ≡ true
+pub same_self : (w : DiskIndex) → is_same_index w w ≡ true
 same_self Disk0 = refl
 same_self Disk1 = refl
 
-pub not_same : (w v : DiskIndex) → w ≢ v → is_same w v ≡ false
+pub not_same : (w v : DiskIndex) → w ≢ v → is_same_index w v ≡ false
 not_same Disk0 Disk0 ne = absurd (ne refl)
 not_same Disk0 Disk1 ne = refl
 not_same Disk1 Disk0 ne = refl
@@ -70,7 +70,7 @@ module _ {S : Type 0} where
   by_number : (f : ModelDisk S → Bool) (b : Bay S) → f (disk_in_bay b Disk0) && f (disk_in_bay b Disk1) ≡ (f b.disk && f b.other)
   by_number f b = by b.which
     where
-      by : (w : DiskIndex) → f (if is_same Disk0 w then b.disk else b.other) && f (if is_same Disk1 w then b.disk else b.other) ≡ (f b.disk && f b.other)
+      by : (w : DiskIndex) → f (if is_same_index Disk0 w then b.disk else b.other) && f (if is_same_index Disk1 w then b.disk else b.other) ≡ (f b.disk && f b.other)
       by Disk0 = refl
       by Disk1 = and_turned (f b.other) (f b.disk)
 
@@ -255,10 +255,10 @@ module _ {S : Type 0} where
     store_which = ap (λ (x : Bay S). x.which) rest
 
     pub store_out : (w : DiskIndex) → w ≢ a.which → disk_in_bay b w ≡ disk_in_bay a w
-    store_out w ne = ap (λ (x : Bay S). disk_in_bay x w) rest ∙ kept_out (is_same w a.which) (record a.disk { store = b.disk.store }) a.disk a.other (not_same w a.which ne)
+    store_out w ne = ap (λ (x : Bay S). disk_in_bay x w) rest ∙ kept_out (is_same_index w a.which) (record a.disk { store = b.disk.store }) a.disk a.other (not_same w a.which ne)
 
     pub store_kept : {X : Type 0} (f : ModelDisk S → X) → f (record a.disk { store = b.disk.store }) ≡ f a.disk → (w : DiskIndex) → f (disk_in_bay b w) ≡ f (disk_in_bay a w)
-    store_kept f same w = ap (λ (x : Bay S). f (disk_in_bay x w)) rest ∙ kept_in f (is_same w a.which) (record a.disk { store = b.disk.store }) a.disk a.other same
+    store_kept f same w = ap (λ (x : Bay S). f (disk_in_bay x w)) rest ∙ kept_in f (is_same_index w a.which) (record a.disk { store = b.disk.store }) a.disk a.other same
 
     pub store_keeps : (size : S → ℕ) → size b.disk.store ≡ size a.disk.store → b.cache.is_on ≡ a.cache.is_on → new.queue ≡ m.queue → new.accesses ≡ m.accesses → StepKeeps size m new
     store_keeps size sectors =
@@ -274,7 +274,7 @@ module _ {S : Type 0} where
     store_whichs = seated_same m new port a b was items (option_map (λ (x : Bay S). x.which)) (ap Some store_which)
 
     pub store_says : (q : ℕ) → page_source_of new q ≡ page_source_of m q
-    store_says = seated_same m new port a b was items (option_map (λ (x : Bay S). x.says)) (ap (λ (x : Bay S). Some x.says) rest)
+    store_says = seated_same m new port a b was items (option_map (λ (x : Bay S). x.page_source)) (ap (λ (x : Bay S). Some x.page_source) rest)
 
     module _ (size : S → ℕ) (told : S → Option (ℕ → List ℕ)) where
       abbrev was_put : List Disk
@@ -387,9 +387,9 @@ module _ {S : Type 0} where
   -- ---- what the disks of a port say is another
 
   module _ (says : PageSource → PageSource) (m new : Model S) (port : ℕ)
-      (items : new.bays.items ≡ slice_set m.bays.items port (option_map (λ (b : Bay S). record b { says = says b.says }) (bay_of m port))) where
+      (items : new.bays.items ≡ slice_set m.bays.items port (option_map (λ (b : Bay S). record b { page_source = says b.page_source }) (bay_of m port))) where
     abbrev saying : Bay S → Bay S
-    saying b = record b { says = says b.says }
+    saying b = record b { page_source = says b.page_source }
 
     pub saying_same : {X : Type 0} (f : Option (Bay S) → X) → ((b : Bay S) → f (Some (saying b)) ≡ f (Some b)) → (q : ℕ) → f (bay_of new q) ≡ f (bay_of m q)
     saying_same f same q = put_same saying m new port items f (λ b _. same b) q
@@ -398,9 +398,9 @@ module _ {S : Type 0} where
     saying_others q ne = put_others saying m new port items q ne
 
     pub saying_here : page_source_of new port ≡ option_map says (page_source_of m port)
-    saying_here = ap (option_map (λ (b : Bay S). b.says)) (put_here saying m new port items) ∙ by (bay_of m port)
+    saying_here = ap (option_map (λ (b : Bay S). b.page_source)) (put_here saying m new port items) ∙ by (bay_of m port)
       where
-        by : (x : Option (Bay S)) → option_map (λ (b : Bay S). b.says) (option_map saying x) ≡ option_map says (option_map (λ (b : Bay S). b.says) x)
+        by : (x : Option (Bay S)) → option_map (λ (b : Bay S). b.page_source) (option_map saying x) ≡ option_map says (option_map (λ (b : Bay S). b.page_source) x)
         by None = refl
         by (Some b) = refl
 
@@ -446,11 +446,11 @@ module _ {S : Type 0} where
             some-none some (sym which ∙ none)
 
     -- a port whose disk has sectors has disks
-    pub sized_disks : (m : Model S) (port sector : ℕ) → sector < ((device_at size told m).port port).disk.size → HasDisks (device_at size told m) port
+    pub sized_disks : (m : Model S) (port sector : ℕ) → sector < ((device_at size told m).port port).disk.sector_count → HasDisks (device_at size told m) port
     sized_disks m port sector below = by (bay_of m port) refl
       where
         by : (x : Option (Bay S)) → bay_of m port ≡ x → HasDisks (device_at size told m) port
         by (Some b) is = has_disks m port b is
         by None is =
-            let none : ((device_at size told m).port port).disk.size ≡ 0 = ap (λ x. (media_of size told x).disk.size) is in
+            let none : ((device_at size told m).port port).disk.sector_count ≡ 0 = ap (λ x. (media_of size told x).disk.sector_count) is in
             absurd (omega (arith, below, none))

@@ -3,17 +3,17 @@ use Rattle.std.proofs.Common.{ℕ, zero, suc, Bool, true, false, ◌≡◌, ◌�
 use Rattle.std.proofs.lemmas.Bool.Decides.{eqb_tells}
 use Rattle.std.proofs.lemmas.List.Elements.{All-head, All-tail}
 use Rattle.std.specs.Prelude.{if◌then◌else◌, nat_eq, option_map}
-use Rattle.adapter.specs.ToldSteps.{DoesPlug, DoesUnplug, DoesToldStep, SlotGoesOn, busy}
+use Rattle.adapter.specs.AskedSteps.{DoesPlug, DoesUnplug, DoesAskedStep, SlotGoesOn, bsy_mask}
 use Rattle.adapter.specs.Device.{Device, DevicePort, FetchedCommand}
-use Rattle.adapter.specs.Steps.{Can, WorksOn, begun}
+use Rattle.adapter.specs.Steps.{Can, WorksOn, newly_fetched}
 use Rattle.adapter.specs.Steps.DeviceTransition.{Fetch}
 use Rattle.adapter.specs.declared.access.DeviceStep.{DeviceStep}
 use Rattle.adapter.specs.declared.access.DeviceStep.TheVariants as asked
 use Rattle.sector_store.specs.declared.store.Failures.{Failures}
 use Rattle.device_model.specs.Disks.{disk_in_bay, disk_number, numbered_disk, disk_index_of}
-use Rattle.device_model.specs.StepEffects.{AnswersStep, AsksStore, ClearsFewer, StepFails, FailsToClear, FailsToMove, IsPossible, PutsIn, asked_port, disk_index_after}
+use Rattle.device_model.specs.StepEffects.{AnswersStep, MayAskStore, ClearsFewer, StepFails, FailsToClear, FailsToMove, IsPossible, PutsIn, asked_port, disk_index_after}
 use Rattle.device_model.specs.ModelState.{device_at}
-use Rattle.device_model.specs.Queue.{DoesEach}
+use Rattle.device_model.specs.Queue.{AnswersEachStep}
 use Rattle.device_model.specs.SentFises.{Sends, SendsEnd}
 use Rattle.device_model.specs.declared.disks.DiskIndex.{DiskIndex}
 use Rattle.device_model.specs.declared.disks.DiskIndex.TheVariants.{Disk0, Disk1}
@@ -69,14 +69,14 @@ still_out l (asked.LosePlug p) d q w v at out never may = out
 
 -- where a port has no disk in it, nothing that is asked puts one in, but a Plug
 still_empty : (s : DeviceStep) (old new : Device) (q : ℕ) (w : DiskIndex) (v : Option DiskIndex) → (old.port q).present ≡ false → (PutsIn (Some w) q w s → ⊥) → IsPossible s old →
-    DoesToldStep (Sends s) s old new → (q ≡ asked_port s → disk_index_after s v ≡ Some w) → (new.port q).present ≡ false
+    DoesAskedStep (Sends s) s old new → (q ≡ asked_port s → disk_index_after s v ≡ Some w) → (new.port q).present ≡ false
 still_empty (asked.Fetch p s) old new q w v empty never may did same = one_keeps_present q p.0 s.0 old new (inl did) ∙ empty
 still_empty (asked.Move p s) old new q w v empty never may did same = one_keeps_present q p.0 s.0 old new (inr (inl did)) ∙ empty
 still_empty (asked.Clear p s n) old new q w v empty never may did same = one_keeps_present q p.0 s.0 old new (inr (inr (inr (n, did)))) ∙ empty
 still_empty (asked.Done p s) old new q w v empty never may did same = one_keeps_present q p.0 s.0 old new (inr (inr (inl did))) ∙ empty
 still_empty (asked.Finish p s) old new q w v empty never may did same = some_keep_present q (suc did.0) p.0 s.0 old new did.1 ∙ empty
 still_empty (asked.Fault p s error) old new q w v empty never may did same = fault_keeps_present q p.0 s.0 error 0 old new did ∙ empty
-still_empty (asked.FaultBusy p s error) old new q w v empty never may did same = fault_keeps_present q p.0 s.0 error busy old new did ∙ empty
+still_empty (asked.FaultBusy p s error) old new q w v empty never may did same = fault_keeps_present q p.0 s.0 error bsy_mask old new did ∙ empty
 still_empty (asked.Scribble p byte) old new q w v empty never may did same = ap (λ (d : Device). (d.port q).present) did.effect ∙ empty
 still_empty (asked.Fatal p error) old new q w v empty never may did same = fatal_keeps_present q p.0 error old new did ∙ empty
 still_empty (asked.Lie p page offset bits) old new q w v empty never may did same = ap (λ (d : Device). (d.port q).present) did ∙ empty
@@ -147,7 +147,7 @@ module _ {S : Type 0} (size : S → ℕ) (told : S → Option (ℕ → List ℕ)
 
   -- where the port has no disk in it, its store isn't asked
   none_moves : (s : DeviceStep) (w : DiskIndex) (m : Model S) → (PutsIn (Some w) q w s → ⊥) → q ≡ asked_port s → ((device_at size told m).port q).present ≡ false →
-      AsksStore s (device_at size told m) → ⊥
+      MayAskStore s (device_at size told m) → ⊥
   none_moves (asked.Move p s) w m never at empty moves = there (device_at size told m) p.0 at empty moves.2.works.working.present
   none_moves (asked.Finish p s) w m never at empty moves = by moves.4.is_begun_or_fetchable
     where
@@ -157,7 +157,7 @@ module _ {S : Type 0} (size : S → ℕ) (told : S → Option (ℕ → List ℕ)
       t : FetchedCommand
       t = moves.4.fetched_command
 
-      by : WorksOn (d.port p.0) s.0 t t.meaning.operation ⊎ (Can (Fetch p.0 s.0 t.meaning t.places) d × (t ≡ begun t.meaning t.places)) → ⊥
+      by : WorksOn (d.port p.0) s.0 t t.meaning.operation ⊎ (Can (Fetch p.0 s.0 t.meaning t.places) d × (t ≡ newly_fetched t.meaning t.places)) → ⊥
       by (inl works) = there d p.0 at empty works.working.present
       by (inr begins) = there d p.0 at empty begins.0.working.present
   none_moves (asked.Fetch p s) w m never at empty moves = moves
@@ -193,7 +193,7 @@ module _ {S : Type 0} (size : S → ℕ) (told : S → Option (ℕ → List ℕ)
   )
 
   pub out_stays : (l : Option DiskIndex) (steps : List DeviceStep) (old new : Model S) (w : DiskIndex) → disk_index_of old q ≢ Some w → All (λ s. PutsIn l q w s → ⊥) steps →
-      DoesEach size told failures steps old new → (disk_index_of new q ≢ Some w) × (numbered_disk new q w ≡ numbered_disk old q w)
+      AnswersEachStep size told failures steps old new → (disk_index_of new q ≢ Some w) × (numbered_disk new q w ≡ numbered_disk old q w)
   out_stays l [] old new w out none same = (λ e. out (sym (ap (λ (m : Model S). disk_index_of m q) same) ∙ e), ap (λ (m : Model S). numbered_disk m q w) same)
   out_stays l (s ∷ steps) old new w out none does =
       let P : DeviceStep → Type 0 = λ x. PutsIn l q w x → ⊥ in
@@ -206,7 +206,7 @@ module _ {S : Type 0} (size : S → ℕ) (told : S → Option (ℕ → List ℕ)
   last_stays s true old new w empty never a = (
     λ same.
         elim a.1.completes_or_fails [
-          | inl whole ↦ still_empty s _ _ q w (disk_index_of old q) empty never a.0 whole.does_told_step (after same)
+          | inl whole ↦ still_empty s _ _ q w (disk_index_of old q) empty never a.0 whole.does_asked_step (after same)
           | inr failed ↦ still_failed q s _ _ _ _ _ _ _ empty failed
         ],
     elim (eqb_tells q (asked_port s)) [
@@ -233,7 +233,7 @@ module _ {S : Type 0} (size : S → ℕ) (told : S → Option (ℕ → List ℕ)
       ]
 
   pub last_waits : (steps : List DeviceStep) (old new : Model S) (w : DiskIndex) → IsOut w old → All (λ s. PutsIn (Some w) q w s → ⊥) steps →
-      DoesEach size told failures steps old new → IsOut w new × (numbered_disk new q w ≡ numbered_disk old q w)
+      AnswersEachStep size told failures steps old new → IsOut w new × (numbered_disk new q w ≡ numbered_disk old q w)
   last_waits [] old new w out none same =
       let P : Model S → Type 0 = λ m. IsOut w m in (subst P (sym same) out, ap (λ (m : Model S). numbered_disk m q w) same)
   last_waits (s ∷ steps) old new w out none does =

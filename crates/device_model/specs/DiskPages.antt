@@ -8,7 +8,7 @@ use Rattle.adapter.specs.declared.tape.Entry.TheVariants as entry
 use Rattle.adapter.specs.declared.tape.Move.{Move}
 use Rattle.sector_store.specs.Pages.{IsLogPage, IsIdentifyPage}
 use Rattle.sector_store.specs.declared.pages.LoggedError.{LoggedError}
-use Rattle.device_model.specs.Disks.{Identity, identity_of, page_source_of}
+use Rattle.device_model.specs.Disks.{DiskIdentity, identity_of, page_source_of}
 use Rattle.device_model.specs.declared.bay.PageSource.{PageSource}
 use Rattle.device_model.specs.declared.model.Model.{Model}
 
@@ -24,25 +24,25 @@ pub record HasBitsFlipped (page bits bytes : List ℕ) : Type 0 where
 
 -- the page of IDENTIFY DEVICE of a disk with this serial number and so many sectors, and these abilities, with the bits
 -- turned on which it lies
-pub record IsSentIdentify (disk : Identity) (says : PageSource) (bytes : List ℕ) : Type 0 where
-  pub told_page : List ℕ
-  pub is_identify_page : IsIdentifyPage disk.serial disk.size says.abilities told_page
-  pub bits_are_flipped : HasBitsFlipped told_page says.lies bytes
+pub record IsSentIdentify (disk : DiskIdentity) (source : PageSource) (bytes : List ℕ) : Type 0 where
+  pub true_page : List ℕ
+  pub is_identify_page : IsIdentifyPage disk.serial disk.size source.abilities true_page
+  pub bits_are_flipped : HasBitsFlipped true_page source.lies bytes
 
 -- the page of log 10h, which names the queued command that failed last, or none, with the bits turned on which the
 -- disks lie
 pub record IsSentLog (says : PageSource) (bytes : List ℕ) : Type 0 where
-  pub told_page : List ℕ
-  pub is_log_page : IsLogPage says.log told_page
-  pub bits_are_flipped : HasBitsFlipped told_page says.log_lies bytes
+  pub true_page : List ℕ
+  pub is_log_page : IsLogPage says.log true_page
+  pub bits_are_flipped : HasBitsFlipped true_page says.log_lies bytes
 
 -- the move is of no page, or brings the page of the disk, or of the log
-pub record BringsOwnPage (disk : Identity) (says : PageSource) (m : Move) : Type 0 where
+pub record BringsOwnPage (disk : DiskIdentity) (says : PageSource) (m : Move) : Type 0 where
   pub identify_page_is_sent : m.operation ≡ Identify → IsSentIdentify disk says m.bytes.value
   pub log_page_is_sent : m.operation ≡ ReadLog → IsSentLog says m.bytes.value
 
 -- the same of what is in a port; where there are no disks, nothing is moved
-abbrev pub BringsPageOfPort : Option Identity → Option PageSource → Move → Type 0
+abbrev pub BringsPageOfPort : Option DiskIdentity → Option PageSource → Move → Type 0
 BringsPageOfPort (Some disk) (Some says) m = BringsOwnPage disk says m
 BringsPageOfPort _ _ m = ⊥
 

@@ -5,7 +5,7 @@ use Rattle.adapter.specs.Device.{Disk}
 use Rattle.adapter.specs.declared.command.Operation.{Operation}
 use Rattle.adapter.specs.declared.command.Operation.TheVariants.{Flush}
 use Rattle.sector_store.specs.declared.store.Failures.{Failures}
-use Rattle.device_model.specs.WriteCaches.{HasRoomForOld, KeepsNoOldSectors, RollsBack, lasting_in}
+use Rattle.device_model.specs.WriteCaches.{HasRoomForOldSectors, KeepsNoOldSectors, RollsBack, lasting_in}
 use Rattle.device_model.specs.declared.bay.Bay.{Bay}
 use Rattle.device_model.specs.declared.bay.PageSource.{PageSource}
 use Rattle.device_model.specs.declared.disks.Disks.{Disks}
@@ -20,14 +20,14 @@ abbrev pub disk_number : DiskIndex → ℕ
 disk_number Disk0 = 0
 disk_number Disk1 = 1
 
-abbrev pub is_same : DiskIndex → DiskIndex → Bool
-is_same Disk0 Disk0 = true
-is_same Disk1 Disk1 = true
-is_same _ _ = false
+abbrev pub is_same_index : DiskIndex → DiskIndex → Bool
+is_same_index Disk0 Disk0 = true
+is_same_index Disk1 Disk1 = true
+is_same_index _ _ = false
 
 -- a disk over a store of so many sectors, which tells these
 abbrev pub disk_over : DiskIndex → ℕ → Option (ℕ → List ℕ) → Disk
-disk_over which size told = record { name = disk_number which; size = size; sectors = told }
+disk_over which size told = record { name = disk_number which; sector_count = size; sectors = told }
 
 -- ---- those that are given
 
@@ -52,7 +52,7 @@ port_0_alone image blank =
 
 -- A port has the disk that is in, or was last, and the other one.
 abbrev pub disk_in_bay : {S : Type 0} → Bay S → DiskIndex → ModelDisk S
-disk_in_bay b which = if is_same which b.which then b.disk else b.other
+disk_in_bay b which = if is_same_index which b.which then b.disk else b.other
 
 -- the disks that were put in one after another, each as it is made of which one it was and of its store then
 abbrev pub plugged_as : {S : Type 0} → (DiskIndex → S → Disk) → PluggedDisks S → List Disk
@@ -60,11 +60,11 @@ plugged_as disk Nothing = []
 plugged_as disk (After' shape before which store) = plugged_as disk before ++ disk which store.value ∷ []
 
 -- what is fixed of a disk: its serial number, and how many sectors it has
-pub record Identity : Type 0 where
+pub record DiskIdentity : Type 0 where
   pub serial : List ℕ
   pub size : ℕ
 
-abbrev pub identity : {S : Type 0} → (S → ℕ) → ModelDisk S → Identity
+abbrev pub identity : {S : Type 0} → (S → ℕ) → ModelDisk S → DiskIdentity
 identity size disk = record { serial = disk.serial; size = size disk.store }
 
 -- ---- those of a model, port by port; `None` stands for a port that has no disks, ever
@@ -78,14 +78,14 @@ disk_index_of {S} m port = option_map (λ (b : Bay S). b.which) (bay_of m port)
 
 -- what both say of themselves
 abbrev pub page_source_of : {S : Type 0} → Model S → ℕ → Option PageSource
-page_source_of {S} m port = option_map (λ (b : Bay S). b.says) (bay_of m port)
+page_source_of {S} m port = option_map (λ (b : Bay S). b.page_source) (bay_of m port)
 
 -- the one or the other of them
 abbrev pub numbered_disk : {S : Type 0} → Model S → ℕ → DiskIndex → Option (ModelDisk S)
 numbered_disk {S} m port which = option_map (λ (b : Bay S). disk_in_bay b which) (bay_of m port)
 
 -- what is fixed of the disk that is in, or was last
-abbrev pub identity_of : {S : Type 0} → (S → ℕ) → Model S → ℕ → Option Identity
+abbrev pub identity_of : {S : Type 0} → (S → ℕ) → Model S → ℕ → Option DiskIdentity
 identity_of {S} size m port = option_map (λ (b : Bay S). identity size b.disk) (bay_of m port)
 
 -- what the store of that disk tells of calls that failed
@@ -102,6 +102,22 @@ disk_failures failures m port = bay_failures failures (bay_of m port)
 abbrev pub lasting_of : {S : Type 0} → (S → Option (ℕ → List ℕ)) → Bay S → Option (ℕ → List ℕ)
 lasting_of told b = lasting_in b.cache (told b.disk.store) (told b.lasting.value)
 
+-- This disk stands as the one that is in. Each has the sectors that it had; those of another one are lasting.
+pub record SelectsDisk {S : Type 0} (told : S → Option (ℕ → List ℕ)) (which : DiskIndex) (old new : Bay S) : Type 0
+  where
+    pub it_is_in : new.which ≡ which
+    pub disks_are_kept : (w : DiskIndex) → disk_in_bay new w ≡ disk_in_bay old w
+    pub lasting_is : lasting_of told new
+        ≡ (if is_same_index which old.which then lasting_of told old else told new.disk.store)
+    pub has_cache_as_before : new.cache.is_on ≡ old.cache.is_on
+    pub rest_is_kept : new ≡ record old {
+      which = new.which;
+      disk = new.disk;
+      other = new.other;
+      lasting = new.lasting;
+      cache = new.cache;
+    }
+
 -- the disks of a port have a volatile write cache
 abbrev pub has_cache : {S : Type 0} → Option (Bay S) → Bool
 has_cache None = false
@@ -111,28 +127,28 @@ abbrev pub port_has_cache : {S : Type 0} → Model S → ℕ → Bool
 port_has_cache m port = has_cache (bay_of m port)
 
 -- without growing, that of a port has room for the old bytes of so many sectors more
-abbrev pub HasRoomForOldIn : {S : Type 0} → Option (Bay S) → ℕ → Type 0
-HasRoomForOldIn None more = Unit {0}
-HasRoomForOldIn (Some b) more = HasRoomForOld b.cache more
+abbrev pub BayHasRoomForOldSectors : {S : Type 0} → Option (Bay S) → ℕ → Type 0
+BayHasRoomForOldSectors None more = Unit {0}
+BayHasRoomForOldSectors (Some b) more = HasRoomForOldSectors b.cache more
 
-abbrev pub HasRoomForOldOf : {S : Type 0} → List (Option (Bay S)) → ℕ → ℕ → Type 0
-HasRoomForOldOf bays port more = HasRoomForOldIn (slice_index_or bays port None) more
+abbrev pub BaysHaveRoomForOldSectors : {S : Type 0} → List (Option (Bay S)) → ℕ → ℕ → Type 0
+BaysHaveRoomForOldSectors bays port more = BayHasRoomForOldSectors (slice_index_or bays port None) more
 
-abbrev pub HasRoomForOldAt : {S : Type 0} → Model S → ℕ → ℕ → Type 0
-HasRoomForOldAt m port more = HasRoomForOldOf m.bays.items port more
+abbrev pub ModelHasRoomForOldSectors : {S : Type 0} → Model S → ℕ → ℕ → Type 0
+ModelHasRoomForOldSectors m port more = BaysHaveRoomForOldSectors m.bays.items port more
 
 -- The disks of a port after such a command has ended: a flush makes lasting what the disk that is in holds, and nothing
 -- older is kept any more.
-abbrev pub EndsCommand : {S : Type 0} → Operation → (old new : Bay S) → Type 0
-EndsCommand Flush old new = KeepsNoOldSectors old.cache new.cache
+abbrev pub BayEndsCommand : {S : Type 0} → Operation → (old new : Bay S) → Type 0
+BayEndsCommand Flush old new = KeepsNoOldSectors old.cache new.cache
     × (new ≡ record old { lasting = record { marker = record {}; value = old.disk.store }; cache = new.cache })
-EndsCommand _ old new = new ≡ old
+BayEndsCommand _ old new = new ≡ old
 
 -- the same of a port that has disks, or none
 abbrev pub EndsCommandIn : {S : Type 0} → Operation → (old new : Option (Bay S)) → Type 0
 EndsCommandIn operation None new = new ≡ None
 EndsCommandIn operation (Some old) None = ⊥
-EndsCommandIn operation (Some old) (Some new) = EndsCommand operation old new
+EndsCommandIn operation (Some old) (Some new) = BayEndsCommand operation old new
 
 -- a command of this port has ended, and nothing else is another
 abbrev pub OnlyEndsCommand : {S : Type 0} → Operation → ℕ → (old new : List (Option (Bay S))) → Type 0
@@ -150,5 +166,5 @@ pub record LosesCache {S : Type 0} (size : S → ℕ) (told : S → Option (ℕ 
 abbrev pub OnlyChangesPageSource : {S : Type 0} → (PageSource → PageSource) → ℕ → (old new : List (Option (Bay S)))
     → Type 0
 OnlyChangesPageSource {S} says port old new =
-    new ≡ slice_set old port (option_map (λ (b : Bay S). record b { says = says b.says })
+    new ≡ slice_set old port (option_map (λ (b : Bay S). record b { page_source = says b.page_source })
     (slice_index_or old port None))

@@ -9,7 +9,7 @@ abbrev pub bytes_of : List ℕ → ℕ → ℕ
 bytes_of bytes = λ at. slice_index bytes at
 
 -- nothing of a command was moved or cleared yet; its first sector has a number of 48 bits
-pub record IsUntouched (t : TakenCommand) : Type 0 where
+pub record IsNewlyTaken (t : TakenCommand) : Type 0 where
   pub nothing_is_moved : t.moved ≡ 0
   pub has_no_block : t.block ≡ None
   pub nothing_is_cleared : t.cleared ≡ 0
@@ -19,9 +19,9 @@ abbrev pub no_prd : Prd
 no_prd = record { address = 0; bytes = 0 }
 
 -- so many PRDs of whole pieces stand at an address, and these have their pieces
-pub record ArePrds (memory : ℕ → ℕ) (at number : ℕ) (prds : List Prd) : Type 0 where
-  pub standing : List Prd
-  pub prd_count_is : length standing ≡ number
-  pub prds_stand : HasPrds memory at standing
-  pub prds_are_whole_pieces : All IsWholePieces standing
-  pub pieces_are : pieces prds ≡ pieces standing
+pub record HavePiecesOfPrds (memory : ℕ → ℕ) (at number : ℕ) (prds : List Prd) : Type 0 where
+  pub stored_prds : List Prd
+  pub prd_count_is : length stored_prds ≡ number
+  pub prds_are_encoded : HasPrds memory at stored_prds
+  pub prds_are_whole_pieces : All IsWholePieces stored_prds
+  pub pieces_are : pieces prds ≡ pieces stored_prds

@@ -1,15 +1,15 @@
 -- What has to hold that a command can be done to its end.
 use Rattle.std.specs.Prelude.{ℕ, Bool, true, false, ◌≡◌, ◌+◌, ◌*◌, ◌/◌, ◌^◌, ◌<◌, ◌≤◌, ◌⊎◌, List, Option, None, Some, length, slice_index}
 use Rattle.std.specs.Vec.{vec_len, vec_capacity}
-use Rattle.adapter.specs.ToldSteps.{DoesFetch}
+use Rattle.adapter.specs.AskedSteps.{DoesFetch}
 use Rattle.adapter.specs.Commands.{Meaning, is_ranged}
 use Rattle.adapter.specs.Device.{FetchedCommand, Device}
-use Rattle.adapter.specs.Steps.{Can, WorksOn, begun, next_place}
+use Rattle.adapter.specs.Steps.{Can, WorksOn, newly_fetched, next_place}
 use Rattle.adapter.specs.Steps.DeviceTransition.{Fetch}
 use Rattle.adapter.specs.declared.command.Operation.{Operation}
 use Rattle.adapter.specs.declared.command.Operation.TheVariants.{Identify, ReadLog}
 use Rattle.adapter.specs.declared.command.Prd.{Prd}
-use Rattle.device_model.specs.WriteCaches.{HasRoomForOld}
+use Rattle.device_model.specs.WriteCaches.{HasRoomForOldSectors}
 use Rattle.device_model.specs.Trims.{HasClearsLeft, changes_ahead}
 use Rattle.device_model.specs.FetchedBytes.{bytes_of}
 use Rattle.device_model.specs.PortView.{operation_of_kind, taken_of}
@@ -29,44 +29,44 @@ IsStepSkipped old new possible = ((possible → ⊥) × (new ≡ old))
     ⊎ (possible × (TapeHasRoom old 1 → ⊥) × (new.starved ≡ true))
 
 -- each of these pieces is in a memory of this size
-abbrev pub AreInside : ℕ → List ℕ → Type 0
-AreInside size places = (k : ℕ) → k < length places → slice_index places k + 512 ≤ size
+abbrev pub PiecesInside : ℕ → List ℕ → Type 0
+PiecesInside size places = (k : ℕ) → k < length places → slice_index places k + 512 ≤ size
 
 -- each piece of this PRD is, if it has one
 abbrev pub IsInside : ℕ → Prd → Type 0
 IsInside size prd = 1 ≤ prd.bytes / 512 → prd.address + 512 * (prd.bytes / 512) ≤ size
 
 -- so many moves are left of this command, and each of its pieces is in a memory of this size
-pub record IsCovered (t : FetchedCommand) (size left : ℕ) : Type 0 where
+pub record HasMovesLeft (t : FetchedCommand) (size left : ℕ) : Type 0 where
   pub moves_left_are : t.moved + left ≡ length t.places
-  pub pieces_are_inside : AreInside size t.places
+  pub pieces_are_inside : PiecesInside size t.places
 
 -- the port has disks, or the command names sectors, of which a port without disks has none
-abbrev pub HasDisk : Device → ℕ → Operation → Type 0
-HasDisk d port operation = HasDisks d port ⊎ (is_ranged operation ≡ true)
+abbrev pub HasDisksOrIsRanged : Device → ℕ → Operation → Type 0
+HasDisksOrIsRanged d port operation = HasDisks d port ⊎ (is_ranged operation ≡ true)
 
 -- the port, which has disks, works on this command, and its next piece has a place in the memory
 pub record HasMove (d : Device) (port slot : ℕ) (t : FetchedCommand) : Type 0 where
   pub works : WorksOn (d.port port) slot t t.meaning.operation
   pub piece_is_left : t.moved < length t.places
-  pub piece_is_inside : next_place t + 512 ≤ d.size
+  pub piece_is_inside : next_place t + 512 ≤ d.memory_size
   pub has_disks : HasDisks d port
 
 -- the port works on a command of which so many moves, and then so many clears, are left, all of them possible
 pub record IsInProgress (d : Device) (port slot left clears : ℕ) : Type 0 where
   pub fetched_command : FetchedCommand
-  pub is_covered : IsCovered fetched_command d.size left
+  pub is_covered : HasMovesLeft fetched_command d.memory_size left
   pub has_clears_left : HasClearsLeft fetched_command.meaning.operation d.memory fetched_command clears
   pub works : WorksOn (d.port port) slot fetched_command fetched_command.meaning.operation
 
 -- the same, or the command isn't taken yet, and may be
-pub record MayFinish (d : Device) (port slot left clears : ℕ) : Type 0 where
+pub record MayFinish (d : Device) (port slot moves_left clears_left : ℕ) : Type 0 where
   pub fetched_command : FetchedCommand
-  pub is_covered : IsCovered fetched_command d.size left
-  pub has_clears_left : HasClearsLeft fetched_command.meaning.operation d.memory fetched_command clears
+  pub is_covered : HasMovesLeft fetched_command d.memory_size moves_left
+  pub has_clears_left : HasClearsLeft fetched_command.meaning.operation d.memory fetched_command clears_left
   pub is_begun_or_fetchable : WorksOn (d.port port) slot fetched_command fetched_command.meaning.operation
       ⊎ (Can (Fetch port slot fetched_command.meaning fetched_command.places) d
-      × (fetched_command ≡ begun fetched_command.meaning fetched_command.places))
+      × (fetched_command ≡ newly_fetched fetched_command.meaning fetched_command.places))
 
 -- IDENTIFY DEVICE or READ LOG EXT, which send a page to the driver itself
 abbrev pub sends_page : Operation → Bool
@@ -77,10 +77,10 @@ sends_page _ = false
 -- the port has such a command in this slot, taken or not, which can be done to its end; its pieces have addresses of 32
 -- bits
 pub record HasPageCommand (d : Device) (port slot : ℕ) : Type 0 where
-  pub left : ℕ
-  pub may_finish : MayFinish d port slot left 0
+  pub moves_left : ℕ
+  pub may_finish : MayFinish d port slot moves_left 0
   pub sends_page : sends_page may_finish.fetched_command.meaning.operation ≡ true
-  pub addresses_are_low : AreInside (2 ^ 32) may_finish.fetched_command.places
+  pub addresses_are_low : PiecesInside (2 ^ 32) may_finish.fetched_command.places
 
 -- one that is issued in this slot may be taken, wherever its page is to go
 pub record MayTakePage (d : Device) (port slot : ℕ) : Type 0 where
@@ -103,41 +103,41 @@ HasTakenCommand d port = (slot : ℕ) × (t : FetchedCommand) × ((d.port port).
 -- there is room for the old bytes of each sector that the slot's command is going to change, of so many moves
 abbrev pub HasRoomAhead : Cache → (port slot left : ℕ) → Device → Type 0
 HasRoomAhead cache port slot left d = (t : FetchedCommand) → (d.port port).taken slot ≡ Some t
-    → HasRoomForOld cache (changes_ahead t.meaning.operation d.memory t left)
+    → HasRoomForOldSectors cache (changes_ahead t.meaning.operation d.memory t left)
 
 -- ---- a command that is to be done to its end
 
 -- so many moves, and then so many clears, are left of this command, all of them possible with this memory
 abbrev pub IsRemaining : TakenCommand → List ℕ → (left clears : ℕ) → Type 0
 IsRemaining t memory left clears =
-    IsCovered (taken_of t) (length memory) left
+    HasMovesLeft (taken_of t) (length memory) left
     × HasClearsLeft (operation_of_kind t.command_kind) (bytes_of memory) (taken_of t)
     clears
 
 -- It is begun: so many moves and clears are left of it, each possible, and there is room for them and the end; it is
 -- taken now, or was.
-pub record IsCommandBegun (port slot left clears : ℕ) (was_taken : Bool) (old new : Hardware) : Type 0 where
+pub record IsCommandBegun (port slot left clears : ℕ) (is_newly_taken : Bool) (old new : Hardware) : Type 0 where
   pub may_finish : (o : AllMedia) → MayFinish (device_of old o) port slot left clears
   pub is_in_progress : (o : AllMedia) → IsInProgress (device_of new o) port slot left clears
   pub tape_has_room : TapeHasRoom new (left + clears + 1)
-  pub fetch_is_done : was_taken ≡ true → (o : AllMedia) → DoesFetch port slot (device_of old o) (device_of new o)
-  pub device_is_kept : was_taken ≡ false → (o : AllMedia) → device_of new o ≡ device_of old o
-  pub tape : new.tape.items ≡ old.tape.items
-  pub starved : new.starved ≡ old.starved
+  pub fetch_is_done : is_newly_taken ≡ true → (o : AllMedia) → DoesFetch port slot (device_of old o) (device_of new o)
+  pub device_is_kept : is_newly_taken ≡ false → (o : AllMedia) → device_of new o ≡ device_of old o
+  pub tape_is_kept : new.tape.items ≡ old.tape.items
+  pub starved_is_kept : new.starved ≡ old.starved
 
 -- So many moves and clears are left of it, each possible, but there is no room for them and the end, or none for the
 -- old bytes of the sectors that they change; and that is told.
 pub record LacksRoom (port slot : ℕ) (old new : Hardware) (was now : Cache) : Type 0 where
-  pub left : ℕ
-  pub clears : ℕ
-  pub may_finish : (o : AllMedia) → MayFinish (device_of old o) port slot left clears
+  pub moves_left : ℕ
+  pub clears_left : ℕ
+  pub may_finish : (o : AllMedia) → MayFinish (device_of old o) port slot moves_left clears_left
   pub room_was_lacking : (o : AllMedia) (n m : ℕ) (may : MayFinish (device_of old o) port slot n m)
       → TapeHasRoom old (n + m + 1) →
-      HasRoomForOld was (changes_ahead may.fetched_command.meaning.operation (device_of old o).memory
+      HasRoomForOldSectors was (changes_ahead may.fetched_command.meaning.operation (device_of old o).memory
       may.fetched_command n) → ⊥
   pub room_is_lacking : (o : AllMedia) (n m : ℕ) (may : MayFinish (device_of old o) port slot n m)
       → TapeHasRoom new (n + m + 1) →
-      HasRoomForOld now (changes_ahead may.fetched_command.meaning.operation (device_of old o).memory
+      HasRoomForOldSectors now (changes_ahead may.fetched_command.meaning.operation (device_of old o).memory
       may.fetched_command n) → ⊥
   pub device_is_kept : (o : AllMedia) → device_of new o ≡ device_of old o
   pub starved_is_set : new.starved ≡ true

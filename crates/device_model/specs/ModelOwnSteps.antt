@@ -11,14 +11,15 @@ use Rattle.device_model.specs.declared.hardware.Hardware.{Hardware}
 
 -- A step that the model does by itself, while these ports are held. On the others CR and FR fall, the link comes up
 -- with the signature of an ATA disk, N and X, and IDENTIFY DEVICE and READ LOG EXT are taken, moved and ended.
-abbrev pub IsOwnStep : List Bool → DeviceTransition → Type 0
-IsOwnStep held (Fall port) = IsPortReleased held port
-IsOwnStep held (FrFall port) = IsPortReleased held port
-IsOwnStep held (LinkUp port sig n) = IsPortReleased held port × (sig ≡ 0x101) × (n ≡ true)
-IsOwnStep held (Fetch port slot meaning places) = IsPortReleased held port × (sends_page meaning.operation ≡ true)
-IsOwnStep held (Move port slot t bytes) = IsPortReleased held port × (sends_page t.meaning.operation ≡ true)
-IsOwnStep held (Done port slot flag t) = IsPortReleased held port × (sends_page t.meaning.operation ≡ true)
-IsOwnStep held step = ⊥
+abbrev pub IsSpontaneousStep : List Bool → DeviceTransition → Type 0
+IsSpontaneousStep held (Fall port) = IsPortReleased held port
+IsSpontaneousStep held (FrFall port) = IsPortReleased held port
+IsSpontaneousStep held (LinkUp port sig n) = IsPortReleased held port × (sig ≡ 0x101) × (n ≡ true)
+IsSpontaneousStep held (Fetch port slot meaning places) = IsPortReleased held port
+    × (sends_page meaning.operation ≡ true)
+IsSpontaneousStep held (Move port slot t bytes) = IsPortReleased held port × (sends_page t.meaning.operation ≡ true)
+IsSpontaneousStep held (Done port slot flag t) = IsPortReleased held port × (sends_page t.meaning.operation ≡ true)
+IsSpontaneousStep held step = ⊥
 
 -- CR or FR falls, or the link comes up
 abbrev pub IsSettling : DeviceTransition → Type 0
@@ -28,19 +29,19 @@ IsSettling (LinkUp port sig n) = Unit {0}
 IsSettling step = ⊥
 
 -- IDENTIFY DEVICE or READ LOG EXT is taken, moved or ended
-abbrev pub IsPageStep : DeviceTransition → Type 0
-IsPageStep (Fetch port slot meaning places) = Unit {0}
-IsPageStep (Move port slot t bytes) = Unit {0}
-IsPageStep (Done port slot flag t) = Unit {0}
-IsPageStep step = ⊥
+abbrev pub IsFetchMoveOrDone : DeviceTransition → Type 0
+IsFetchMoveOrDone (Fetch port slot meaning places) = Unit {0}
+IsFetchMoveOrDone (Move port slot t bytes) = Unit {0}
+IsFetchMoveOrDone (Done port slot flag t) = Unit {0}
+IsFetchMoveOrDone step = ⊥
 
 -- such a step of the model's own
 abbrev pub Settles : List Bool → DeviceTransition → Type 0
-Settles held step = IsOwnStep held step × IsSettling step
+Settles held step = IsSpontaneousStep held step × IsSettling step
 
 -- or such a one
 abbrev pub SendsPages : List Bool → DeviceTransition → Type 0
-SendsPages held step = IsOwnStep held step × IsPageStep step
+SendsPages held step = IsSpontaneousStep held step × IsFetchMoveOrDone step
 
 -- steps one after another, each with the FIS that is sent after it
 abbrev pub LeadsSending : List DeviceTransition → Device → Device → Type 0
@@ -49,21 +50,21 @@ LeadsSending (step ∷ steps) old new = Can step old × (mid : Device) × SendsA
     × LeadsSending steps mid new
 
 -- such steps with their FISes, and no others, lead from the one state to the other
-pub record LeadsOwn (Own : DeviceTransition → Type 0) (old new : Device) : Type 0 where
+pub record LeadsBySteps (Own : DeviceTransition → Type 0) (old new : Device) : Type 0 where
   pub steps : List DeviceTransition
   pub steps_are_own : All Own steps
   pub steps_lead : LeadsSending steps old new
 
 -- What the model does by itself: first the ports settle, and then IDENTIFY DEVICE and READ LOG EXT go on. So no command
 -- is ended that falls with CR.
-pub record DoesOwn (held : List Bool) (old new : Device) : Type 0 where
+pub record DoesSpontaneousSteps (held : List Bool) (old new : Device) : Type 0 where
   pub settled : Device
-  pub settles_ports : LeadsOwn (Settles held) old settled
-  pub sends_pages : LeadsOwn (SendsPages held) settled new
+  pub settles_ports : LeadsBySteps (Settles held) old settled
+  pub sends_pages : LeadsBySteps (SendsPages held) settled new
 
 -- A pending reset ends, and ends all holds, unless all ports are held.
-abbrev pub EndsReset : List Bool → List Bool → Device → Device → Type 0
-EndsReset was held old new =
+abbrev pub EndsResetUnlessHeld : List Bool → List Bool → Device → Device → Type 0
+EndsResetUnlessHeld was held old new =
     ((old.hr ≡ true → was ≡ all_held) × (held ≡ was) × (new ≡ old))
     ⊎ ((old.hr ≡ true) × (was ≢ all_held) × (held ≡ none_held) × (new ≡ device_after ResetEnds old))
 
@@ -71,7 +72,7 @@ EndsReset was held old new =
 -- change nothing else
 abbrev pub SettlesPort : DevicePort → DevicePort → Type 0
 SettlesPort old new = (held : List Bool) (d : Device) (port : ℕ) → IsPortReleased held port → d.port port ≡ old
-    → LeadsOwn (Settles held) d (with_port d port new)
+    → LeadsBySteps (Settles held) d (with_port d port new)
 
 -- CR and FR have fallen where ST and FRE are zero, and no link is left that may come up
 pub record IsSettledPort (p : DevicePort) : Type 0 where
@@ -101,7 +102,7 @@ pub record NoPageIsLeft (held : List Bool) (starved : Bool) (d : Device) : Type 
 abbrev pub LeavesPageWithoutMemory : Hardware → Device → Type 0
 LeavesPageWithoutMemory h d = (port slot : ℕ) × (port < 4) × (slot < 32) × HasDisks d port
     × (has : HasPageCommand d port slot)
-    × (TapeHasRoom h (has.left + 1) → ⊥)
+    × (TapeHasRoom h (has.moves_left + 1) → ⊥)
 
 -- What a port does by itself leaves the number of ports, a pending reset, the tape, and whether memory for it lacked.
 pub record SparesAdapter (old new : Hardware) : Type 0 where

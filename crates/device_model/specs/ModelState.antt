@@ -28,7 +28,7 @@ media_of size told (Some b) =
     record {
       disk = disk_over b.which (size b.disk.store) (told b.disk.store);
       plugged = disk_over Disk0 (size b.first.value) (told b.first.value)
-          ∷ plugged_as (λ which store. disk_over which (size store) (told store)) b.later;
+          ∷ plugged_as (λ which store. disk_over which (size store) (told store)) b.plugged_later;
       lasting = lasting_of told b;
     }
 
@@ -59,7 +59,7 @@ cap_of pi slots ncq = (count_ones pi - 1) + 256 * (slots - 1) + (if ncq then 2 ^
 -- A port's registers as a reset of the adapter leaves them: no device is seen, no link is due to come up, no first FIS
 -- came, no error and no cause is told (AHCI 1.3.1, 3.3 and 10.4.3); and neither a fault nor a fatal error has stopped
 -- it. Nothing was read or written yet, PxCLB and PxFB neither.
-pub record HasResetValues (p : DevicePort) : Type 0 where
+pub record HasInitialValues (p : DevicePort) : Type 0 where
   pub bases_are : p.bases ≡ record {
     clb = 0;
     fb = 0;
@@ -76,7 +76,7 @@ pub record HasResetValues (p : DevicePort) : Type 0 where
   pub serr_n : p.serr_n ≡ false
   pub serr_x : p.serr_x ≡ false
   pub is : (place : ℕ) → p.is place ≡ false
-  pub ips : p.ips ≡ false
+  pub ips : p.ips_latched ≡ false
   pub other_causes : p.other_causes ≡ false
   pub fresh : p.fresh ≡ false
   pub link_due : p.link_due ≡ false
@@ -96,17 +96,17 @@ IsNewMedia size told (Some disks) m =
 -- A new port has the first one of the disks that are given for it, which was never out, and of which all is lasting;
 -- without any it has no disk.
 abbrev pub IsNewPort : {S : Type 0} → (S → ℕ) → (S → Option (ℕ → List ℕ)) → Option (PortDisks S) → DevicePort → Type 0
-IsNewPort size told None p = (p.present ≡ false) × (p.plugged ≡ [])
+IsNewPort size told None p = (p.present ≡ false) × (p.plug_history ≡ [])
 IsNewPort size told (Some disks) p =
     (p.present ≡ true) × (p.disk ≡ disk_over Disk0 (size disks.first.store) (told disks.first.store))
-    × (p.plugged ≡ disk_over Disk0 (size disks.first.store) (told disks.first.store) ∷ [])
+    × (p.plug_history ≡ disk_over Disk0 (size disks.first.store) (told disks.first.store) ∷ [])
     × (p.lasting ≡ record { sectors = told disks.first.store; tape_length = 0 })
 
 -- A new adapter has what its configuration says, its ports too, and in each port the disk that is given for it. It is
 -- switched off, its memory is zero, its ports are as after a reset, and nothing runs.
 pub record IsNewAdapter {S : Type 0} (config : ModelConfig) (size : S → ℕ) (told : S → Option (ℕ → List ℕ))
     (disks : Disks S) (d : Device) : Type 0 where
-  pub memory : d.size ≡ FRAME_BYTES * config.frames
+  pub memory_size_is : d.memory_size ≡ FRAME_BYTES * config.frames
   pub cap : d.cap ≡ cap_of config.pi config.slots config.ncq
   pub pi : d.pi ≡ config.pi
   pub ports_are_new : (port : ℕ) → IsNewPort size told (disks_given_for disks port) (d.port port)
@@ -114,7 +114,7 @@ pub record IsNewAdapter {S : Type 0} (config : ModelConfig) (size : S → ℕ) (
   pub ae_is_clear : d.ae ≡ false
   pub ie_is_clear : d.ie ≡ false
   pub memory_is_zero : (at : ℕ) → d.memory at ≡ 0
-  pub ports_are_reset : (port : ℕ) → port < 4 → HasResetValues (d.port port)
+  pub ports_are_reset : (port : ℕ) → port < 4 → HasInitialValues (d.port port)
   pub is_idle : IsIdle d
 
 -- what disks say of themselves at first: they have the abilities of the configuration, and tell no lies, and the log
@@ -135,11 +135,11 @@ pub record AreNewDisks {S : Type 0} (disks : PortDisks S) (abilities : Abilities
     pub first_is_in : b.which ≡ Disk0
     pub disk : b.disk ≡ disks.first
     pub other : b.other ≡ disks.spare
-    pub says : b.says ≡ record { abilities = abilities; log = None; lies = no_lies; log_lies = no_lies }
+    pub says : b.page_source ≡ record { abilities = abilities; log = None; lies = no_lies; log_lies = no_lies }
     pub first_disk_is : b.first.value ≡ disks.first.store
     pub lasting : b.lasting.value ≡ disks.first.store
-    pub none_is_plugged_later : (disk : DiskIndex → S → Disk) → plugged_as disk b.later ≡ []
-    pub is_on : b.cache.is_on ≡ cached
+    pub none_is_plugged_later : (disk : DiskIndex → S → Disk) → plugged_as disk b.plugged_later ≡ []
+    pub cache_is_on : b.cache.is_on ≡ cached
     pub no_sector_is_kept : b.cache.kept.sectors.items ≡ []
 
 -- The disks of a port are new: disk 0 is in, and the other one is disk 1, with a cache or without, as the configuration
@@ -148,7 +148,7 @@ abbrev pub IsNewBay : {S : Type 0} → ModelConfig → Option (PortDisks S) → 
 IsNewBay config None bay = bay ≡ None
 IsNewBay config (Some disks) None = ⊥
 IsNewBay config (Some disks) (Some b) = (b.which ≡ Disk0) × (b.disk ≡ disks.first) × (b.other ≡ disks.spare)
-    × (b.says ≡ new_page_source config) × (b.cache.is_on ≡ config.cache) × (b.cache.kept.sectors.items ≡ [])
+    × (b.page_source ≡ new_page_source config) × (b.cache.is_on ≡ config.cache) × (b.cache.kept.sectors.items ≡ [])
 
 -- whether the stores of the disks that are given for a port tell their sectors
 abbrev pub given_disks_tell : {S : Type 0} → (S → Option (ℕ → List ℕ)) → Option (PortDisks S) → Bool
@@ -167,9 +167,9 @@ pub record IsNewModel {S : Type 0} (size : S → ℕ) (told : S → Option (ℕ 
   pub holds_and_tells_bytes : HoldsBytesAndTellsDisks (device_at size told m)
   pub telling_is : (device_at size told m).telling ≡ all_given_disks_tell told disks
   pub bays_are_new : (port : ℕ) → IsNewBay config (disks_given_for disks port) (bay_of m port)
-  pub held : m.held ≡ none_held
-  pub queue : m.queue.items ≡ []
-  pub accesses : m.accesses.shown ≡ 0
+  pub none_is_held : m.held ≡ none_held
+  pub queue_is_empty : m.queue.items ≡ []
+  pub access_count_is_zero : m.accesses.saturating_count ≡ 0
   pub no_access_was_made : m.accesses.count.made ≡ 0
   pub is_not_starved : m.hardware.starved ≡ false
 

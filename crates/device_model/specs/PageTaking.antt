@@ -5,7 +5,7 @@ use Rattle.device_model.specs.StepEffects.{OwnStepsKeep}
 use Rattle.device_model.specs.Finishing.{HasPageCommand, HasTakenCommand, MayTakePage, TapeHasRoom}
 use Rattle.device_model.specs.HeldPorts.{IsPortReleased}
 use Rattle.device_model.specs.ModelState.{device_at}
-use Rattle.device_model.specs.ModelOwnSteps.{IsSettled, LeadsOwn, SendsPages}
+use Rattle.device_model.specs.ModelOwnSteps.{IsSettled, LeadsBySteps, SendsPages}
 use Rattle.device_model.specs.declared.disks.DiskIndex.{DiskIndex}
 use Rattle.device_model.specs.declared.model.Model.{Model}
 
@@ -16,17 +16,17 @@ use Rattle.device_model.specs.declared.model.Model.{Model}
 pub record TakesPage {S : Type 0} (size : S → ℕ) (told : S → Option (ℕ → List ℕ)) (port slot : ℕ)
     (old new : Model S) : Type 0 where
   pub by_own_steps : (held : List Bool) → IsPortReleased held port
-      → LeadsOwn (SendsPages held) (device_at size told old) (device_at size told new)
+      → LeadsBySteps (SendsPages held) (device_at size told old) (device_at size told new)
   pub stays_settled : (held : List Bool) → IsSettled held (device_at size told old)
       → IsSettled held (device_at size told new)
   pub has_taken_command : HasTakenCommand (device_at size told new) port
-  pub page_is_stuck_before : MayTakePage (device_at size told old) port slot → (other : ℕ)
+  pub finishable_was_finishable : MayTakePage (device_at size told old) port slot → (other : ℕ)
       → HasPageCommand (device_at size told new) port other → HasPageCommand (device_at size told old) port slot
   pub as_much_is_left : (has : HasPageCommand (device_at size told old) port slot)
-      → (now : HasPageCommand (device_at size told new) port slot) × (now.left ≡ has.left)
+      → (now : HasPageCommand (device_at size told new) port slot) × (now.moves_left ≡ has.moves_left)
   pub other_ports_are_kept : (q : ℕ) → q ≢ port → (device_at size told new).port q ≡ (device_at size told old).port q
-  pub size_is_kept : (device_at size told new).size ≡ (device_at size told old).size
+  pub size_is_kept : (device_at size told new).memory_size ≡ (device_at size told old).memory_size
   pub own_steps_keep : OwnStepsKeep size old new
   pub tape_had_room : (n : ℕ) → TapeHasRoom new.hardware n → TapeHasRoom old.hardware n
-  pub starved : new.hardware.starved ≡ old.hardware.starved
+  pub starved_is_kept : new.hardware.starved ≡ old.hardware.starved
   pub disks_are_kept : (q : ℕ) (w : DiskIndex) → numbered_disk new q w ≡ numbered_disk old q w

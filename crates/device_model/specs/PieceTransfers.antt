@@ -1,11 +1,11 @@
 -- A disk and the memory exchange the next piece of a command.
 use Rattle.std.specs.Prelude.{ℕ, ◌≡◌, ◌<◌, ◌+◌, Bool, true, false, List, Option, IfSome, length, if◌then◌else◌}
 use Rattle.adapter.specs.Commands.{is_ranged, reads_memory}
-use Rattle.adapter.specs.Device.{IsSector}
+use Rattle.adapter.specs.Device.{IsValidSector}
 use Rattle.adapter.specs.Memory.{bytes_at, patched}
 use Rattle.adapter.specs.Steps.{disk_after}
 use Rattle.sector_store.specs.declared.store.Failures.{Failures}
-use Rattle.device_model.specs.WriteCaches.{CallFails, HasRoomForOld}
+use Rattle.device_model.specs.WriteCaches.{CallFails, HasRoomForOldSectors}
 use Rattle.device_model.specs.Disks.{disk_over, identity, lasting_of}
 use Rattle.device_model.specs.FetchedBytes.{bytes_of}
 use Rattle.device_model.specs.DiskPages.{IsSentLog, IsSentIdentify}
@@ -33,16 +33,17 @@ pub record IsTransferred (old new : Hardware) (next : NextMove) : Type 0 where
 -- told, and the bytes are as they were. What is lasting of the disk stays so.
 pub record TransfersPiece {S : Type 0} (size : S → ℕ) (told : S → Option (ℕ → List ℕ)) (failures : S → Option Failures)
     (old new : Bay S) (next : NextMove) (before after : List ℕ) (done : Bool) : Type 0 where
-  pub inside : done ≡ true → is_ranged (operation_of_kind next.command_kind) ≡ true → next.sector < size old.disk.store
-  pub bytes_are_sector : IsSector after
+  pub sector_on_disk : done ≡ true → is_ranged (operation_of_kind next.command_kind) ≡ true
+      → next.sector < size old.disk.store
+  pub bytes_are_sector : IsValidSector after
   pub read_gives_told : done ≡ true → is_ranged (operation_of_kind next.command_kind) ≡ true →
       reads_memory (operation_of_kind next.command_kind) ≡ false →
       IfSome (told old.disk.store) (λ told. after ≡ told next.sector)
   pub write_keeps_bytes : reads_memory (operation_of_kind next.command_kind) ≡ true → after ≡ before
   pub failure_keeps_bytes : done ≡ false → after ≡ before
   pub identify_page_is_sent : done ≡ true → next.command_kind ≡ Identify
-      → IsSentIdentify (identity size old.disk) old.says after
-  pub log_page_is_sent : done ≡ true → next.command_kind ≡ ReadLog → IsSentLog old.says after
+      → IsSentIdentify (identity size old.disk) old.page_source after
+  pub log_page_is_sent : done ≡ true → next.command_kind ≡ ReadLog → IsSentLog old.page_source after
   pub bay_is_kept : is_ranged (operation_of_kind next.command_kind) ≡ false → new ≡ old
   pub disk_is : done ≡ true → disk_over old.which (size new.disk.store) (told new.disk.store)
       ≡ disk_after (operation_of_kind next.command_kind) (disk_over old.which (size old.disk.store) (told
@@ -58,6 +59,7 @@ pub record TransfersPiece {S : Type 0} (size : S → ℕ) (told : S → Option (
       (failures new.disk.store)
   pub lasting_is_kept : lasting_of told new ≡ lasting_of told old
   pub cache_mode_is_kept : new.cache.is_on ≡ old.cache.is_on
-  pub cache_has_room : (n : ℕ) → HasRoomForOld old.cache (written_ahead (operation_of_kind next.command_kind) 1 + n)
-      → HasRoomForOld new.cache n
+  pub cache_has_room : (n : ℕ) → HasRoomForOldSectors old.cache
+      (written_ahead (operation_of_kind next.command_kind) 1 + n)
+      → HasRoomForOldSectors new.cache n
   pub rest_is_kept : new ≡ record old { disk = record old.disk { store = new.disk.store }; cache = new.cache }

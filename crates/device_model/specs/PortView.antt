@@ -1,6 +1,6 @@
 -- The state that a model stands for.
 use Rattle.std.specs.Prelude.{ℕ, Bool, false, ◌%◌, List, [], Option, None, option_map, unwrap_or, slice_index_or, if◌then◌else◌}
-use Rattle.adapter.specs.ToldSteps.{busy}
+use Rattle.adapter.specs.AskedSteps.{bsy_mask}
 use Rattle.adapter.specs.Device.{Disk, FetchedCommand, Bases, Halt, Notes, DevicePort}
 use Rattle.adapter.specs.Device.Halt.{NotHalted, HaltedPlain, HaltedQueued, LogOnly}
 use Rattle.adapter.specs.Decoding.{pieces}
@@ -43,9 +43,9 @@ notes_of r =
       last_ci = r.last_ci;
       last_sact = r.last_sact;
       engine_count = r.engine_count;
-      link_count = r.link_count;
+      link_wait_count = r.link_count;
       busy_count = r.busy_count;
-      command_count = r.command_count;
+      slot0_issued_count = r.command_count;
       acknowledged = r.acknowledged;
     }
 
@@ -70,13 +70,13 @@ cause_of _ = 0
 
 -- which of BSY and DRQ a command that failed has left set: BSY, where its disk is left busy
 abbrev pub busy_if_left : Bool → ℕ
-busy_if_left left_busy = if left_busy then busy else 0
+busy_if_left left_busy = if left_busy then bsy_mask else 0
 
 -- what a fault has made of a port
 abbrev pub halt_of : Halting → Halt
-halt_of halting.Running = NotHalted
-halt_of halting.Plain = HaltedPlain
-halt_of halting.Queued = HaltedQueued
+halt_of halting.NotHalted = NotHalted
+halt_of halting.HaltedPlain = HaltedPlain
+halt_of halting.HaltedQueued = HaltedQueued
 halt_of halting.LogOnly = LogOnly
 
 abbrev pub taken_of : TakenCommand → FetchedCommand
@@ -127,7 +127,7 @@ port_of p m =
       st = p.st;
       fre = p.fre;
       sctl_det = p.sctl_det % 16;
-      ie = p.enabled;
+      ie = p.ie;
       cr = p.cr;
       fr = p.fr;
       tfd = unwrap_or p.tfd 0x7f;
@@ -136,13 +136,13 @@ port_of p m =
       serr_n = p.serr_n;
       serr_x = p.serr_x;
       is = word_bits p.is;
-      ips = p.ips;
+      ips_latched = p.ips;
       other_causes = p.other_causes;
       ci = word_bits p.ci;
       sact = word_bits p.sact;
       disk = m.disk;
-      plugged = m.plugged;
-      lasting = record { sectors = m.lasting; tape_length = p.lasting_at };
+      plug_history = m.plugged;
+      lasting = record { sectors = m.lasting; tape_length = p.lasting_tape_length };
       present = p.present;
       fresh = p.fresh;
       link_due = p.link_due;
@@ -164,7 +164,7 @@ blank_port =
       st = false;
       fre = false;
       sctl_det = 0;
-      enabled = 0;
+      ie = 0;
       cr = false;
       fr = false;
       tfd = None;
@@ -180,10 +180,10 @@ blank_port =
       present = false;
       fresh = false;
       link_due = false;
-      halting = halting.Running;
+      halting = halting.NotHalted;
       broken = false;
       taken = [];
-      lasting_at = 0;
+      lasting_tape_length = 0;
       readings = record {
         st_set_at = 0;
         sctl_written_at = 0;

@@ -1,7 +1,7 @@
 -- The FISes that the model sends, in the received FIS area of a port (Serial ATA; AHCI 1.3.1, 4.2.1).
 use Rattle.std.specs.Prelude.{ℕ, Bool, true, false, ◌≡◌, ◌+◌, ◌/◌, ◌%◌, ◌^◌, ◌&&◌, List, bit_and, bit_or, nat_le}
 use Rattle.ata_types.specs.declared.memory.TheConstants.{RECEIVED_FIS_BYTES}
-use Rattle.adapter.specs.ToldSteps.{IsPosted, PostsNone}
+use Rattle.adapter.specs.AskedSteps.{IsPosted, PostsNone}
 use Rattle.adapter.specs.Commands.{is_queued}
 use Rattle.adapter.specs.Device.{DevicePort, Device}
 use Rattle.adapter.specs.Steps.{DeviceTransition}
@@ -20,8 +20,8 @@ use Rattle.fis.specs.declared.SetDeviceBits.{SetDeviceBits}
 -- The page of IDENTIFY DEVICE or READ LOG EXT, 512 bytes by PIO: DRQ was set beside the ending status; I asks for an
 -- interrupt. A disk sends it before the page's bytes: here it stands as the command ends, since nobody may look there
 -- meanwhile.
-abbrev pub page_setup : DevicePort → PioSetup
-page_setup p =
+abbrev pub page_setup_fis : DevicePort → PioSetup
+page_setup_fis p =
     record {
       interrupt = true;
       to_host = true;
@@ -69,21 +69,23 @@ receives_fis p size = p.fre && nat_le (p.bases.fb + RECEIVED_FIS_BYTES) size
 
 -- The bytes stand at this place of the port's received FIS area, and nothing else is another; or they are lost, where
 -- the port doesn't receive them.
-pub record IsSent (port place : ℕ) (bytes : List ℕ) (old new : Device) : Type 0 where
-  pub is_posted : receives_fis (old.port port) old.size ≡ true
+pub record IsSentOrLost (port place : ℕ) (bytes : List ℕ) (old new : Device) : Type 0 where
+  pub is_posted : receives_fis (old.port port) old.memory_size ≡ true
       → IsPosted port ((old.port port).bases.fb + place) bytes old
       new
-  pub is_lost : receives_fis (old.port port) old.size ≡ false → new ≡ old
+  pub is_lost : receives_fis (old.port port) old.memory_size ≡ false → new ≡ old
 
 -- where a PIO Setup FIS, a Register FIS and a Set Device Bits FIS stand in the area (AHCI 1.3.1, 4.2.1)
-abbrev pub SendsSetup : ℕ → PioSetup → Device → Device → Type 0
-SendsSetup port fis old new = (bytes : List ℕ) × EncodesPioSetup bytes fis × IsSent port 0x20 bytes old new
+abbrev pub SendsPioSetup : ℕ → PioSetup → Device → Device → Type 0
+SendsPioSetup port fis old new = (bytes : List ℕ) × EncodesPioSetup bytes fis × IsSentOrLost port 0x20 bytes old new
 
-abbrev pub SendsRegisters : ℕ → DeviceToHost → Device → Device → Type 0
-SendsRegisters port fis old new = (bytes : List ℕ) × EncodesDeviceToHost bytes fis × IsSent port 0x40 bytes old new
+abbrev pub SendsDeviceToHost : ℕ → DeviceToHost → Device → Device → Type 0
+SendsDeviceToHost port fis old new = (bytes : List ℕ) × EncodesDeviceToHost bytes fis
+    × IsSentOrLost port 0x40 bytes old new
 
-abbrev pub SendsBits : ℕ → SetDeviceBits → Device → Device → Type 0
-SendsBits port fis old new = (bytes : List ℕ) × EncodesSetDeviceBits bytes fis × IsSent port 0x58 bytes old new
+abbrev pub SendsSetDeviceBits : ℕ → SetDeviceBits → Device → Device → Type 0
+SendsSetDeviceBits port fis old new = (bytes : List ℕ) × EncodesSetDeviceBits bytes fis
+    × IsSentOrLost port 0x58 bytes old new
 
 -- ---- when it is sent
 
@@ -92,31 +94,33 @@ SendsBits port fis old new = (bytes : List ℕ) × EncodesSetDeviceBits bytes fi
 -- (AHCI 1.3.1, 3.3.5). A disk sends a Register FIS as it takes a queued command, and a DMA Setup FIS, too: nobody may
 -- look there meanwhile, and the last FIS covers them.
 abbrev pub SendsEnd : (slot port flag : ℕ) → Operation → Device → Device → Type 0
-SendsEnd slot port flag Identify old new = (flag ≡ 1) × SendsSetup port (page_setup (old.port port)) old new
-SendsEnd slot port flag ReadLog old new = (flag ≡ 1) × SendsSetup port (page_setup (old.port port)) old new
-SendsEnd slot port flag ReadQueued old new = (flag ≡ 3) × SendsBits port (ended_tag_fis slot (old.port port)) old new
-SendsEnd slot port flag WriteQueued old new = (flag ≡ 3) × SendsBits port (ended_tag_fis slot (old.port port)) old new
-SendsEnd slot port flag _ old new = (flag ≡ 0) × SendsRegisters port (end_fis (old.port port)) old new
+SendsEnd slot port flag Identify old new = (flag ≡ 1) × SendsPioSetup port (page_setup_fis (old.port port)) old new
+SendsEnd slot port flag ReadLog old new = (flag ≡ 1) × SendsPioSetup port (page_setup_fis (old.port port)) old new
+SendsEnd slot port flag ReadQueued old new = (flag ≡ 3)
+    × SendsSetDeviceBits port (ended_tag_fis slot (old.port port)) old new
+SendsEnd slot port flag WriteQueued old new = (flag ≡ 3)
+    × SendsSetDeviceBits port (ended_tag_fis slot (old.port port)) old new
+SendsEnd slot port flag _ old new = (flag ≡ 0) × SendsDeviceToHost port (end_fis (old.port port)) old new
 
 -- As a command fails, with TFES of PxIS: of a queued one a Set Device Bits FIS, and of another one, or of what means
 -- none, a Register FIS (TFES: AHCI 1.3.1, 3.3.5).
 abbrev pub SendsFault : (queued : Bool) → (port : ℕ) → Device → Device → Type 0
-SendsFault true port old new = SendsBits port (failed_tags_fis (old.port port)) old new
-SendsFault false port old new = SendsRegisters port (end_fis (old.port port)) old new
+SendsFault true port old new = SendsSetDeviceBits port (failed_tags_fis (old.port port)) old new
+SendsFault false port old new = SendsDeviceToHost port (end_fis (old.port port)) old new
 
-abbrev pub SendsFailed : (port flag : ℕ) → Operation → Device → Device → Type 0
-SendsFailed port flag operation old new = SendsFault (is_queued operation) port old new
+abbrev pub SendsFaultOfOperation : (port flag : ℕ) → Operation → Device → Device → Type 0
+SendsFaultOfOperation port flag operation old new = SendsFault (is_queued operation) port old new
 
 -- as the command of the slot that a step names ends or fails
 abbrev pub Sends : DeviceStep → (port flag : ℕ) → Operation → Device → Device → Type 0
 Sends (asked.Done p s) = SendsEnd s.0
 Sends (asked.Finish p s) = SendsEnd s.0
-Sends (asked.Fault p s error) = SendsFailed
-Sends (asked.FaultBusy p s error) = SendsFailed
+Sends (asked.Fault p s error) = SendsFaultOfOperation
+Sends (asked.FaultBusy p s error) = SendsFaultOfOperation
 Sends step = PostsNone
 
 -- after a step that the model does by itself: as a command ends, and as the link comes up
 abbrev pub SendsAfter : DeviceTransition → Device → Device → Type 0
 SendsAfter (Done port slot flag t) old new = SendsEnd slot port flag t.meaning.operation old new
-SendsAfter (LinkUp port sig n) old new = SendsRegisters port (signature_fis (old.port port)) old new
+SendsAfter (LinkUp port sig n) old new = SendsDeviceToHost port (signature_fis (old.port port)) old new
 SendsAfter step old new = new ≡ old

@@ -22,8 +22,8 @@ pub record MayTake (p : DevicePort) (slot : ℕ) (operation : Operation) : Type 
 
 -- the slot has a command that is issued and not taken, on a port that works: it may be taken, if its bytes say one that
 -- may be now
-abbrev pub HasUntaken : PortModel → ℕ → Type 0
-HasUntaken p slot =
+abbrev pub HasIssuedUntaken : PortModel → ℕ → Type 0
+HasIssuedUntaken p slot =
     (m : Media) (operation : Operation) → admits (halt_of p.halting) operation ≡ true → IsFetchable (port_of p m) slot
     × IsWorking (port_of p m) operation
 
@@ -55,13 +55,13 @@ pub record IsNextRun (h : Hardware) (port slot most : ℕ) (run : SectorExtent) 
 -- So many pieces of this command follow its next one in their region, each with a place in a memory of this size, an
 -- address of 32 bits and a sector of 64: none, unless it names sectors.
 pub record PiecesFollow (size : ℕ) (next : NextMove) (t : TakenCommand) : Type 0 where
-  pub pieces_are : (k : ℕ) → k ≤ next.behind → (t.moved + k < length (pieces t.prds))
+  pub pieces_are : (k : ℕ) → k ≤ next.pieces_following → (t.moved + k < length (pieces t.prds))
       × (slice_index (pieces t.prds) (t.moved + k) ≡ next.address + 512 * k)
-  pub moved_fits : t.moved + next.behind + 1 < 2 ^ 32
-  pub inside : next.address + 512 * next.behind + 512 ≤ size
-  pub addresses_fit : next.address + 512 * next.behind < 2 ^ 32
-  pub sectors_fit : next.sector + next.behind < 2 ^ 64
-  pub is_ranged_if_any : 1 ≤ next.behind → is_ranged (operation_of_kind t.command_kind) ≡ true
+  pub moved_fits : t.moved + next.pieces_following + 1 < 2 ^ 32
+  pub inside : next.address + 512 * next.pieces_following + 512 ≤ size
+  pub addresses_fit : next.address + 512 * next.pieces_following < 2 ^ 32
+  pub sectors_fit : next.sector + next.pieces_following < 2 ^ 64
+  pub is_ranged_if_any : 1 ≤ next.pieces_following → is_ranged (operation_of_kind t.command_kind) ≡ true
 
 -- the next piece of this command goes to or from this address, and is this sector, if it is one
 pub record IsNextMove (h : Hardware) (port slot : ℕ) (next : NextMove) (t : TakenCommand) : Type 0 where

@@ -1,7 +1,7 @@
 -- What a model makes of a step that it is told: when the step is possible, what it changes where it is done, and what
 -- stays where it is left (this project's own).
 use Rattle.std.specs.Prelude.{ℕ, Bool, true, false, ◌≡◌, ◌≢◌, ◌+◌, ◌-◌, min, ◌^◌, ◌<◌, ◌≤◌, ◌⊎◌, List, [], ◌∷◌, ◌++◌, Option, None, Some, if◌then◌else◌, nat_eq, option_map, IfSome}
-use Rattle.adapter.specs.ToldSteps.{DoesClear, DoesToldStep, SlotGoesOn, busy, fatal_bit}
+use Rattle.adapter.specs.AskedSteps.{DoesClear, DoesAskedStep, SlotGoesOn, bsy_mask, fatal_bit}
 use Rattle.adapter.specs.Commands.{Meaning, is_queued, is_ranged, reads_memory}
 use Rattle.adapter.specs.Device.{Device, FetchedCommand}
 use Rattle.adapter.specs.Steps.{Can, device_after, done_entry, next_sector}
@@ -14,7 +14,7 @@ use Rattle.ata_types.specs.declared.Port.{Port}
 use Rattle.ata_types.specs.declared.Slot.{Slot}
 use Rattle.sector_store.specs.declared.store.Failures.{Failures}
 use Rattle.device_model.specs.WriteCaches.{CallFails}
-use Rattle.device_model.specs.Disks.{HasRoomForOldAt, HasRoomForOldOf, LosesCache, bay_of, port_has_cache, disk_number, numbered_disk, disk_failures, identity, page_source_of, disk_index_of}
+use Rattle.device_model.specs.Disks.{ModelHasRoomForOldSectors, BaysHaveRoomForOldSectors, LosesCache, bay_of, port_has_cache, disk_number, numbered_disk, disk_failures, identity, page_source_of, disk_index_of}
 use Rattle.device_model.specs.Finishing.{HasMove, TapeHasRoom, MayFinish}
 use Rattle.device_model.specs.HeldPorts.{held_after}
 use Rattle.device_model.specs.ModelState.{device_at}
@@ -30,7 +30,7 @@ use Rattle.device_model.specs.declared.bay.Bay.{Bay}
 use Rattle.device_model.specs.declared.bay.PageSource.{PageSource}
 use Rattle.device_model.specs.declared.model.Model.{Model}
 use Rattle.device_model.specs.declared.model.StepOutcome.{StepOutcome}
-use Rattle.device_model.specs.declared.model.StepOutcome.TheVariants.{Left}
+use Rattle.device_model.specs.declared.model.StepOutcome.TheVariants.{Skipped}
 use Rattle.device_model.specs.declared.port.TakenCommand.{TakenCommand}
 use Rattle.device_model.specs.declared.steps.NextMove.{NextMove}
 
@@ -54,7 +54,7 @@ IsPossible (asked.Done p s) d = (p.0 < 4) × (s.0 < 32) × (flag : ℕ) × (t : 
 IsPossible (asked.Finish p s) d = HasDisks d p.0 × (s.0 < 32) × (left clears : ℕ) × MayFinish d p.0 s.0 left clears
 IsPossible (asked.Fault p s error) d = (p.0 < 4) × (s.0 < 32) × (t : FetchedCommand) × Can (Fault p.0 s.0 error 0 t) d
 IsPossible (asked.FaultBusy p s error) d = (p.0 < 4) × (s.0 < 32) × (t : FetchedCommand)
-    × Can (Fault p.0 s.0 error busy t) d
+    × Can (Fault p.0 s.0 error bsy_mask t) d
 IsPossible (asked.Fatal p error) d = (p.0 < 4) × Can (Fatal p.0 (fatal_bit error)) d
 IsPossible (asked.Scribble p byte) d = (p.0 < 4) × ((d.port p.0).fre ≡ true)
 IsPossible (asked.Lie p page offset bits) d = offset < 512
@@ -78,13 +78,15 @@ cleared_count_on_disk size most t = min (next_run_length most t) (size - next_un
 abbrev pub LacksMemory : {S : Type 0} → DeviceStep → Device → Hardware → List (Option (Bay S)) → Type 0
 LacksMemory (asked.Fetch p s) d h bays = Can (FetchFault p.0 s.0 false 0) d × (TapeHasRoom h 1 → ⊥)
 LacksMemory (asked.Move p s) d h bays = (t : FetchedCommand) × HasMove d p.0 s.0 t
-    × (TapeHasRoom h 1 → HasRoomForOldOf bays p.0 (written_ahead t.meaning.operation 1) → ⊥)
+    × (TapeHasRoom h 1 → BaysHaveRoomForOldSectors bays p.0 (written_ahead t.meaning.operation 1) → ⊥)
 LacksMemory (asked.Clear p s most) d h bays = (t : FetchedCommand) × HasClear d p.0 s.0 most t
-    × (TapeHasRoom h 2 → HasRoomForOldOf bays p.0 (cleared_count_on_disk (d.port p.0).disk.size most t) → ⊥)
+    × (TapeHasRoom h 2 → BaysHaveRoomForOldSectors bays p.0
+    (cleared_count_on_disk (d.port p.0).disk.sector_count most t) → ⊥)
 LacksMemory (asked.Done p s) d h bays = TapeHasRoom h 1 → ⊥
 LacksMemory (asked.Finish p s) d h bays =
     (left clears : ℕ) × (may : MayFinish d p.0 s.0 left clears) × (TapeHasRoom h (left + clears + 1)
-    → HasRoomForOldOf bays p.0 (changes_ahead may.fetched_command.meaning.operation d.memory may.fetched_command left)
+    → BaysHaveRoomForOldSectors bays p.0
+    (changes_ahead may.fetched_command.meaning.operation d.memory may.fetched_command left)
     → ⊥)
 LacksMemory (asked.Fault p s error) d h bays = TapeHasRoom h 1 → ⊥
 LacksMemory (asked.FaultBusy p s error) d h bays = TapeHasRoom h 1 → ⊥
@@ -95,27 +97,27 @@ LacksMemory (asked.LosePlug p) d h bays = TapeHasRoom h 1 → ⊥
 LacksMemory step d h bays = ⊥
 
 -- so many moves of sectors, or clears, are left of an operation
-abbrev pub LeavesMoves : Operation → (left clears : ℕ) → Type 0
-LeavesMoves operation left clears = ((is_ranged operation ≡ true) × (1 ≤ left)) ⊎ (1 ≤ clears)
+abbrev pub HasMovesOrClearsLeft : Operation → (left clears : ℕ) → Type 0
+HasMovesOrClearsLeft operation left clears = ((is_ranged operation ≡ true) × (1 ≤ left)) ⊎ (1 ≤ clears)
 
 -- The step is possible and moves or clears a sector, so that it may ask the store of the disk that is in for one: a
 -- Move, or a Finish that has a move left, of a command that names sectors; a Clear, or a Finish that has one left. Or
 -- it is a LosePlug, which may write sectors back of the disk that was last in. No other step asks a store for anything.
-abbrev pub AsksStore : DeviceStep → Device → Type 0
-AsksStore (asked.Move p s) d = (s.0 < 32) × (t : FetchedCommand) × HasMove d p.0 s.0 t
+abbrev pub MayAskStore : DeviceStep → Device → Type 0
+MayAskStore (asked.Move p s) d = (s.0 < 32) × (t : FetchedCommand) × HasMove d p.0 s.0 t
     × (is_ranged t.meaning.operation ≡ true)
-AsksStore (asked.Clear p s most) d = (s.0 < 32) × (t : FetchedCommand) × HasClear d p.0 s.0 most t
-AsksStore (asked.Finish p s) d =
+MayAskStore (asked.Clear p s most) d = (s.0 < 32) × (t : FetchedCommand) × HasClear d p.0 s.0 most t
+MayAskStore (asked.Finish p s) d =
     HasDisks d p.0 × (s.0 < 32) × (left clears : ℕ) × (may : MayFinish d p.0 s.0 left clears)
-    × LeavesMoves may.fetched_command.meaning.operation left clears
-AsksStore (asked.LosePlug p) d = (p.0 < 4) × HasDisks d p.0 × ((d.port p.0).present ≡ false)
-AsksStore step d = ⊥
+    × HasMovesOrClearsLeft may.fetched_command.meaning.operation left clears
+MayAskStore (asked.LosePlug p) d = (p.0 < 4) × HasDisks d p.0 × ((d.port p.0).present ≡ false)
+MayAskStore step d = ⊥
 
 -- Each place of the memory has an address of 32 bits, for a step to which that matters: a Move, or a Finish of a
 -- command that is taken already.
 abbrev pub IsAddressable : DeviceStep → Device → Type 0
-IsAddressable (asked.Move p s) d = d.size ≤ 2 ^ 32
-IsAddressable (asked.Finish p s) d = (t : FetchedCommand) → (d.port p.0).taken s.0 ≡ Some t → d.size ≤ 2 ^ 32
+IsAddressable (asked.Move p s) d = d.memory_size ≤ 2 ^ 32
+IsAddressable (asked.Finish p s) d = (t : FetchedCommand) → (d.port p.0).taken s.0 ≡ Some t → d.memory_size ≤ 2 ^ 32
 IsAddressable step d = Unit {0}
 
 -- ---- what a step makes of a model
@@ -210,7 +212,7 @@ pub record FailsToMove (cached : Bool) (port slot : ℕ) (was now : Option Failu
   pub ranged : is_ranged fetched_command.meaning.operation ≡ true
   pub error : ℕ
   pub cause : IsSectorFault cached (reads_memory fetched_command.meaning.operation) (next_sector fetched_command)
-      (old.port port).disk.size error was now
+      (old.port port).disk.sector_count error was now
   pub can : Can (Fault port slot error 0 fetched_command) old
   pub sends : SendsFault (is_queued fetched_command.meaning.operation) port
       (device_after (Fault port slot error 0 fetched_command) old) new
@@ -223,15 +225,15 @@ pub record FailsToClear (cached : Bool) (port slot : ℕ) (was now : Option Fail
   pub fetched_command : FetchedCommand
   pub has_clear : HasClear old port slot 1 fetched_command
   pub error : ℕ
-  pub cause : IsSectorFault cached true (next_uncleared fetched_command) (old.port port).disk.size error was now
+  pub cause : IsSectorFault cached true (next_uncleared fetched_command) (old.port port).disk.sector_count error was now
   pub can : Can (Fault port slot error 0 fetched_command) old
   pub sends : SendsFault (is_queued fetched_command.meaning.operation) port
       (device_after (Fault port slot error 0 fetched_command) old) new
   pub page_source_after_is : after_it ≡ says
 
 -- after some of what a step asks, or nothing of it
-abbrev pub FailsAfterPart : (Part Fails : Device → Device → Type 0) → Device → Device → Type 0
-FailsAfterPart Part Fails old new = (mid : Device) × ((mid ≡ old) ⊎ Part old mid) × Fails mid new
+abbrev pub FailsAfterPart : (Part FailsAndPosts : Device → Device → Type 0) → Device → Device → Type 0
+FailsAfterPart Part FailsAndPosts old new = (mid : Device) × ((mid ≡ old) ⊎ Part old mid) × FailsAndPosts mid new
 
 -- fewer sectors of the slot's trim were cleared than so many
 abbrev pub ClearsFewer : (port slot most : ℕ) → Device → Device → Type 0
@@ -241,17 +243,20 @@ ClearsFewer port slot most old new = (did : DoesClear port slot most old new) ×
 -- Finish as they come to a sector of those that they ask for on which it fails, a Move as it begins, and the others
 -- once they have done what comes before it. What the disks say after it tells of a queued one.
 abbrev pub StepFails : DeviceStep → (cached : Bool) → (was now : Option Failures)
-    → (says after_it : Option PageSource) → Device → Device → Type 0
-StepFails (asked.Fetch p s) cached was now says after_it old new = FailsToFetch p.0 s.0 was now says after_it old new
-StepFails (asked.Move p s) cached was now says after_it old new = FailsToMove cached p.0 s.0 was now says after_it old
+    → (source_before source_after : Option PageSource) → Device → Device → Type 0
+StepFails (asked.Fetch p s) cached was now source_before source_after old new = FailsToFetch p.0 s.0 was now
+    source_before source_after old new
+StepFails (asked.Move p s) cached was now source_before source_after old new = FailsToMove cached p.0 s.0 was now
+    source_before source_after old
     new
-StepFails (asked.Clear p s most) cached was now says after_it old new =
-    FailsAfterPart (ClearsFewer p.0 s.0 most) (FailsToClear cached p.0 s.0 was now says after_it) old new
-StepFails (asked.Finish p s) cached was now says after_it old new =
-    FailsAfterPart (SlotGoesOn (SendsEnd s.0) p.0 s.0) (λ mid last. FailsToMove cached p.0 s.0 was now says after_it mid
+StepFails (asked.Clear p s most) cached was now source_before source_after old new =
+    FailsAfterPart (ClearsFewer p.0 s.0 most) (FailsToClear cached p.0 s.0 was now source_before source_after) old new
+StepFails (asked.Finish p s) cached was now source_before source_after old new =
+    FailsAfterPart (SlotGoesOn (SendsEnd s.0) p.0 s.0)
+    (λ mid last. FailsToMove cached p.0 s.0 was now source_before source_after mid
     last
-    ⊎ FailsToClear cached p.0 s.0 was now says after_it mid last) old new
-StepFails step cached was now says after_it old new = ⊥
+    ⊎ FailsToClear cached p.0 s.0 was now source_before source_after mid last) old new
+StepFails step cached was now source_before source_after old new = ⊥
 
 -- no call has failed, on any store
 abbrev pub NoCallFailed : {S : Type 0} → (S → Option Failures) → Model S → Model S → Type 0
@@ -260,9 +265,9 @@ NoCallFailed {S} failures old new =
     ≡ option_map (λ x. failures x.store) (numbered_disk old port which)
 
 -- the step loses what is in a cache
-abbrev pub is_losing : DeviceStep → Bool
-is_losing (asked.LosePlug p) = true
-is_losing step = false
+abbrev pub is_cache_loss : DeviceStep → Bool
+is_cache_loss (asked.LosePlug p) = true
+is_cache_loss step = false
 
 -- What was in the cache of the disk that is put in again is lost.
 abbrev pub LosesCacheIn : {S : Type 0} → (S → ℕ) → (S → Option (ℕ → List ℕ)) → (S → Option Failures) → Option (Bay S)
@@ -291,7 +296,7 @@ pub record HasCleared (old new : Device) (port slot most : ℕ) : Type 0 where
 
 -- what a model answers, by what came of a move or a clear
 abbrev pub is_step_answered : StepOutcome → Bool
-is_step_answered Left = false
+is_step_answered Skipped = false
 is_step_answered _ = true
 
 -- a Finish ends its command, and a Clear clears all that can be cleared at once
@@ -306,15 +311,15 @@ DoesAllItAsks step old new = Unit {0}
 -- what they say after it.
 pub record Completes {S : Type 0} (size : S → ℕ) (told : S → Option (ℕ → List ℕ)) (failures : S → Option Failures)
     (s : DeviceStep) (old new : Model S) : Type 0 where
-  pub does_told_step : DoesToldStep (Sends s) s (device_at size told old) (device_at size told new)
-  pub no_call_failed : is_losing s ≡ false → NoCallFailed failures old new
+  pub does_asked_step : DoesAskedStep (Sends s) s (device_at size told old) (device_at size told new)
+  pub no_call_failed : is_cache_loss s ≡ false → NoCallFailed failures old new
   pub page_source_is : page_source_of new (asked_port s) ≡ page_source_after s (device_at size told old)
       (page_source_of old
       (asked_port s))
-  pub does_all_it_asks : (device_at size told old).size ≤ 2 ^ 32
+  pub does_all_it_asks : (device_at size told old).memory_size ≤ 2 ^ 32
       → DoesAllItAsks s (device_at size told old) (device_at size told
       new)
-  pub loses_cache : is_losing s ≡ true
+  pub loses_cache : is_cache_loss s ≡ true
       → LosesCacheIn size told failures (bay_of old (asked_port s)) (bay_of new (asked_port s))
 
 -- its command fails
@@ -339,11 +344,11 @@ pub record DidStep {S : Type 0} (size : S → ℕ) (told : S → Option (ℕ →
   pub disk_index_is : disk_index_of new (asked_port s) ≡ disk_index_after s (disk_index_of old (asked_port s))
   pub other_bays_are_kept : (port : ℕ) → port ≢ asked_port s → bay_of new port ≡ bay_of old port
   pub gains_own_pages : GainsOwnPages size old new
-  pub disks_are_kept : (AsksStore s (device_at size told old) → ⊥) → (which : DiskIndex)
+  pub disks_are_kept : (MayAskStore s (device_at size told old) → ⊥) → (which : DiskIndex)
       → numbered_disk new (asked_port s) which
       ≡ numbered_disk old (asked_port s) which
   pub step_keeps : StepKeeps size old new
-  pub starved : new.hardware.starved ≡ old.hardware.starved
+  pub starved_is_kept : new.hardware.starved ≡ old.hardware.starved
 
 -- A step that is left: the device is as it was, each disk, and what the disks say. A step that is possible is left only
 -- where there was no room without growing to note it, or for the old bytes of the sectors that it changes, and that is
@@ -390,5 +395,6 @@ pub record KeepsRoomForNext {S : Type 0} (size : S → ℕ) (told : S → Option
     (known : Option NextMove) (old new : Model S) : Type 0 where
   pub tape_has_room : (n : ℕ) → TapeHasRoom old.hardware (n + 1) → TapeHasRoom new.hardware n
   pub cache_has_room : (t : FetchedCommand) → ((device_at size told old).port port).taken slot ≡ Some t → (n : ℕ)
-      → HasRoomForOldAt old port (written_ahead t.meaning.operation 1 + n) → HasRoomForOldAt new port n
+      → ModelHasRoomForOldSectors old port (written_ahead t.meaning.operation 1 + n)
+      → ModelHasRoomForOldSectors new port n
   pub next_move_is : IfSome known (λ n. (t : TakenCommand) × IsNextMove new.hardware port slot n t)

@@ -24,7 +24,7 @@ taken_list_from slot filled (room ∷ rooms) = (if bit filled slot then Some roo
 
 -- Where a trim is taken, no other command is; and where it has brought its block, this is it. The first sector of each
 -- command has a number of 48 bits.
-pub record HasBlock (taken : ℕ → Option TakenCommand) (block : List ℕ) : Type 0 where
+pub record BlockIsOfTakenTrim (taken : ℕ → Option TakenCommand) (block : List ℕ) : Type 0 where
   pub trim_is_alone : (slot other : ℕ) (t u : TakenCommand) → taken slot ≡ Some t → taken other ≡ Some u →
       t.command_kind ≡ Trim → other ≡ slot
   pub block_is : (slot : ℕ) (t : TakenCommand) (b : Snapshot (List ℕ)) → taken slot ≡ Some t → t.block ≡ Some b →

@@ -10,9 +10,10 @@ is_told None other telling = absurd (let e : false ≡ true = telling in cc)
 is_told (Some f) other telling = (f, refl)
 
 module _ {S : Type 0} (size : S → ℕ) (told : S → Option (ℕ → List ℕ)) where
-  pub bay_told : (b : Option (Bay S)) → tells told b ≡ true → HasKnownSectors (media_of size told b).disk
-  bay_told None telling = ((λ k. []), refl)
-  bay_told (Some b) telling = is_told (told b.disk.store) (told b.other.store) telling
+  pub bay_disk_has_known_sectors : (b : Option (Bay S)) → tells told b ≡ true
+      → HasKnownSectors (media_of size told b).disk
+  bay_disk_has_known_sectors None telling = ((λ k. []), refl)
+  bay_disk_has_known_sectors (Some b) telling = is_told (told b.disk.store) (told b.other.store) telling
 
   pub each_tells : (bays : List (Option (Bay S))) → all_tell told bays ≡ true → (port : ℕ)
       → tells told (slice_index_or bays port None) ≡ true
@@ -30,4 +31,5 @@ module _ {S : Type 0} (size : S → ℕ) (told : S → Option (ℕ → List ℕ)
 
   pub disks_told : (bays : List (Option (Bay S))) → all_tell told bays ≡ true → (port : ℕ)
       → HasKnownSectors ((all_media_of size told bays).media port).disk
-  disks_told bays telling port = bay_told (slice_index_or bays port None) (each_tells bays telling port)
+  disks_told bays telling port = bay_disk_has_known_sectors (slice_index_or bays port None)
+      (each_tells bays telling port)

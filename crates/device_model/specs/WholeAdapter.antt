@@ -32,7 +32,7 @@ abbrev pub device_of : Hardware → AllMedia → Device
 device_of h o =
     record {
       telling = o.telling;
-      size = length h.memory.items;
+      memory_size = length h.memory.items;
       memory = λ at. slice_index h.memory.items at;
       cap = h.cap;
       pi = h.pi;
@@ -52,7 +52,7 @@ HasRegister _ = Unit {0}
 abbrev pub no_media : Media
 no_media =
     record {
-      disk = record { name = 0; size = 0; sectors = Some (λ k. []) };
+      disk = record { name = 0; sector_count = 0; sectors = Some (λ k. []) };
       plugged = [];
       lasting = Some (λ k. []);
     }
@@ -73,4 +73,4 @@ all_media_after_plug o port disk =
 
 -- The port is one that has disks: one was put in, or was in at first.
 abbrev pub HasDisks : Device → ℕ → Type 0
-HasDisks d port = (d.port port).plugged ≢ []
+HasDisks d port = (d.port port).plug_history ≢ []

@@ -1,23 +1,23 @@
 -- A volatile write cache: what is lasting of a disk that has one, and what is lost (FLUSH CACHE EXT, ACS-3).
 use Rattle.std.specs.Prelude.{ℕ, Bool, true, false, ◌≡◌, ◌+◌, ◌<◌, ◌≤◌, ◌⊎◌, List, [], ◌∷◌, Option, Contains, if◌then◌else◌, length, option_map}
 use Rattle.std.specs.Vec.{vec_len, vec_capacity}
-use Rattle.sector_store.specs.Stores.{FailsOn}
+use Rattle.sector_store.specs.Stores.{HasOneMoreFailure}
 use Rattle.sector_store.specs.declared.store.Failures.{Failures}
 use Rattle.device_model.specs.OldSectors.{with_old_bytes}
 use Rattle.device_model.specs.declared.cache.Cache.{Cache}
 
 -- Without growing, it has room for the old bytes of so many sectors more, if it keeps any.
-abbrev pub HasRoomForOld : Cache → ℕ → Type 0
-HasRoomForOld c more = c.is_on ≡ true → 1 ≤ more → vec_len c.kept.sectors + more ≤ vec_capacity c.kept.sectors
+abbrev pub HasRoomForOldSectors : Cache → ℕ → Type 0
+HasRoomForOldSectors c more = c.is_on ≡ true → 1 ≤ more → vec_len c.kept.sectors + more ≤ vec_capacity c.kept.sectors
 
 -- the same old sectors are kept, or none still are
 pub record KeepsSameOldSectors (was now : Cache) : Type 0 where
-  pub is_on : now.is_on ≡ was.is_on
+  pub cache_mode_is_kept : now.is_on ≡ was.is_on
   pub old_sectors_are : now.kept.sectors.items ≡ was.kept.sectors.items
 
 -- none are kept any more
 pub record KeepsNoOldSectors (was now : Cache) : Type 0 where
-  pub is_on : now.is_on ≡ was.is_on
+  pub cache_mode_is_kept : now.is_on ≡ was.is_on
   pub old_sectors_are : now.kept.sectors.items ≡ []
 
 -- What is lasting of a disk that tells these sectors: with a cache each is as it was before it was changed; without one
@@ -29,7 +29,8 @@ lasting_in c told noted = if c.is_on then option_map (with_old_bytes c.kept.sect
 -- of what it held before.
 abbrev pub CallFails : (cached changes : Bool) → ℕ → (was now : Option Failures) → Type 0
 CallFails cached changes sector was now =
-    FailsOn changes sector was now ⊎ ((cached ≡ true) × (changes ≡ true) × FailsOn false sector was now)
+    HasOneMoreFailure changes sector was now
+    ⊎ ((cached ≡ true) × (changes ≡ true) × HasOneMoreFailure false sector was now)
 
 -- ---- what is lost
 
@@ -40,7 +41,8 @@ sector_told told sector = option_map (λ f. f sector) told
 -- one write more has failed of each of these sectors, in this order
 abbrev pub WritesFail : List ℕ → (was now : Option Failures) → Type 0
 WritesFail [] was now = now ≡ was
-WritesFail (sector ∷ rest) was now = (mid : Option Failures) × FailsOn true sector was mid × WritesFail rest mid now
+WritesFail (sector ∷ rest) was now = (mid : Option Failures) × HasOneMoreFailure true sector was mid
+    × WritesFail rest mid now
 
 -- The sectors of a store were to become these again. They did, but for some of which a write has failed: these, no more
 -- than there are, are as they were, and so is what is told past the last sector.

@@ -1,18 +1,8 @@
 // The disks of a port, as a model has them.
 ghost use Rattle.std.specs.Prelude.{◌≡◌, ◌<◌, ◌≤◌, ◌+◌, ◌++◌, ◌∷◌, [], ℕ, List, Option, None, true, false, length, if◌then◌else◌, IfSome};
-ghost use Rattle.adapter.specs.Commands.{is_ranged, reads_memory};
-ghost use Rattle.adapter.specs.Device.{Disk, IsSector};
-ghost use Rattle.adapter.specs.Steps.{disk_after, disk_cleared};
-ghost use Rattle.device_model.specs.WriteCaches.{CallFails, HasRoomForOld, KeepsSameOldSectors, lasting_in};
-ghost use Rattle.device_model.specs.Disks.{OnlyEndsCommand, EndsCommand, LosesCache, OnlyChangesPageSource, disk_in_bay, disk_over, identity, is_same, lasting_of, plugged_as};
-ghost use Rattle.device_model.specs.PieceTransfers.{TransfersPiece, IsTransferred, piece_of};
-ghost use Rattle.device_model.specs.Finishing.{HasRoomAhead, IsCommandBegun, IsCommandUnbegun};
-ghost use Rattle.device_model.specs.ModelState.{AreNewDisks};
-ghost use Rattle.device_model.specs.DiskPages.{IsSentLog, IsSentIdentify, HasBitsFlipped, with_lie, with_logged_error, without_lies};
-ghost use Rattle.device_model.specs.Trims.{written_ahead};
-ghost use Rattle.device_model.specs.PortView.{operation_of_kind};
-ghost use Rattle.device_model.specs.WholeAdapter.{AllMedia, device_of};
-ghost use Rattle.device_model.specs.ZeroedSectors.{MakesZero};
+ghost use Rattle.adapter.specs.{Commands.{is_ranged, reads_memory}, Device.{Disk, IsValidSector}, Steps.{disk_after, disk_cleared}};
+ghost use Rattle.device_model.specs.{WriteCaches.{CallFails, HasRoomForOldSectors, KeepsSameOldSectors, lasting_in}, Disks.{OnlyEndsCommand, BayEndsCommand, LosesCache, OnlyChangesPageSource, SelectsDisk, disk_over, identity, lasting_of, plugged_as}, PieceTransfers.{TransfersPiece, IsTransferred, piece_of}, Finishing.{HasRoomAhead, IsCommandBegun, IsCommandUnbegun}, ModelState.{AreNewDisks}};
+ghost use Rattle.device_model.specs.{DiskPages.{IsSentLog, IsSentIdentify, HasBitsFlipped, with_lie, with_logged_error, without_lies}, Trims.{written_ahead}, PortView.{operation_of_kind}, WholeAdapter.{AllMedia, device_of}, ZeroedSectors.{MakesZero}};
 
 use crate::cache::{Cache, put_sector, roll_back};
 use crate::clearing::SectorExtent;
@@ -55,11 +45,11 @@ pub struct Bay<S> {
     /// The other one.
     pub other: ModelDisk<S>,
     /// What the pages of both say of them.
-    pub says: PageSource,
+    pub page_source: PageSource,
     /// The disk that was in at first, as it was then, for proofs alone.
     pub first: Snapshot<S>,
     /// Those that were put in after it, for proofs alone.
-    pub later: PluggedDisks<S>,
+    pub plugged_later: PluggedDisks<S>,
     /// The disk that is in, or was last, as it was when it last ended a flush, or else when it was first in; for proofs
     /// alone.
     pub lasting: Snapshot<S>,
@@ -70,7 +60,7 @@ pub struct Bay<S> {
 /// Turns these bits of a page.
 fn flip_bits(page: &mut [u8; PAGE_BYTES], bits: &[u8; PAGE_BYTES])
     ensures turned { HasBitsFlipped page.old bits.now page.new }
-    ensures bytes { IsSector page.old → IsSector page.new }
+    ensures bytes { IsValidSector page.old → IsValidSector page.new }
 {
     for offset in 0..PAGE_BYTES {
         page[offset] ^= bits[offset];
@@ -88,7 +78,7 @@ fn clear_sectors<S: SectorStore>(
     run: SectorExtent,
 ) -> u32
     requires inside { run.first + run.count ≤ S.size disk.old }
-    requires room { HasRoomForOld cache.old run.count }
+    requires room { HasRoomForOldSectors cache.old run.count }
     ensures { MakesZero S.size S.told S.failures which run result disk.old disk.new cache.old cache.new }
 {
     for place in 0..run.count {
@@ -111,14 +101,14 @@ impl<S: SectorStore> Bay<S> {
             which: DiskIndex::Disk0,
             disk: disks.first,
             other: disks.spare,
-            says: PageSource {
+            page_source: PageSource {
                 abilities,
                 log: None,
                 lies: [0; PAGE_BYTES],
                 log_lies: [0; PAGE_BYTES],
             },
             first,
-            later: PluggedDisks::Nothing,
+            plugged_later: PluggedDisks::Nothing,
             lasting,
             cache: Cache::new(alloc, cached),
         }
@@ -128,22 +118,22 @@ impl<S: SectorStore> Bay<S> {
     /// for this page alone, since its frame has room for one, which is cleared at each entry.
     #[inline(never)]
     fn give_identity(&self, bytes: &mut [u8; 512])
-        ensures page { IsSentIdentify (identity S.size self.now.disk) self.now.says bytes.new }
-        ensures bytes { IsSector bytes.new }
+        ensures page { IsSentIdentify (identity S.size self.now.disk) self.now.page_source bytes.new }
+        ensures bytes { IsValidSector bytes.new }
     {
-        *bytes = self.disk.page(self.says.abilities);
-        flip_bits(bytes, &self.says.lies);
+        *bytes = self.disk.page(self.page_source.abilities);
+        flip_bits(bytes, &self.page_source.lies);
     }
 
     /// Gives the page of log 10h, with the bits turned on which the disks lie. It is entered for this page alone, as
     /// `give_identity`.
     #[inline(never)]
     fn give_log(&self, bytes: &mut [u8; 512])
-        ensures page { IsSentLog self.now.says bytes.new }
-        ensures bytes { IsSector bytes.new }
+        ensures page { IsSentLog self.now.page_source bytes.new }
+        ensures bytes { IsValidSector bytes.new }
     {
-        *bytes = log_page(self.says.log);
-        flip_bits(bytes, &self.says.log_lies);
+        *bytes = log_page(self.page_source.log);
+        flip_bits(bytes, &self.page_source.log_lies);
     }
 
     /// Has the disk that is in give these bytes of memory, the sector of a read or its page, or take them as a write's
@@ -151,7 +141,7 @@ impl<S: SectorStore> Bay<S> {
     /// bytes are as they were. A read is told how many pieces of its command come right behind this one.
     #[inline(always)]
     fn transfer_bytes(&mut self, next: NextMove, ahead: u32, bytes: &mut [u8; 512]) -> bool
-        requires { HasRoomForOld self.old.cache (written_ahead (operation_of_kind next.command_kind) 1) }
+        requires { HasRoomForOldSectors self.old.cache (written_ahead (operation_of_kind next.command_kind) 1) }
         ensures { TransfersPiece S.size S.told S.failures self.old self.new next bytes.old bytes.new result }
     {
         match next.command_kind {
@@ -178,7 +168,7 @@ impl<S: SectorStore> Bay<S> {
     #[inline(always)]
     fn transfer_within(&mut self, next: NextMove, ahead: u32, piece: &mut [u8]) -> bool
         requires long { length piece.old ≡ 512 }
-        requires room { HasRoomForOld self.old.cache (written_ahead (operation_of_kind next.command_kind) 1) }
+        requires room { HasRoomForOldSectors self.old.cache (written_ahead (operation_of_kind next.command_kind) 1) }
         ensures { TransfersPiece S.size S.told S.failures self.old self.new next piece.old piece.new result }
     {
         let Some(bytes) = piece.as_mut_array() else {
@@ -192,7 +182,7 @@ impl<S: SectorStore> Bay<S> {
     #[inline(always)]
     pub fn transfer_piece(&mut self, hardware: &mut Hardware, next: NextMove, ahead: u32) -> bool
         requires inside { next.address + 512 ≤ length hardware.old.memory.items }
-        requires room { HasRoomForOld self.old.cache (written_ahead (operation_of_kind next.command_kind) 1) }
+        requires room { HasRoomForOldSectors self.old.cache (written_ahead (operation_of_kind next.command_kind) 1) }
         ensures exchanges { TransfersPiece S.size S.told S.failures self.old self.new next
             (piece_of hardware.old next) (piece_of hardware.new next) result }
         ensures memory { IsTransferred hardware.old hardware.new next }
@@ -205,7 +195,7 @@ impl<S: SectorStore> Bay<S> {
     /// Makes these sectors of the disk that is in zero, as `clear_sectors` does.
     pub fn clear(&mut self, run: SectorExtent) -> u32
         requires inside { run.first + run.count ≤ S.size self.old.disk.store }
-        requires room { HasRoomForOld self.old.cache run.count }
+        requires room { HasRoomForOldSectors self.old.cache run.count }
         ensures zero { MakesZero S.size S.told S.failures self.old.which run result self.old.disk.store
             self.new.disk.store self.old.cache self.new.cache }
         ensures lasting { lasting_of S.told self.new ≡ lasting_of S.told self.old }
@@ -219,12 +209,13 @@ impl<S: SectorStore> Bay<S> {
     pub fn begin(&mut self, hardware: &mut Hardware, port: u8, slot: u8) -> Option<BegunCommand>
         requires port { port < 4 }
         requires slot { slot < 32 }
-        ensures begun { IfSome result (λ b. IsCommandBegun port slot b.rest.left b.rest.clears b.was_taken hardware.old
+        ensures begun { IfSome result (λ b. IsCommandBegun port slot b.remaining.moves b.remaining.clears
+            b.is_newly_taken hardware.old
             hardware.new) }
         ensures ahead { IfSome result (λ b. (o : AllMedia)
-            → HasRoomAhead self.new.cache port slot b.rest.left (device_of hardware.new o)) }
-        ensures same { KeepsSameOldSectors self.old.cache self.new.cache }
-        ensures left { result ≡ None
+            → HasRoomAhead self.new.cache port slot b.remaining.moves (device_of hardware.new o)) }
+        ensures old_sectors_are_kept { KeepsSameOldSectors self.old.cache self.new.cache }
+        ensures is_unbegun { result ≡ None
             → IsCommandUnbegun port slot hardware.old hardware.new self.old.cache self.new.cache }
         ensures rest { self.new ≡ record self.old { cache = self.new.cache } }
     {
@@ -235,10 +226,10 @@ impl<S: SectorStore> Bay<S> {
     /// none. It is asked for each sector that is moved, so it stands in its callers' code.
     #[inline(always)]
     pub fn reserve(&mut self, changes: u32) -> bool
-        ensures same { KeepsSameOldSectors self.old.cache self.new.cache }
-        ensures kept { (n : ℕ) → HasRoomForOld self.old.cache n → HasRoomForOld self.new.cache n }
-        ensures room { result ≡ true → HasRoomForOld self.new.cache changes }
-        ensures lacked { result ≡ false → HasRoomForOld self.old.cache changes → ⊥ }
+        ensures old_sectors_are_kept { KeepsSameOldSectors self.old.cache self.new.cache }
+        ensures room_is_kept { (n : ℕ) → HasRoomForOldSectors self.old.cache n → HasRoomForOldSectors self.new.cache n }
+        ensures room { result ≡ true → HasRoomForOldSectors self.new.cache changes }
+        ensures lacked { result ≡ false → HasRoomForOldSectors self.old.cache changes → ⊥ }
         ensures rest { self.new ≡ record self.old { cache = self.new.cache } }
     {
         self.cache.reserve(changes as usize)
@@ -253,33 +244,33 @@ impl<S: SectorStore> Bay<S> {
 
     /// Has the log name this command.
     pub fn log_failed(&mut self, failed: LoggedError)
-        ensures { self.new ≡ record self.old { says = with_logged_error failed self.old.says } }
+        ensures { self.new ≡ record self.old { page_source = with_logged_error failed self.old.page_source } }
     {
-        self.says.log = Some(failed);
+        self.page_source.log = Some(failed);
     }
 
     /// Has the disks lie of a byte of a page once more.
     pub fn lie(&mut self, page: DiskPage, offset: usize, bits: u8)
         requires { offset < 512 }
-        ensures { self.new ≡ record self.old { says = with_lie page offset bits self.old.says } }
+        ensures { self.new ≡ record self.old { page_source = with_lie page offset bits self.old.page_source } }
     {
         match page {
-            DiskPage::Identity => self.says.lies[offset] ^= bits,
-            DiskPage::Log => self.says.log_lies[offset] ^= bits,
+            DiskPage::Identity => self.page_source.lies[offset] ^= bits,
+            DiskPage::Log => self.page_source.log_lies[offset] ^= bits,
         }
     }
 
     /// Has them tell no lies any more.
     pub fn tell_truth(&mut self)
-        ensures { self.new ≡ record self.old { says = without_lies self.old.says } }
+        ensures { self.new ≡ record self.old { page_source = without_lies self.old.page_source } }
     {
-        self.says.lies = [0; PAGE_BYTES];
-        self.says.log_lies = [0; PAGE_BYTES];
+        self.page_source.lies = [0; PAGE_BYTES];
+        self.page_source.log_lies = [0; PAGE_BYTES];
     }
 
     /// Such a command has ended: a flush makes lasting what the disk that is in holds.
     pub fn end(&mut self, command_kind: CommandKind)
-        ensures { EndsCommand (operation_of_kind command_kind) self.old self.new }
+        ensures { BayEndsCommand (operation_of_kind command_kind) self.old self.new }
     {
         match command_kind {
             CommandKind::Flush => {
@@ -292,18 +283,7 @@ impl<S: SectorStore> Bay<S> {
 
     /// Has a disk stand as the one that is in. It has the sectors that it had; of another one they are lasting.
     fn select_disk(&mut self, which: DiskIndex)
-        ensures which { self.new.which ≡ which }
-        ensures disks { (w : DiskIndex) → disk_in_bay self.new w ≡ disk_in_bay self.old w }
-        ensures lasting { lasting_of S.told self.new
-            ≡ (if is_same which self.old.which then lasting_of S.told self.old else S.told self.new.disk.store) }
-        ensures cached { self.new.cache.is_on ≡ self.old.cache.is_on }
-        ensures rest { self.new ≡ record self.old {
-          which = self.new.which;
-          disk = self.new.disk;
-          other = self.new.other;
-          lasting = self.new.lasting;
-          cache = self.new.cache;
-        } }
+        ensures { SelectsDisk S.told which self.old self.new }
     {
         if self.which != which {
             mem::swap(&mut self.disk, &mut self.other);
@@ -315,39 +295,28 @@ impl<S: SectorStore> Bay<S> {
 
     /// Puts a disk in, as it was when it was taken out.
     pub fn put_in(&mut self, which: DiskIndex)
-        ensures which { self.new.which ≡ which }
-        ensures disks { (w : DiskIndex) → disk_in_bay self.new w ≡ disk_in_bay self.old w }
-        ensures later { (disk : DiskIndex → S → Disk) → plugged_as disk self.new.later
-            ≡ plugged_as disk self.old.later ++ disk which self.new.disk.store ∷ [] }
-        ensures lasting { lasting_of S.told self.new
-            ≡ (if is_same which self.old.which then lasting_of S.told self.old else S.told self.new.disk.store) }
-        ensures cached { self.new.cache.is_on ≡ self.old.cache.is_on }
-        ensures rest { self.new ≡ record self.old {
-          which = self.new.which;
-          disk = self.new.disk;
-          other = self.new.other;
-          later = self.new.later;
-          lasting = self.new.lasting;
-          cache = self.new.cache;
-        } }
+        ensures selects { SelectsDisk S.told which self.old
+            (record self.new { plugged_later = self.old.plugged_later }) }
+        ensures later { (disk : DiskIndex → S → Disk) → plugged_as disk self.new.plugged_later
+            ≡ plugged_as disk self.old.plugged_later ++ disk which self.new.disk.store ∷ [] }
     {
         self.select_disk(which);
-        self.later.note(which, &self.disk.store);
+        self.plugged_later.note(which, &self.disk.store);
     }
 
     /// Puts the disk in again that was last in, and what was in its cache is lost. What it may lose is kept: another
     /// one that is put in so loses the same.
     pub fn plug_after_cache_loss(&mut self)
         ensures loses { LosesCache S.size S.told S.failures self.old self.new }
-        ensures later { (disk : DiskIndex → S → Disk) → plugged_as disk self.new.later
-            ≡ plugged_as disk self.old.later ++ disk self.old.which self.new.disk.store ∷ [] }
+        ensures later { (disk : DiskIndex → S → Disk) → plugged_as disk self.new.plugged_later
+            ≡ plugged_as disk self.old.plugged_later ++ disk self.old.which self.new.disk.store ∷ [] }
         ensures rest { self.new ≡ record self.old
-            { disk = record self.old.disk { store = self.new.disk.store }; later = self.new.later } }
+            { disk = record self.old.disk { store = self.new.disk.store }; plugged_later = self.new.plugged_later } }
     {
         if self.cache.is_on {
             roll_back(&mut self.disk.store, &self.cache.kept);
         }
-        self.later.note(self.which, &self.disk.store);
+        self.plugged_later.note(self.which, &self.disk.store);
     }
 }
 

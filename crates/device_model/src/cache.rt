@@ -1,10 +1,8 @@
 // The volatile write cache of a disk: what it holds is lost with it, but for what a flush has made lasting (ACS-3,
 // FLUSH CACHE EXT). What is written goes to the store at once; what the store held before is kept until the next flush.
-ghost use Rattle.std.specs.Prelude.{◌≡◌, ◌<◌, ◌≤◌, ◌+◌, ◌⊎◌, ℕ, List, Option, true, false, option_map, length, is_some, []};
-ghost use Rattle.std.specs.Vec.{vec_len, vec_capacity};
-ghost use Rattle.sector_store.specs.Stores.{FailsOn, WritesSector};
-ghost use Rattle.device_model.specs.WriteCaches.{CallFails, HasRoomForOld, KeepsNoOldSectors, KeepsSameOldSectors, RollsBack, lasting_in};
-ghost use Rattle.device_model.specs.OldSectors.{with_old_bytes};
+ghost use Rattle.std.specs.{Prelude.{◌≡◌, ◌<◌, ◌≤◌, ◌+◌, ◌⊎◌, ℕ, List, Option, true, false, option_map, length, is_some, []}, Vec.{vec_len, vec_capacity}};
+ghost use Rattle.sector_store.specs.Stores.{HasOneMoreFailure, WritesSector};
+ghost use Rattle.device_model.specs.{WriteCaches.{CallFails, HasRoomForOldSectors, KeepsNoOldSectors, KeepsSameOldSectors, RollsBack, lasting_in}, OldSectors.{with_old_bytes}};
 
 use crate::old_sectors::OldSectors;
 use sector_store::SectorStore;
@@ -36,11 +34,11 @@ impl Cache {
     /// It stands in its callers' code, as `Bay::reserve`.
     #[inline(always)]
     pub fn reserve(&mut self, more: usize) -> bool
-        ensures same { KeepsSameOldSectors self.old self.new }
-        ensures kept { (n : ℕ) → HasRoomForOld self.old n → HasRoomForOld self.new n }
-        ensures room { result ≡ true → HasRoomForOld self.new more }
-        ensures lacked { result ≡ false → HasRoomForOld self.old more → ⊥ }
-        ensures lacks { result ≡ false → HasRoomForOld self.new more → ⊥ }
+        ensures old_sectors_are_kept { KeepsSameOldSectors self.old self.new }
+        ensures room_is_kept { (n : ℕ) → HasRoomForOldSectors self.old n → HasRoomForOldSectors self.new n }
+        ensures room { result ≡ true → HasRoomForOldSectors self.new more }
+        ensures had_no_room { result ≡ false → HasRoomForOldSectors self.old more → ⊥ }
+        ensures has_no_room { result ≡ false → HasRoomForOldSectors self.new more → ⊥ }
     {
         !self.is_on || more == 0 || self.kept.reserve(more)
     }
@@ -88,13 +86,13 @@ pub fn put_sector<S: SectorStore>(
     sector: u64,
     bytes: &[u8; 512],
 ) -> bool
-    requires { HasRoomForOld cache.old 1 }
+    requires { HasRoomForOldSectors cache.old 1 }
     ensures writes { WritesSector S.size S.told S.failures (CallFails cache.old.is_on true sector) sector bytes.now
         store.old store.new result }
     ensures lasting { (noted : Option (ℕ → List ℕ)) → lasting_in cache.new (S.told store.new) noted
         ≡ lasting_in cache.old (S.told store.old) noted }
     ensures is_on { cache.new.is_on ≡ cache.old.is_on }
-    ensures left { (n : ℕ) → HasRoomForOld cache.old (n + 1) → HasRoomForOld cache.new n }
+    ensures room_is_left { (n : ℕ) → HasRoomForOldSectors cache.old (n + 1) → HasRoomForOldSectors cache.new n }
 {
     if cache.is_on {
         put_over_old(store, &mut cache.kept, sector, bytes)

@@ -61,7 +61,7 @@ pub fn count_sectors(block: &[u8]) -> u32
 pub fn next_run(block: &[u8], cleared: u32, most: u32) -> SectorExtent
     requires { length block.now ≤ 512 }
     ensures count { result.count ≡ first_run_length (take most (drop cleared (trim_sectors block.now))) }
-    ensures few { result.count ≤ most }
+    ensures count_is_allowed { result.count ≤ most }
     ensures fits { 1 ≤ result.count → cleared + result.count < 2 ^ 32 }
     ensures first { 1 ≤ result.count → result.first ≡ slice_index (drop cleared (trim_sectors block.now)) 0 }
 {

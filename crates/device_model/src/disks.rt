@@ -1,9 +1,8 @@
 // The disks of a port.
 ghost use Rattle.std.specs.Prelude.{◌≡◌, ◌≤◌, ◌++◌, ◌∷◌, [], IfSome, Some, None};
 ghost use Rattle.adapter.specs.Device.{Disk};
-ghost use Rattle.sector_store.specs.Pages.{IsIdentifyPage};
-ghost use Rattle.sector_store.specs.Stores.{IsStoredSector};
-ghost use Rattle.device_model.specs.Disks.{disk_number, is_same, plugged_as, port_0_alone};
+ghost use Rattle.sector_store.specs.{Pages.{IsIdentifyPage}, Stores.{IsStoredSector}};
+ghost use Rattle.device_model.specs.Disks.{disk_number, is_same_index, plugged_as, port_0_alone};
 
 use adapter::DiskNumber;
 use sector_store::SectorStore;
@@ -61,7 +60,7 @@ impl DiskIndex {
 
     /// Whether it is that one.
     pub fn equals(self, other: DiskIndex) -> bool
-        ensures { result ≡ is_same self other }
+        ensures { result ≡ is_same_index self other }
     {
         match self {
             DiskIndex::Disk0 => matches!(other, DiskIndex::Disk0),

@@ -1,22 +1,16 @@
 // What the bytes of a slot mean, read as the device reads them. Bytes past the end of the memory are zeros.
 ghost use Rattle.std.specs.Prelude.{Bool, ◌≡◌, ◌<◌, ◌≤◌, ◌+◌, ◌*◌, ◌^◌, ◌%◌, ℕ, List, [], true, false, None, Some, All, IfSome, IsTrue, ◌↔◌, length, slice_index};
-ghost use Rattle.adapter.specs.Commands.{IsMeaning, Meaning, command_of, command_with_fields};
-ghost use Rattle.adapter.specs.Memory.{bytes_at};
-ghost use Rattle.adapter.specs.Decoding.{HasPrds, IsWholePieces, DecodesTo, pieces};
-ghost use Rattle.adapter.specs.declared.command.Command.{Command};
-ghost use Rattle.adapter.specs.Encoding.{AreZero, EncodesCommand, EncodesHeader, EncodesPrd};
+ghost use Rattle.adapter.specs.{Commands.{IsValidMeaning, Meaning, command_of, command_with_fields}, Memory.{bytes_at}, Decoding.{HasPrds, IsWholePieces, DecodesTo, pieces}, declared.command.Command.{Command}, Encoding.{AreZero, EncodesCommand, EncodesHeader, EncodesPrd}};
 ghost use Rattle.byteorder.specs.Endian.{little_from};
-ghost use Rattle.device_model.specs.FetchedBytes.{ArePrds, IsUntouched, bytes_of};
-ghost use Rattle.device_model.specs.Finishing.{sends_page};
-ghost use Rattle.device_model.specs.PortView.{operation_of_kind, taken_of};
+ghost use Rattle.device_model.specs.{FetchedBytes.{HavePiecesOfPrds, IsNewlyTaken, bytes_of}, Finishing.{sends_page}, PortView.{operation_of_kind, taken_of}};
 
 use crate::port::{CommandKind, TakenCommand};
 use crate::prds::PrdTable;
 use adapter::Prd;
 use ata_types::{
     DATA_SET_MANAGEMENT, FLUSH_CACHE_EXT, HEADER_BYTES, IDENTIFY_DEVICE, MOST_REQUEST_FRAMES,
-    READ_DMA_EXT, READ_FPDMA_QUEUED, READ_LOG_EXT, TABLE_ALIGNMENT, TABLE_HEAD, WRITE_DMA_EXT,
-    WRITE_FPDMA_QUEUED,
+    READ_DMA_EXT, READ_FPDMA_QUEUED, READ_LOG_EXT, TABLE_ALIGNMENT, TABLE_HEAD_BYTES,
+    WRITE_DMA_EXT, WRITE_FPDMA_QUEUED,
 };
 use byteorder::{ByteOrder, LittleEndian};
 use fis::are_zero;
@@ -217,9 +211,10 @@ fn decode_sectors(bytes: &[u8], slot: u8, command_kind: CommandKind) -> Option<S
     ensures found { IfSome result
         (λ s. EncodesCommand bytes.now (command_of (operation_of_kind command_kind) slot s.first s.count)) }
     ensures meant { IfSome result
-        (λ s. IsMeaning (record { operation = operation_of_kind command_kind; first = s.first; count = s.count })) }
+        (λ s. IsValidMeaning
+        (record { operation = operation_of_kind command_kind; first = s.first; count = s.count })) }
     ensures only { (s : Sectors)
-        → IsMeaning (record { operation = operation_of_kind command_kind; first = s.first; count = s.count }) →
+        → IsValidMeaning (record { operation = operation_of_kind command_kind; first = s.first; count = s.count }) →
         EncodesCommand bytes.now (command_of (operation_of_kind command_kind) slot s.first s.count) → result ≡ Some s }
 {
     match command_kind {
@@ -290,10 +285,10 @@ fn prd_at(memory: &[u8], at: usize) -> Option<Prd>
 
 /// Reads so many PRDs of whole pieces from an address on; `false` says that they don't stand there.
 fn read_prds(memory: &[u8], at: usize, number: usize, prds: &mut PrdTable) -> bool
-    requires low { at < 2 ^ 32 + TABLE_HEAD }
+    requires low { at < 2 ^ 32 + TABLE_HEAD_BYTES }
     requires few { number ≤ MOST_REQUEST_FRAMES }
     requires empty { prds.old ≡ [] }
-    ensures found { result ≡ true → ArePrds (bytes_of memory.now) at number prds.new }
+    ensures found { result ≡ true → HavePiecesOfPrds (bytes_of memory.now) at number prds.new }
     ensures only { result ≡ false → (es : List Prd) → length es ≡ number → HasPrds (bytes_of memory.now) at es
         → All IsWholePieces es → ⊥ }
 {
@@ -323,7 +318,7 @@ pub fn count_pieces(prds: &[Prd]) -> u32
 pub struct PiecePlace {
     pub address: u64,
     /// How many pieces stand behind it in its region.
-    pub behind: u32,
+    pub pieces_following: u32,
 }
 
 /// The place of a piece, if PRDs have so many. It stands for itself, since it goes over PRDs: callers that look for a
@@ -333,10 +328,11 @@ pub fn place_at(prds: &[Prd], number: u32) -> Option<PiecePlace>
     requires { length prds.now ≤ MOST_REQUEST_FRAMES }
     ensures found { IfSome result (λ place. (number < length (pieces prds.now))
         × (place.address ≡ slice_index (pieces prds.now) number)) }
-    ensures behind { IfSome result (λ place. (k : ℕ) → k ≤ place.behind → (number + k < length (pieces prds.now))
+    ensures pieces_follow { IfSome result (λ place. (k : ℕ) → k ≤ place.pieces_following
+        → (number + k < length (pieces prds.now))
         × (slice_index (pieces prds.now) (number + k) ≡ place.address + 512 * k)) }
-    ensures room { IfSome result (λ place. number + place.behind + 1 < 2 ^ 32) }
-    ensures low { IfSome result (λ place. place.address < 2 ^ 33) }
+    ensures room { IfSome result (λ place. number + place.pieces_following + 1 < 2 ^ 32) }
+    ensures address_in_range { IfSome result (λ place. place.address < 2 ^ 33) }
     ensures none { result ≡ None → length (pieces prds.now) ≤ number }
 {
     let mut left = number;
@@ -345,7 +341,7 @@ pub fn place_at(prds: &[Prd], number: u32) -> Option<PiecePlace>
         if left < here {
             return Some(PiecePlace {
                 address: u64::from(prd.address) + 512 * u64::from(left),
-                behind: here - left - 1,
+                pieces_following: here - left - 1,
             });
         }
         left -= here;
@@ -359,7 +355,7 @@ pub fn piece_at(prds: &[Prd], number: u32) -> Option<u64>
     ensures found { IfSome result (λ address. (number < length (pieces prds.now))
         × (address ≡ slice_index (pieces prds.now) number)) }
     ensures room { IfSome result (λ _. number + 1 < 2 ^ 32) }
-    ensures low { IfSome result (λ address. address < 2 ^ 33) }
+    ensures address_in_range { IfSome result (λ address. address < 2 ^ 33) }
     ensures none { result ≡ None → length (pieces prds.now) ≤ number }
 {
     let place = place_at(prds, number)?;
@@ -379,7 +375,7 @@ fn decode_command(
     requires slot { slot < 32 }
     requires fis { fis.now ≡ bytes_at (bytes_of memory.now) (little_from 8 4 header.now) 20 }
     requires empty { command.old.prds ≡ [] }
-    ensures found { result ≡ true → IsUntouched command.new
+    ensures found { result ≡ true → IsNewlyTaken command.new
         × ((list : ℕ) → header.now ≡ bytes_at (bytes_of memory.now) (list + HEADER_BYTES * slot) HEADER_BYTES →
         DecodesTo (bytes_of memory.now) list slot (taken_of command.new).meaning (taken_of command.new).places) }
     ensures kind { result ≡ true → command.new.command_kind ≡ command_kind }
@@ -399,7 +395,7 @@ fn decode_command(
     if entries > MOST_REQUEST_FRAMES
         || !read_prds(
             memory,
-            table + TABLE_HEAD as usize,
+            table + TABLE_HEAD_BYTES as usize,
             entries,
             &mut command.prds,
         )
@@ -420,7 +416,7 @@ fn decode_command(
 
 /// Whether the bytes of a slot may say a command that sends a page: `false` where their code is another one's. No more
 /// than the code is looked at, since slots are before each reading of a register.
-pub fn may_decode_page(memory: &[u8], list: u32, slot: u8) -> bool
+pub fn may_be_page_command(memory: &[u8], list: u32, slot: u8) -> bool
     requires { slot < 32 }
     ensures { result ≡ false → (m : Meaning) (places : List ℕ) → sends_page m.operation ≡ true
         → DecodesTo (bytes_of memory.now) list slot m places → ⊥ }
@@ -434,12 +430,12 @@ pub fn may_decode_page(memory: &[u8], list: u32, slot: u8) -> bool
 }
 
 /// The command that the bytes of a slot say, if it is one that sends a page: its code tells.
-pub fn decode_page_cmd(memory: &[u8], list: u32, slot: u8) -> Option<TakenCommand>
+pub fn decode_page_command(memory: &[u8], list: u32, slot: u8) -> Option<TakenCommand>
     requires { slot < 32 }
-    ensures found { IfSome result (λ t. IsUntouched t × DecodesTo (bytes_of memory.now) list slot (taken_of t).meaning
+    ensures found { IfSome result (λ t. IsNewlyTaken t × DecodesTo (bytes_of memory.now) list slot (taken_of t).meaning
         (taken_of t).places) }
     ensures kind { IfSome result (λ t. sends_page (operation_of_kind t.command_kind) ≡ true) }
-    ensures only { result ≡ None → (m : Meaning) (places : List ℕ) → sends_page m.operation ≡ true
+    ensures complete { result ≡ None → (m : Meaning) (places : List ℕ) → sends_page m.operation ≡ true
         → DecodesTo (bytes_of memory.now) list slot m places → ⊥ }
 {
     let header = header_bytes(memory, header_place(list, slot));
@@ -488,9 +484,10 @@ fn kind_of_code(code: u8) -> Option<CommandKind>
 pub fn decode_into(memory: &[u8], list: u32, slot: u8, command: &mut TakenCommand) -> bool
     requires slot { slot < 32 }
     requires empty { command.old.prds ≡ [] }
-    ensures found { result ≡ true → IsUntouched command.new
+    ensures found { result ≡ true → IsNewlyTaken command.new
         × DecodesTo (bytes_of memory.now) list slot (taken_of command.new).meaning (taken_of command.new).places }
-    ensures only { result ≡ false → (m : Meaning) (places : List ℕ) → DecodesTo (bytes_of memory.now) list slot m places
+    ensures complete { result ≡ false → (m : Meaning) (places : List ℕ)
+        → DecodesTo (bytes_of memory.now) list slot m places
         → ⊥ }
 {
     let header = header_bytes(memory, header_place(list, slot));
@@ -504,9 +501,10 @@ pub fn decode_into(memory: &[u8], list: u32, slot: u8, command: &mut TakenComman
 /// The command that the bytes of a slot say, if it is one that the model takes.
 pub fn read_command(memory: &[u8], list: u32, slot: u8) -> Option<TakenCommand>
     requires { slot < 32 }
-    ensures found { IfSome result (λ t. IsUntouched t × DecodesTo (bytes_of memory.now) list slot (taken_of t).meaning
+    ensures found { IfSome result (λ t. IsNewlyTaken t × DecodesTo (bytes_of memory.now) list slot (taken_of t).meaning
         (taken_of t).places) }
-    ensures only { result ≡ None → (m : Meaning) (places : List ℕ) → DecodesTo (bytes_of memory.now) list slot m places
+    ensures complete { result ≡ None → (m : Meaning) (places : List ℕ)
+        → DecodesTo (bytes_of memory.now) list slot m places
         → ⊥ }
 {
     let mut command = TakenCommand::room();
@@ -520,9 +518,10 @@ pub fn read_command(memory: &[u8], list: u32, slot: u8) -> Option<TakenCommand>
 /// Whether the bytes of a slot say a command.
 pub fn decodes_command(memory: &[u8], list: u32, slot: u8) -> bool
     requires { slot < 32 }
-    ensures said { result ≡ true → (m : Meaning) × (places : List ℕ)
+    ensures bytes_mean_command { result ≡ true → (m : Meaning) × (places : List ℕ)
         × DecodesTo (bytes_of memory.now) list slot m places }
-    ensures none { result ≡ false → (m : Meaning) (places : List ℕ) → DecodesTo (bytes_of memory.now) list slot m places
+    ensures bytes_mean_none { result ≡ false → (m : Meaning) (places : List ℕ)
+        → DecodesTo (bytes_of memory.now) list slot m places
         → ⊥ }
 {
     let mut command = TakenCommand::room();

@@ -1,6 +1,6 @@
 // Whether a fault has halted a port, and what goes on then (AHCI 1.3.1, 6.2.2; ACS-3, 4.15).
 ghost use Rattle.std.specs.Prelude.{◌≡◌};
-ghost use Rattle.adapter.specs.Steps.{admits, halted, halt_after_start};
+ghost use Rattle.adapter.specs.Steps.{admits, halt_after_fault, halt_after_start};
 ghost use Rattle.device_model.specs.PortView.{halt_of, operation_of_kind};
 
 use crate::port::CommandKind;
@@ -10,11 +10,11 @@ use crate::port::CommandKind;
 #[derive(Clone, Copy, Debug)]
 pub enum Halting {
     /// No command failed: all go on.
-    Running,
+    NotHalted,
     /// A plain command failed: none goes on.
-    Plain,
+    HaltedPlain,
     /// A queued one failed: none goes on.
-    Queued,
+    HaltedQueued,
     /// A queued one failed, and ST was set again: READ LOG EXT alone goes on.
     LogOnly,
 }
@@ -25,20 +25,20 @@ impl Halting {
         ensures { result ≡ admits (halt_of self) (operation_of_kind command_kind) }
     {
         match self {
-            Halting::Running => true,
+            Halting::NotHalted => true,
             Halting::LogOnly => matches!(command_kind, CommandKind::ReadLog),
-            Halting::Plain | Halting::Queued => false,
+            Halting::HaltedPlain | Halting::HaltedQueued => false,
         }
     }
 
     /// What it is once a command has failed, a queued one or a plain one.
     pub fn after_fault(self, queued: bool) -> Halting
-        ensures { halt_of result ≡ halted (halt_of self) queued }
+        ensures { halt_of result ≡ halt_after_fault (halt_of self) queued }
     {
         match self {
-            Halting::Queued | Halting::LogOnly => Halting::Queued,
-            Halting::Running | Halting::Plain if queued => Halting::Queued,
-            Halting::Running | Halting::Plain => Halting::Plain,
+            Halting::HaltedQueued | Halting::LogOnly => Halting::HaltedQueued,
+            Halting::NotHalted | Halting::HaltedPlain if queued => Halting::HaltedQueued,
+            Halting::NotHalted | Halting::HaltedPlain => Halting::HaltedPlain,
         }
     }
 
@@ -47,8 +47,8 @@ impl Halting {
         ensures { halt_of result ≡ halt_after_start (halt_of self) }
     {
         match self {
-            Halting::Queued | Halting::LogOnly => Halting::LogOnly,
-            Halting::Running | Halting::Plain => Halting::Running,
+            Halting::HaltedQueued | Halting::LogOnly => Halting::LogOnly,
+            Halting::NotHalted | Halting::HaltedPlain => Halting::NotHalted,
         }
     }
 }

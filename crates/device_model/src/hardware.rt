@@ -1,18 +1,11 @@
 // The model without its disks.
 ghost use Rattle.std.specs.Prelude.{Bool, List, ◌≡◌, ◌≢◌, ◌+◌, ◌<◌, ◌≤◌, ◌++◌, ℕ, true, false, if◌then◌else◌, All, length, take, drop, slice_index_or};
-ghost use Rattle.adapter.specs.Access.{Shows, is_pending, noted, written, port_after_hba_is_write};
-ghost use Rattle.adapter.specs.Memory.{patched, bytes_at};
-ghost use Rattle.adapter.specs.Device.{Device};
-ghost use Rattle.adapter.specs.Steps.{device_after, port_after_reset};
-ghost use Rattle.adapter.specs.Steps.DeviceTransition.{ResetEnds};
+ghost use Rattle.adapter.specs.{Access.{Shows, is_pending, device_after_reading, device_after_write, port_after_hba_is_write}, Memory.{patched, bytes_at}, Device.{Device}, Steps.{device_after, port_after_reset}, Steps.DeviceTransition.{ResetEnds}};
 ghost use Rattle.hba_regs.specs.Bits.{bit};
-ghost use Rattle.device_model.specs.HeldPorts.{IsPortReleased, all_held};
-ghost use Rattle.device_model.specs.ModelOwnSteps.{EndsReset, IsSettled, IsSettledPort, LeadsOwn, Settles, SparesAdapter};
-ghost use Rattle.device_model.specs.PortView.{Media, port_of, blank_port};
-ghost use Rattle.device_model.specs.WholeAdapter.{AllMedia, device_of, HasRegister};
+ghost use Rattle.device_model.specs.{HeldPorts.{IsPortReleased, all_held}, ModelOwnSteps.{EndsResetUnlessHeld, IsSettled, IsSettledPort, LeadsBySteps, Settles, SparesAdapter}, PortView.{Media, port_of, blank_port}, WholeAdapter.{AllMedia, device_of, HasRegister}};
 
 use crate::bits::bit_if;
-use crate::command_room::CommandRoom;
+use crate::command_room::CommandBuffer;
 use crate::port::PortModel;
 use adapter::Entry;
 use ata_types::PORTS;
@@ -32,7 +25,7 @@ pub struct Hardware {
     /// Whether a step was left out since there was no memory to note it, or to keep what sectors held that it changes.
     pub starved: bool,
     /// Where a command is read before it is taken.
-    pub room: CommandRoom,
+    pub command_buffer: CommandBuffer,
 }
 
 /// VS: version 1.3.1.
@@ -118,20 +111,21 @@ impl Hardware {
     }
 
     /// Notes what a register showed.
-    pub fn note(&mut self, r: Reg, value: u32)
+    pub fn note_reading(&mut self, r: Reg, value: u32)
         requires { HasRegister r }
-        ensures notes { (o : AllMedia) → device_of self.new o ≡ noted r value (device_of self.old o) }
+        ensures notes { (o : AllMedia) → device_of self.new o ≡ device_after_reading r value (device_of self.old o) }
         ensures tape { self.new.tape ≡ self.old.tape }
         ensures starved { self.new.starved ≡ self.old.starved }
     {
         if let Reg::Px(port, r) = r {
-            self.ports[usize::from(port.0)].note(r, value);
+            self.ports[usize::from(port.0)].note_reading(r, value);
         }
     }
 
     /// GHC is written.
     fn set_global(&mut self, value: u32)
-        ensures written { (o : AllMedia) → device_of self.new o ≡ written Reg.Ghc value (device_of self.old o) }
+        ensures written { (o : AllMedia)
+            → device_of self.new o ≡ device_after_write Reg.Ghc value (device_of self.old o) }
         ensures starved { self.new.starved ≡ self.old.starved }
     {
         self.hr = self.hr || is_set(value, 0);
@@ -142,7 +136,8 @@ impl Hardware {
     /// Writes a register.
     pub fn write(&mut self, r: Reg, value: u32)
         requires { HasRegister r }
-        ensures written { (o : AllMedia) → device_of self.new o ≡ written r value (device_of self.old o) }
+        ensures written { (o : AllMedia)
+            → device_of self.new o ≡ device_after_write r value (device_of self.old o) }
         ensures starved { self.new.starved ≡ self.old.starved }
     {
         match r {
@@ -192,7 +187,8 @@ impl Hardware {
 
     /// A reset that is pending ends unless all ports are held, and ends all holds.
     fn end_reset_unless_all_held(&mut self, held: &mut [bool; PORTS])
-        ensures resets { (o : AllMedia) → EndsReset held.old held.new (device_of self.old o) (device_of self.new o) }
+        ensures resets { (o : AllMedia) → EndsResetUnlessHeld held.old held.new (device_of self.old o)
+            (device_of self.new o) }
         ensures left { self.new.hr ≡ true → held.new ≡ all_held }
         ensures number { length self.new.ports ≡ length self.old.ports }
         ensures tape { self.new.tape ≡ self.old.tape }
@@ -208,7 +204,7 @@ impl Hardware {
     fn settle_port(&mut self, port: usize)
         requires { port < 4 }
         ensures own { (o : AllMedia) (held : List Bool) → IsPortReleased held port
-            → LeadsOwn (Settles held) (device_of self.old o) (device_of self.new o) }
+            → LeadsBySteps (Settles held) (device_of self.old o) (device_of self.new o) }
         ensures settled { (o : AllMedia) → IsSettledPort ((device_of self.new o).port port) }
         ensures others { (o : AllMedia) (q : ℕ) → q ≢ port → (device_of self.new o).port q ≡ (device_of self.old o).port
             q }
@@ -224,8 +220,9 @@ impl Hardware {
     /// ends all holds; then each port that isn't held does what it does by itself. Afterwards none of this is possible
     /// any more.
     pub fn settle_state(&mut self, held: &mut [bool; PORTS])
-        ensures own { (o : AllMedia) → (reset : Device) × EndsReset held.old held.new (device_of self.old o) reset
-            × LeadsOwn (Settles held.new) reset (device_of self.new o) }
+        ensures own { (o : AllMedia) → (reset : Device)
+            × EndsResetUnlessHeld held.old held.new (device_of self.old o) reset
+            × LeadsBySteps (Settles held.new) reset (device_of self.new o) }
         ensures settled { (o : AllMedia) → IsSettled held.new (device_of self.new o) }
         ensures tape { self.new.tape ≡ self.old.tape }
         ensures starved { self.new.starved ≡ self.old.starved }

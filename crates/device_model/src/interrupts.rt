@@ -1,6 +1,6 @@
 // When a port's interrupt is pending (AHCI 1.3.1, 3.1.3, 3.3.5 and 3.3.6).
 ghost use Rattle.std.specs.Prelude.{ℕ, ◌≡◌, ◌<◌};
-ghost use Rattle.adapter.specs.Access.{enables_others, is_pending, raises, raises_interrupt, shown_interrupt};
+ghost use Rattle.adapter.specs.Access.{enables_unnamed_causes, is_pending, raises_cause, raises_interrupt, shown_interrupt};
 ghost use Rattle.hba_regs.specs.Bits.{bit};
 ghost use Rattle.device_model.specs.PortView.{Media, port_of};
 
@@ -33,8 +33,8 @@ const TFES: u32 = 30;
 const NAMED_CAUSES: u32 = 0x7840_004b;
 
 /// Whether a value of PxIE enables a cause that the model doesn't know.
-pub fn enables_others(enabled: u32) -> bool
-    ensures { result ≡ enables_others enabled }
+pub fn enables_unnamed_causes(enabled: u32) -> bool
+    ensures { result ≡ enables_unnamed_causes enabled }
 {
     enabled & NAMED_CAUSES != enabled
 }
@@ -48,26 +48,26 @@ impl PortModel {
     }
 
     /// Whether PxIS shows this cause, and PxIE enables it.
-    fn raises(&self, place: u32) -> bool
+    fn raises_cause(&self, place: u32) -> bool
         requires { place < 32 }
-        ensures { (m : Media) → result ≡ raises (port_of self.now m) place }
+        ensures { (m : Media) → result ≡ raises_cause (port_of self.now m) place }
     {
-        is_set(self.causes() & self.enabled, place)
+        is_set(self.causes() & self.ie, place)
     }
 
     /// Whether it raises one of them.
     fn raises_interrupt(&self) -> bool
         ensures { (m : Media) → result ≡ raises_interrupt (port_of self.now m) }
     {
-        self.raises(DHRS)
-            | self.raises(PSS)
-            | self.raises(SDBS)
-            | self.raises(PCS)
-            | self.raises(PRCS)
-            | self.raises(IFS)
-            | self.raises(HBDS)
-            | self.raises(HBFS)
-            | self.raises(TFES)
+        self.raises_cause(DHRS)
+            | self.raises_cause(PSS)
+            | self.raises_cause(SDBS)
+            | self.raises_cause(PCS)
+            | self.raises_cause(PRCS)
+            | self.raises_cause(IFS)
+            | self.raises_cause(HBDS)
+            | self.raises_cause(HBFS)
+            | self.raises_cause(TFES)
     }
 
     /// The port's bit of IS.
@@ -79,7 +79,7 @@ impl PortModel {
     /// Causes may go: the port's bit of IS stays (AHCI 1.3.1, 3.1.3).
     pub fn latch(&mut self)
         ensures { (m : Media) → port_of self.new m ≡ record (port_of self.old m)
-            { ips = is_pending (port_of self.old m) } }
+            { ips_latched = is_pending (port_of self.old m) } }
     {
         self.ips = self.is_pending();
     }

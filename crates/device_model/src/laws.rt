@@ -1,24 +1,9 @@
 // Laws of the definitions, for callers: the clause is the theorem. These functions do nothing.
 ghost use Rattle.std.specs.Prelude.{◌≡◌, ◌≢◌, ◌+◌, ◌<◌, ◌≤◌, ◌⊎◌, true, false, is_some, ℕ, Bool, List, Some, All};
-ghost use Rattle.ata_types.specs.declared.Port.{Port};
-ghost use Rattle.ata_types.specs.declared.Slot.{Slot};
-ghost use Rattle.adapter.specs.Commands.{Meaning, is_queued};
-ghost use Rattle.adapter.specs.Device.{Device, FetchedCommand};
-ghost use Rattle.adapter.specs.Idle.{TellsDisks};
-ghost use Rattle.adapter.specs.Steps.{Can, IsFinished, WorksOn, next_place};
-ghost use Rattle.adapter.specs.Steps.DeviceTransition.{Clear, Fetch, Move};
-ghost use Rattle.adapter.specs.declared.access.DeviceStep.{DeviceStep};
+ghost use Rattle.ata_types.specs.{declared.Port.{Port}, declared.Slot.{Slot}};
+ghost use Rattle.adapter.specs.{Commands.{Meaning, is_queued}, Device.{Device, FetchedCommand}, Idle.{TellsDisks}, Steps.{Can, IsFinished, WorksOn, next_place}, Steps.DeviceTransition.{Clear, Fetch, Move}, declared.access.DeviceStep.{DeviceStep}};
+ghost use Rattle.device_model.specs.{WriteCaches.{sector_told}, Disks.{bay_of, numbered_disk, lasting_of, disk_index_of}, StepEffects.{DidStep, IsPossible, PutsIn}, Finishing.{HasDisksOrIsRanged}, HeldPorts.{IsPortHeld}, ModelState.{device_at}, Queue.{AnswersEachStep}, ModelOwnSteps.{DoesSpontaneousSteps}, declared.bay.Bay.{Bay}, declared.disks.DiskIndex.{DiskIndex}};
 ghost use Rattle.adapter.specs.declared.access.DeviceStep.TheVariants as asked;
-ghost use Rattle.device_model.specs.WriteCaches.{sector_told};
-ghost use Rattle.device_model.specs.Disks.{bay_of, numbered_disk, lasting_of, disk_index_of};
-ghost use Rattle.device_model.specs.StepEffects.{DidStep, IsPossible, PutsIn};
-ghost use Rattle.device_model.specs.Finishing.{HasDisk};
-ghost use Rattle.device_model.specs.HeldPorts.{IsPortHeld};
-ghost use Rattle.device_model.specs.ModelState.{device_at};
-ghost use Rattle.device_model.specs.Queue.{DoesEach};
-ghost use Rattle.device_model.specs.ModelOwnSteps.{DoesOwn};
-ghost use Rattle.device_model.specs.declared.bay.Bay.{Bay};
-ghost use Rattle.device_model.specs.declared.disks.DiskIndex.{DiskIndex};
 
 use crate::Model;
 use sector_store::SectorStore;
@@ -35,8 +20,8 @@ pub fn law_disks_tell_sectors<S: SectorStore>()
 /// memory.
 pub fn law_moves_are_possible<S: SectorStore>()
     ensures { (m : Model S) (p : Port) (slot : Slot) (t : FetchedCommand) (bytes : List ℕ) → slot.0 < 32
-        → HasDisk (device_at S.size S.told m) p.0 t.meaning.operation →
-        next_place t + 512 ≤ (device_at S.size S.told m).size
+        → HasDisksOrIsRanged (device_at S.size S.told m) p.0 t.meaning.operation →
+        next_place t + 512 ≤ (device_at S.size S.told m).memory_size
         → Can (Move p.0 slot.0 t bytes) (device_at S.size S.told m)
         → IsPossible (asked.Move p slot) (device_at S.size S.told m) }
 {}
@@ -54,20 +39,21 @@ pub fn law_clears_are_possible<S: SectorStore>()
 pub fn law_disks_that_are_out_stay<S: SectorStore>()
     ensures other { (steps : List DeviceStep) (old new : Model S) (port : ℕ) (which : DiskIndex)
         → disk_index_of old port ≢ Some which → All (λ s. PutsIn (disk_index_of old port) port which s → ⊥) steps →
-        DoesEach S.size S.told S.failures steps old new → (disk_index_of new port ≢ Some which)
+        AnswersEachStep S.size S.told S.failures steps old new → (disk_index_of new port ≢ Some which)
         × (numbered_disk new port which ≡ numbered_disk old port which) }
     ensures last_in { (steps : List DeviceStep) (old new : Model S) (port : ℕ) (which : DiskIndex)
         → disk_index_of old port ≡ Some which →
         ((device_at S.size S.told old).port port).present ≡ false
         → All (λ s. PutsIn (disk_index_of old port) port which s → ⊥) steps
-        → DoesEach S.size S.told S.failures steps old new →
+        → AnswersEachStep S.size S.told S.failures steps old new →
         (disk_index_of new port ≡ Some which → ((device_at S.size S.told new).port port).present ≡ false)
         × (numbered_disk new port which ≡ numbered_disk old port which) }
 {}
 
 /// What a model does by itself leaves a held port as it is.
 pub fn law_held_ports_stay()
-    ensures { (held : List Bool) (old new : Device) (port : ℕ) → IsPortHeld held port → DoesOwn held old new
+    ensures { (held : List Bool) (old new : Device) (port : ℕ) → IsPortHeld held port
+        → DoesSpontaneousSteps held old new
         → new.port port ≡ old.port port }
 {}
 
@@ -107,7 +93,8 @@ pub fn law_lost_caches_leave_what_is_lasting<S: SectorStore>()
         (sector_told (S.told b.disk.store) sector ≡ sector_told (lasting_of S.told a) sector)
         ⊎ ((sector_told (S.told b.disk.store) sector ≡ sector_told (S.told a.disk.store) sector)
         × (S.failures b.disk.store ≢ S.failures a.disk.store)) }
-    ensures whole { (old new : Model S) (p : Port) (a b : Bay S) → bay_of old p.0 ≡ Some a → bay_of new p.0 ≡ Some b
+    ensures all_is_lasting { (old new : Model S) (p : Port) (a b : Bay S) → bay_of old p.0 ≡ Some a
+        → bay_of new p.0 ≡ Some b
         → a.cache.is_on ≡ true → DidStep S.size S.told S.failures (asked.LosePlug p) old new
         → S.failures b.disk.store ≡ S.failures a.disk.store → (sector : ℕ) → sector < S.size a.disk.store →
         sector_told (S.told b.disk.store) sector ≡ sector_told (lasting_of S.told a) sector }

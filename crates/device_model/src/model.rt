@@ -1,35 +1,14 @@
 // The model as an adapter.
-ghost use Rattle.std.specs.Prelude.{◌≡◌, ◌≢◌, ◌↔◌, ◌<◌, ◌≤◌, ◌+◌, ◌-◌, ◌*◌, ◌^◌, ◌⊎◌, ◌++◌, ◌∷◌, [], ℕ, Bool, List, true, false, is_some, None, Some, ◌&&◌, min, max, map, length, slice_index, slice_index_or, slice_set, IsTrue, IfSome, IfOk, OnOk, OnErr};
-ghost use Rattle.std.specs.Vec.{vec_len, vec_capacity};
-ghost use Rattle.adapter.specs.Commands.{is_ranged, reads_memory};
-ghost use Rattle.adapter.specs.Device.{Disk, IsSector, FetchedCommand};
-ghost use Rattle.adapter.specs.Access.{Reads, Writes, Loads, Stores, Shows, written};
-ghost use Rattle.adapter.specs.Memory.{bytes_at, patched};
-ghost use Rattle.adapter.specs.Rules.{MayRead, MayWrite, IsUnowned, IsStable};
-ghost use Rattle.adapter.specs.Steps.{Steps, disk_after, disk_cleared, next_place};
-ghost use Rattle.adapter.specs.ToldSteps.{DoesOrFailsStep};
-ghost use Rattle.sector_store.specs.Stores.{FailsOn};
-ghost use Rattle.device_model.specs.FetchedBytes.{bytes_of};
-ghost use Rattle.adapter.specs.OneCommand.{IsFreeSlot};
-ghost use Rattle.device_model.specs.Disks.{OnlyEndsCommand, HasRoomForOldAt, OnlyChangesPageSource, numbered_disk, disks_given_for, port_0_alone};
-ghost use Rattle.device_model.specs.PortView.{operation_of_kind};
-ghost use Rattle.device_model.specs.Finishing.{FindsPageCommand, HasPageCommand, HasMove, TapeHasRoom, HasTakenCommand, MayTakePage, sends_page};
-ghost use Rattle.device_model.specs.HeldPorts.{IsPortReleased};
-ghost use Rattle.device_model.specs.DiskPages.{with_lie, with_logged_error, without_lies};
-ghost use Rattle.device_model.specs.PageTaking.{TakesPage};
-ghost use Rattle.device_model.specs.StepEffects.{AnswersStep, Completes, OwnStepsKeep, HasCleared, CommandFails, KeepsRoomForNext, is_step_answered, asked_fault};
-ghost use Rattle.device_model.specs.ToldDisks.{disks_told};
-ghost use Rattle.device_model.specs.Queue.{BeginsAccess, DoesRead, DoesThen};
-ghost use Rattle.device_model.specs.ModelState.{IsNewBay, IsNewMedia, IsNewModel, all_given_disks_tell, all_tell, cap_of, device_at, given_disks_tell, media_of, tells};
-ghost use Rattle.device_model.specs.Slots.{IsNextMove};
-ghost use Rattle.device_model.specs.declared.port.TakenCommand.{TakenCommand};
-ghost use Rattle.device_model.specs.ModelOwnSteps.{SendsPages, IsSettled, LeadsOwn, LeavesPageWithoutMemory, NoPageIsLeft};
-ghost use Rattle.device_model.specs.Trims.{next_run_length, written_ahead};
-ghost use Rattle.device_model.specs.WholeAdapter.{HasDisks, HasRegister};
+ghost use Rattle.std.specs.{Prelude.{◌≡◌, ◌≢◌, ◌↔◌, ◌<◌, ◌≤◌, ◌+◌, ◌-◌, ◌*◌, ◌^◌, ◌⊎◌, ◌++◌, ◌∷◌, [], ℕ, Bool, List, true, false, is_some, None, Some, ◌&&◌, min, max, map, length, slice_index, slice_index_or, slice_set, IsTrue, IfSome, IfOk, OnOk, OnErr}, Vec.{vec_len, vec_capacity}};
+ghost use Rattle.adapter.specs.{Commands.{is_ranged, reads_memory}, Device.{Disk, IsValidSector, FetchedCommand}, Access.{Reads, Writes, Loads, Stores, Shows, device_after_write}, Memory.{bytes_at, patched}, Rules.{MayRead, MayWrite, IsUnowned, IsStable}, Steps.{Steps, disk_after, disk_cleared, next_place}, AskedSteps.{DoesOrFailsStep}, OneCommand.{IsFreeSlot}};
+ghost use Rattle.sector_store.specs.Stores.{HasOneMoreFailure};
+ghost use Rattle.device_model.specs.{FetchedBytes.{bytes_of}, Disks.{OnlyEndsCommand, ModelHasRoomForOldSectors, OnlyChangesPageSource, numbered_disk, disks_given_for, port_0_alone}, PortView.{operation_of_kind}, Finishing.{FindsPageCommand, HasPageCommand, HasMove, TapeHasRoom, HasTakenCommand, MayTakePage, sends_page}, HeldPorts.{IsPortReleased}, DiskPages.{with_lie, with_logged_error, without_lies}, PageTaking.{TakesPage}};
+ghost use Rattle.device_model.specs.{StepEffects.{AnswersStep, Completes, OwnStepsKeep, HasCleared, IsPossible, CommandFails, KeepsRoomForNext, is_step_answered, asked_fault}, ToldDisks.{disks_told}, Queue.{BeginsAccess, DoesRead, AppliesEffect}, ModelState.{IsNewBay, IsNewMedia, IsNewModel, all_given_disks_tell, all_tell, cap_of, device_at, given_disks_tell, media_of, tells}, Slots.{IsNextMove}};
+ghost use Rattle.device_model.specs.{declared.port.TakenCommand.{TakenCommand}, ModelOwnSteps.{SendsPages, IsSettled, LeadsBySteps, LeavesPageWithoutMemory, NoPageIsLeft}, Trims.{next_run_length, written_ahead}, WholeAdapter.{HasDisks, HasRegister}};
 
 use crate::bay::{Bay, PAGE_BYTES, add_lie_of, end_lies, log_failed, note_end_of};
 use crate::clearing::SectorExtent;
-use crate::command_room::CommandRoom;
+use crate::command_room::CommandBuffer;
 use crate::config::{ModelConfig, NoMemory};
 use crate::disks::{DiskIndex, Disks, PortDisks};
 use crate::hardware::Hardware;
@@ -48,7 +27,7 @@ use std::alloc::Global;
 #[derive(Clone, Copy, Debug)]
 enum StepOutcome {
     /// It is left, and nothing is another.
-    Left,
+    Skipped,
     /// Its command failed on a sector.
     Failed,
     /// It is done.
@@ -61,7 +40,7 @@ impl StepOutcome {
         ensures { result ≡ is_step_answered self }
     {
         match self {
-            StepOutcome::Left => false,
+            StepOutcome::Skipped => false,
             StepOutcome::Failed | StepOutcome::Done => true,
         }
     }
@@ -199,7 +178,7 @@ impl<S: SectorStore> Model<S> {
             ie: false,
             tape: Vec::new(alloc),
             starved: false,
-            room: CommandRoom::new(alloc)?,
+            command_buffer: CommandBuffer::new(alloc)?,
         };
         Ok(Model {
             hardware,
@@ -220,7 +199,7 @@ impl<S: SectorStore> Model<S> {
     /// What the memory holds, from address 0 on.
     pub fn memory(&self) -> &[u8]
         ensures bytes { (at : ℕ) → slice_index result.now at ≡ (device_at S.size S.told self.now).memory at }
-        ensures whole { length result.now ≡ (device_at S.size S.told self.now).size }
+        ensures length_is_size { length result.now ≡ (device_at S.size S.told self.now).memory_size }
     {
         self.hardware.memory.as_slice()
     }
@@ -247,12 +226,12 @@ impl<S: SectorStore> Model<S> {
     /// Has the device do a step before the n-th access from now, if it is possible then. The next access is the first;
     /// 0 is read as 1. Steps before one access are done in the order in which they were queued.
     pub fn queue_step(&mut self, n: u64, step: DeviceStep) -> Result<(), NoMemory>
-        ensures same { self.new ≡ record self.old { queue = self.new.queue } }
+        ensures rest_is_kept { self.new ≡ record self.old { queue = self.new.queue } }
         ensures queued { OnOk result (self.new.queue.items ≡ self.old.queue.items
-            ++ record { access = min (self.old.accesses.shown + max n 1) (2 ^ 64 - 1); step = step } ∷ []) }
-        ensures kept { OnErr result (self.new.queue.items ≡ self.old.queue.items) }
+            ++ record { access = min (self.old.accesses.saturating_count + max n 1) (2 ^ 64 - 1); step = step } ∷ []) }
+        ensures queue_is_kept { OnErr result (self.new.queue.items ≡ self.old.queue.items) }
     {
-        let access = self.accesses.shown.saturating_add(n.max(1));
+        let access = self.accesses.saturating_count.saturating_add(n.max(1));
         self.queue
             .push(QueuedStep { access, step })
             .map_err(|_full| NoMemory)
@@ -334,6 +313,20 @@ impl<S: SectorStore> Model<S> {
         port.0 < 4 && self.hardware.unplug(port.0)
     }
 
+    /// Whether a disk may be put into a port: it has disks, and none is in. (A step `LosePlug` asks for nothing else.)
+    fn may_plug(&self, port: Port) -> bool
+        ensures yes { result ≡ true → (port.0 < length self.now.bays.items)
+            × IsPossible (DeviceStep.LosePlug port) (device_at S.size S.told self.now) }
+        ensures no { result ≡ false
+            → IsPossible (DeviceStep.LosePlug port) (device_at S.size S.told self.now) → ⊥ }
+    {
+        let place = usize::from(port.0);
+        if place >= PORTS || !has_disks(self.bays.as_slice(), place) {
+            return false;
+        }
+        !self.hardware.ports[place].present
+    }
+
     /// Puts one of a port's disks into it, as it was when it was taken out.
     fn plug(&mut self, port: Port, disk: DiskNumber) -> bool
         ensures { AnswersStep S.size S.told S.failures (DeviceStep.Plug port disk) result self.old self.new }
@@ -342,10 +335,7 @@ impl<S: SectorStore> Model<S> {
         let Some(which) = DiskIndex::of(disk) else {
             return false;
         };
-        if place >= PORTS || !has_disks(self.bays.as_slice(), place) {
-            return false;
-        }
-        if self.hardware.ports[place].present {
+        if !self.may_plug(port) {
             return false;
         }
         let Some(bay) = &mut self.bays[place] else {
@@ -387,33 +377,33 @@ impl<S: SectorStore> Model<S> {
             self.new }
         ensures page { (t : FetchedCommand) → ((device_at S.size S.told self.old).port port.0).taken slot.0 ≡ Some t
             → sends_page t.meaning.operation ≡ true →
-            result ≡ StepOutcome.Left → HasMove (device_at S.size S.told self.old) port.0 slot.0 t
+            result ≡ StepOutcome.Skipped → HasMove (device_at S.size S.told self.old) port.0 slot.0 t
             → next_place t < 2 ^ 32
             → TapeHasRoom self.old.hardware 1 → ⊥ }
     {
         let place = usize::from(port.0);
         if place >= PORTS || place >= self.bays.len() {
-            return StepOutcome::Left;
+            return StepOutcome::Skipped;
         }
         let Some(bay) = &mut self.bays[place] else {
-            return StepOutcome::Left;
+            return StepOutcome::Skipped;
         };
         let Some(next) = self.hardware.next_move(port.0, slot.0, *known) else {
-            return StepOutcome::Left;
+            return StepOutcome::Skipped;
         };
         // A sector that was written can't be taken back, so the memory of its entry is found first.
         let room = self.hardware.reserve(1);
         if !room {
             self.hardware.starved = true;
-            return StepOutcome::Left;
+            return StepOutcome::Skipped;
         }
         if !next.is_within_disk(bay.sectors()) {
             let _failed = self.fail(port, slot, PAST_THE_DISK, false);
             return StepOutcome::Failed;
         }
-        if !bay.reserve(next.command_kind.written(1)) {
+        if !bay.reserve(next.command_kind.sectors_to_write(1)) {
             self.hardware.starved = true;
-            return StepOutcome::Left;
+            return StepOutcome::Skipped;
         }
         if !bay.transfer_piece(&mut self.hardware, next, ahead) {
             let _failed = self.fail(port, slot, STORE_FAILED, false);
@@ -450,28 +440,29 @@ impl<S: SectorStore> Model<S> {
             → TapeHasRoom self.new.hardware n }
         ensures old_room { result ≡ StepOutcome.Done → (t : FetchedCommand)
             → ((device_at S.size S.told self.old).port port.0).taken slot.0 ≡ Some t → (n : ℕ)
-            → HasRoomForOldAt self.old port.0 (next_run_length most t + n) → HasRoomForOldAt self.new port.0 n }
+            → ModelHasRoomForOldSectors self.old port.0 (next_run_length most t + n)
+            → ModelHasRoomForOldSectors self.new port.0 n }
     {
         let place = usize::from(port.0);
         if place >= PORTS || !has_disks(self.bays.as_slice(), place) {
-            return StepOutcome::Left;
+            return StepOutcome::Skipped;
         }
         // A sector that was cleared can't be taken back, so the memory of the entries is found first.
         let room = self.hardware.reserve(2);
         let Some(run) = self.hardware.run_to_clear(port.0, slot.0, most) else {
-            return StepOutcome::Left;
+            return StepOutcome::Skipped;
         };
         if !room {
             self.hardware.starved = true;
-            return StepOutcome::Left;
+            return StepOutcome::Skipped;
         }
         let Some(bay) = &mut self.bays[place] else {
-            return StepOutcome::Left;
+            return StepOutcome::Skipped;
         };
         let on_disk = run.cut(bay.sectors());
         if !bay.reserve(on_disk.count) {
             self.hardware.starved = true;
-            return StepOutcome::Left;
+            return StepOutcome::Skipped;
         }
         let count = bay.clear(on_disk);
         let first = run.first;
@@ -500,7 +491,7 @@ impl<S: SectorStore> Model<S> {
             → (has : HasPageCommand (device_at S.size S.told self.old) port.0 slot.0) →
             (result ≡ true → IsFreeSlot ((device_at S.size S.told self.new).port port.0) slot.0)
             × (result ≡ false → (self.new.hardware.starved ≡ true)
-            × (TapeHasRoom self.new.hardware (has.left + 1) → ⊥)) }
+            × (TapeHasRoom self.new.hardware (has.moves_left + 1) → ⊥)) }
     {
         if port.0 >= 4 || !has_disks(self.bays.as_slice(), usize::from(port.0)) {
             return false;
@@ -508,23 +499,28 @@ impl<S: SectorStore> Model<S> {
         let Some(bay) = &mut self.bays[usize::from(port.0)] else {
             return false;
         };
-        let Some(BegunCommand { rest, was_taken }) = bay.begin(&mut self.hardware, port.0, slot.0)
+        let Some(
+            BegunCommand {
+                remaining,
+                is_newly_taken,
+            },
+        ) = bay.begin(&mut self.hardware, port.0, slot.0)
         else {
             return false;
         };
-        let mut did = was_taken;
+        let mut did = is_newly_taken;
         let mut known = None;
-        for piece in 0..rest.left {
-            match self.move_piece(port, slot, &mut known, rest.left - piece - 1) {
-                StepOutcome::Left => return did,
+        for piece in 0..remaining.moves {
+            match self.move_piece(port, slot, &mut known, remaining.moves - piece - 1) {
+                StepOutcome::Skipped => return did,
                 StepOutcome::Failed => return true,
                 StepOutcome::Done => did = true,
             }
         }
-        for _run in 0..rest.clears {
+        for _run in 0..remaining.clears {
             let most = self.hardware.count_uncleared(port.0, slot.0);
             match self.clear_run(port, slot, most) {
-                StepOutcome::Left => return did,
+                StepOutcome::Skipped => return did,
                 StepOutcome::Failed => return true,
                 StepOutcome::Done => did = true,
             }
@@ -552,7 +548,7 @@ impl<S: SectorStore> Model<S> {
         ensures small { IfSome result (λ found. found.slot < 32) }
         ensures found { IfSome result (λ found. FindsPageCommand (device_at S.size S.told self.now) found.port
             found.slot
-            (Some found.ends)) }
+            (Some found.can_end)) }
         ensures none { result ≡ None → (port slot : ℕ) → port < 4 → IsPortReleased left_out.now port
             → HasDisks (device_at S.size S.told self.now) port → slot < 32 →
             FindsPageCommand (device_at S.size S.told self.now) port slot None }
@@ -574,7 +570,7 @@ impl<S: SectorStore> Model<S> {
     /// for which the tape has no memory, is taken, and no more; the others of its port wait for it. Once the tape had
     /// no memory, none is done to its end. Beside another command none is taken.
     fn send_pages(&mut self)
-        ensures own { LeadsOwn (SendsPages self.old.held) (device_at S.size S.told self.old)
+        ensures own { LeadsBySteps (SendsPages self.old.held) (device_at S.size S.told self.old)
             (device_at S.size S.told self.new) }
         ensures settled { (held : List Bool) → IsSettled held (device_at S.size S.told self.old)
             → IsSettled held (device_at S.size S.told self.new) }
@@ -588,7 +584,7 @@ impl<S: SectorStore> Model<S> {
         let mut left_out = self.held;
         let mut lacks = false;
         while let Some(found) = self.next_page(&left_out) {
-            if !found.ends || lacks {
+            if !found.can_end || lacks {
                 self.take_page(found.port, found.slot);
                 left_out[usize::from(found.port)] = true;
             } else if !self.finish(Port(found.port), Slot(found.slot)) {
@@ -641,10 +637,7 @@ impl<S: SectorStore> Model<S> {
         ensures { AnswersStep S.size S.told S.failures (DeviceStep.LosePlug port) result self.old self.new }
     {
         let place = usize::from(port.0);
-        if place >= PORTS || !has_disks(self.bays.as_slice(), place) {
-            return false;
-        }
-        if self.hardware.ports[place].present {
+        if !self.may_plug(port) {
             return false;
         }
         let Some(bay) = &mut self.bays[place] else {
@@ -694,7 +687,7 @@ impl<S: SectorStore> Model<S> {
         let mut place = 0;
         for _queued in 0..self.queue.len() {
             let queued = self.queue[place];
-            if queued.access > self.accesses.shown {
+            if queued.access > self.accesses.saturating_count {
                 place += 1;
             } else {
                 self.queue.remove(place);
@@ -727,14 +720,15 @@ impl<S: SectorStore> Adapter for Model<S> {
         ensures reads { Reads r result (device_at S.size S.told self.old) (device_at S.size S.told self.new) }
         ensures counted { self.new.accesses.count.made ≡ self.old.accesses.count.made + 1 }
         ensures settled { IsSettled self.new.held (device_at S.size S.told self.new) }
-        ensures left { NoPageIsLeft self.new.held self.new.hardware.starved (device_at S.size S.told self.new) }
-        ensures alone { DoesRead S.size S.told S.failures r result self.old self.new }
+        ensures no_page_is_left { NoPageIsLeft self.new.held self.new.hardware.starved
+            (device_at S.size S.told self.new) }
+        ensures does_read { DoesRead S.size S.told S.failures r result self.old self.new }
     {
         self.do_queued_steps();
         self.hardware.settle_state(&mut self.held);
         self.send_pages();
         let value = self.hardware.shown(r);
-        self.hardware.note(r, value);
+        self.hardware.note_reading(r, value);
         value
     }
 
@@ -742,7 +736,7 @@ impl<S: SectorStore> Adapter for Model<S> {
         requires { IsStable (MayWrite r v) (device_at S.size S.told self.old) }
         ensures writes { Writes r v (device_at S.size S.told self.old) (device_at S.size S.told self.new) }
         ensures counted { self.new.accesses.count.made ≡ self.old.accesses.count.made + 1 }
-        ensures alone { DoesThen S.size S.told S.failures (written r v) self.old self.new }
+        ensures applies_effect { AppliesEffect S.size S.told S.failures (device_after_write r v) self.old self.new }
     {
         self.do_queued_steps();
         self.hardware.write(r, v);
@@ -752,7 +746,7 @@ impl<S: SectorStore> Adapter for Model<S> {
         requires { IsStable (IsUnowned addr (length out.old)) (device_at S.size S.told self.old) }
         ensures loads { Loads addr out.new (device_at S.size S.told self.old) (device_at S.size S.told self.new) }
         ensures counted { self.new.accesses.count.made ≡ self.old.accesses.count.made + 1 }
-        ensures alone { BeginsAccess S.size S.told S.failures self.old self.new }
+        ensures begins_access { BeginsAccess S.size S.told S.failures self.old self.new }
     {
         self.do_queued_steps();
         self.hardware.load(addr as usize, out);
@@ -762,7 +756,8 @@ impl<S: SectorStore> Adapter for Model<S> {
         requires { IsStable (IsUnowned addr (length bytes.now)) (device_at S.size S.told self.old) }
         ensures stores { Stores addr bytes.now (device_at S.size S.told self.old) (device_at S.size S.told self.new) }
         ensures counted { self.new.accesses.count.made ≡ self.old.accesses.count.made + 1 }
-        ensures alone { DoesThen S.size S.told S.failures (λ d. record d { memory = patched d.memory addr bytes.now })
+        ensures applies_effect { AppliesEffect S.size S.told S.failures
+            (λ d. record d { memory = patched d.memory addr bytes.now })
             self.old self.new }
     {
         self.do_queued_steps();

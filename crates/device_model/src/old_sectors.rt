@@ -1,6 +1,5 @@
 // What the sectors of a disk with a volatile write cache held before they were changed.
-ghost use Rattle.std.specs.Prelude.{◌≡◌, ◌≤◌, ◌<◌, ◌+◌, ℕ, None, IfSome, IfOk, IfErr, [], true, false, is_some};
-ghost use Rattle.std.specs.Vec.{vec_len, vec_capacity};
+ghost use Rattle.std.specs.{Prelude.{◌≡◌, ◌≤◌, ◌<◌, ◌+◌, ℕ, None, IfSome, IfOk, IfErr, [], true, false, is_some}, Vec.{vec_len, vec_capacity}};
 ghost use Rattle.device_model.specs.OldSectors.{AreRising, IsGapFor, IsOldAt, AddsOldSector, old_bytes_of};
 
 use std::alloc::Global;
@@ -33,11 +32,11 @@ impl OldSectors {
     /// Finds memory for so many more; `false` says that there was none.
     pub fn reserve(&mut self, more: usize) -> bool
         ensures items { self.new.sectors.items ≡ self.old.sectors.items }
-        ensures kept { (n : ℕ) → vec_len self.old.sectors + n ≤ vec_capacity self.old.sectors
+        ensures room_is_kept { (n : ℕ) → vec_len self.old.sectors + n ≤ vec_capacity self.old.sectors
             → vec_len self.new.sectors + n ≤ vec_capacity self.new.sectors }
         ensures room { result ≡ true → vec_len self.new.sectors + more ≤ vec_capacity self.new.sectors }
-        ensures lacked { result ≡ false → vec_capacity self.old.sectors < vec_len self.old.sectors + more }
-        ensures lacks { result ≡ false → vec_capacity self.new.sectors < vec_len self.new.sectors + more }
+        ensures had_no_room { result ≡ false → vec_capacity self.old.sectors < vec_len self.old.sectors + more }
+        ensures has_no_room { result ≡ false → vec_capacity self.new.sectors < vec_len self.new.sectors + more }
     {
         self.sectors.reserve(more).is_ok()
     }
@@ -53,7 +52,7 @@ impl OldSectors {
     /// Where a sector would be put; `None` says that it has old bytes already.
     pub fn gap_for(&self, sector: u64) -> Option<usize>
         ensures gap { IfSome result (IsGapFor self.now.sectors.items sector) }
-        ensures has { result ≡ None → is_some (old_bytes_of self.now.sectors.items sector) ≡ true }
+        ensures has_old_bytes { result ≡ None → is_some (old_bytes_of self.now.sectors.items sector) ≡ true }
     {
         match self.place_of(sector) {
             Ok(_) => None,
@@ -68,7 +67,7 @@ impl OldSectors {
         requires gap { IsGapFor self.old.sectors.items sector place }
         requires room { vec_len self.old.sectors < vec_capacity self.old.sectors }
         ensures keeps { AddsOldSector self.old.sectors.items self.new.sectors.items sector bytes.now }
-        ensures left { (n : ℕ) → vec_len self.old.sectors + (n + 1) ≤ vec_capacity self.old.sectors
+        ensures room_is_left { (n : ℕ) → vec_len self.old.sectors + (n + 1) ≤ vec_capacity self.old.sectors
             → vec_len self.new.sectors + n ≤ vec_capacity self.new.sectors }
     {
         let old = OldSector {

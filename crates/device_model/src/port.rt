@@ -1,13 +1,7 @@
 // One port of the model.
 ghost use Rattle.std.specs.Prelude.{◌≡◌, ◌↔◌, [], unwrap_or, IfOk, IsTrue};
-ghost use Rattle.adapter.specs.Commands.{direction_of, is_queued, is_ranged, piece_count, reads_memory};
-ghost use Rattle.adapter.specs.Device.{Disk, Lasting};
-ghost use Rattle.adapter.specs.Idle.{IsIdlePort};
-ghost use Rattle.adapter.specs.Steps.{lasting_after};
-ghost use Rattle.device_model.specs.Finishing.{sends_page};
-ghost use Rattle.device_model.specs.ModelState.{HasResetValues};
-ghost use Rattle.device_model.specs.Trims.{written_ahead};
-ghost use Rattle.device_model.specs.PortView.{Media, cause_of, operation_of_kind, port_of};
+ghost use Rattle.adapter.specs.{Commands.{direction_of, is_queued, is_ranged, piece_count, reads_memory}, Device.{Disk, DurableState}, Idle.{IsIdlePort}, Steps.{lasting_after}};
+ghost use Rattle.device_model.specs.{Finishing.{sends_page}, ModelState.{HasInitialValues}, Trims.{written_ahead}, PortView.{Media, cause_of, operation_of_kind, port_of}};
 
 use crate::halt::Halting;
 use crate::prds::PrdTable;
@@ -104,7 +98,7 @@ impl CommandKind {
     }
 
     /// How many sectors it writes to the disk, of so many pieces that are left to move.
-    pub fn written(self, left: u32) -> u32
+    pub fn sectors_to_write(self, left: u32) -> u32
         ensures { result ≡ written_ahead (operation_of_kind self) left }
     {
         match self {
@@ -166,7 +160,7 @@ impl CommandKind {
     /// How long the tape was when the disk last ended a flush, once this has ended: so long, if it is one, and else as
     /// before.
     pub fn lasting_at(self, was: usize, here: usize) -> usize
-        ensures { (lasting : Lasting) (disk : Disk) → lasting.tape_length ≡ was
+        ensures { (lasting : DurableState) (disk : Disk) → lasting.tape_length ≡ was
             → result ≡ (lasting_after (operation_of_kind self) lasting disk here).tape_length }
     {
         match self {
@@ -239,7 +233,7 @@ pub struct PortModel {
     pub fre: bool,
     pub sctl_det: u8,
     /// PxIE.
-    pub enabled: u32,
+    pub ie: u32,
     pub cr: bool,
     pub fr: bool,
     /// PxTFD, where something was written to it since the last reset of the adapter; else it is 7Fh. (So a port that is
@@ -266,7 +260,7 @@ pub struct PortModel {
     pub broken: bool,
     pub taken: TakenCommands,
     /// How long the tape was when its disk last ended a flush, or else when that disk was first in, for proofs alone.
-    pub lasting_at: usize,
+    pub lasting_tape_length: usize,
     pub readings: Readings,
 }
 
@@ -275,8 +269,8 @@ impl PortModel {
     pub fn new(alloc: Global, present: bool) -> Result<PortModel, AllocError>
         ensures idle { IfOk result (λ p. (m : Media) → IsIdlePort (port_of p m)) }
         ensures present { IfOk result (λ p. p.present ≡ present) }
-        ensures reset { IfOk result (λ p. (m : Media) → HasResetValues (port_of p m)) }
-        ensures lasting { IfOk result (λ p. p.lasting_at ≡ 0) }
+        ensures reset { IfOk result (λ p. (m : Media) → HasInitialValues (port_of p m)) }
+        ensures lasting { IfOk result (λ p. p.lasting_tape_length ≡ 0) }
     {
         let taken = TakenCommands::new(alloc)?;
         Ok(PortModel {
@@ -284,7 +278,7 @@ impl PortModel {
             st: false,
             fre: false,
             sctl_det: 0,
-            enabled: 0,
+            ie: 0,
             cr: false,
             fr: false,
             tfd: None,
@@ -300,10 +294,10 @@ impl PortModel {
             present,
             fresh: false,
             link_due: false,
-            halting: Halting::Running,
+            halting: Halting::NotHalted,
             broken: false,
             taken,
-            lasting_at: 0,
+            lasting_tape_length: 0,
             readings: Readings::default(),
         })
     }

@@ -1,12 +1,10 @@
 // What the registers of a port show, and what a write does.
 ghost use Rattle.std.specs.Prelude.{◌≡◌, ℕ, true, false};
-ghost use Rattle.adapter.specs.ToldSteps.{fatal_bit};
-ghost use Rattle.adapter.specs.Memory.{changed};
-ghost use Rattle.adapter.specs.Access.{PortShows, note, port_after_write, port_after_hba_is_write, count_after_reading as count_after, link_count_after_reading as link_count_after};
+ghost use Rattle.adapter.specs.{AskedSteps.{fatal_bit}, Memory.{changed}, Access.{PortShows, notes_after_reading, port_after_write, port_after_hba_is_write, count_after_reading as count_after, link_count_after_reading as link_count_after}};
 ghost use Rattle.device_model.specs.PortView.{Media, port_of};
 
 use crate::bits::{bit_if, with_bit_as, without_ones};
-use crate::interrupts::enables_others;
+use crate::interrupts::enables_unnamed_causes;
 use crate::port::PortModel;
 use adapter::FatalError;
 use ata_types::MOST_READINGS;
@@ -69,14 +67,14 @@ impl PortModel {
             PortReg::Clb => self.addresses.clb,
             PortReg::Fb => self.addresses.fb,
             PortReg::Clbu | PortReg::Fbu => 0,
-            PortReg::Ie => self.enabled,
+            PortReg::Ie => self.ie,
         }
     }
 
     /// Notes what a register showed.
-    pub fn note(&mut self, r: PortReg, value: u32)
+    pub fn note_reading(&mut self, r: PortReg, value: u32)
         ensures { (m : Media) → port_of self.new m ≡ record (port_of self.old m)
-            { notes = note r value (port_of self.old m) } }
+            { notes = notes_after_reading r value (port_of self.old m) } }
     {
         let no_comreset = self.sctl_det % 16 == 0;
         match r {
@@ -185,8 +183,8 @@ impl PortModel {
             (port_of self.old m) }
     {
         self.latch();
-        self.other_causes |= enables_others(value);
-        self.enabled = value;
+        self.other_causes |= enables_unnamed_causes(value);
+        self.ie = value;
     }
 
     /// A register is written.
@@ -220,7 +218,7 @@ impl PortModel {
         ensures { (m : Media) → port_of self.new m ≡ port_after_hba_is_write (port_of self.old m) }
     {
         self.ips = false;
-        self.other_causes = enables_others(self.enabled);
+        self.other_causes = enables_unnamed_causes(self.ie);
         self.readings.acknowledged = false;
     }
 
@@ -256,7 +254,7 @@ impl PortModel {
           lasting = record { sectors = m.lasting; tape_length = lasting_at };
         } }
     {
-        self.lasting_at = lasting_at;
+        self.lasting_tape_length = lasting_at;
         self.detected = true;
         self.present = true;
         self.fresh = false;

@@ -2,11 +2,8 @@
 // that is taken (AHCI 1.3.1, 4.2.1 and 4.2.2).
 ghost use Rattle.std.specs.Prelude.{◌≡◌, ◌+◌, ◌*◌, ◌<◌, ◌≤◌, ◌^◌, ℕ, false, true, if◌then◌else◌, is_some, length, nat_le, replicate, slice_index_or};
 ghost use Rattle.ata_types.specs.declared.memory.TheConstants.{HEADER_BYTES};
-ghost use Rattle.adapter.specs.ToldSteps.{DoesScribble, memory_filled};
-ghost use Rattle.adapter.specs.Memory.{patched};
-ghost use Rattle.device_model.specs.FetchedBytes.{bytes_of};
-ghost use Rattle.device_model.specs.PortView.{blank_port, taken_in};
-ghost use Rattle.device_model.specs.WholeAdapter.{AllMedia, device_of};
+ghost use Rattle.adapter.specs.{AskedSteps.{DoesScribble, memory_filled}, Memory.{patched}};
+ghost use Rattle.device_model.specs.{FetchedBytes.{bytes_of}, PortView.{blank_port, taken_in}, WholeAdapter.{AllMedia, device_of}};
 
 use crate::hardware::{Hardware, put};
 use adapter::laws::law_scribble_slot_by_slot;

@@ -1,9 +1,7 @@
 // The FISes that the model sends, in the received FIS area of a port (Serial ATA; AHCI 1.3.1, 4.2.1).
 ghost use Rattle.std.specs.Prelude.{◌≡◌, ◌+◌, ◌<◌, ◌≤◌, ◌/◌, ◌%◌, true, false, length};
 ghost use Rattle.ata_types.specs.declared.memory.TheConstants.{RECEIVED_FIS_BYTES};
-ghost use Rattle.device_model.specs.SentFises.{IsSent, SendsEnd, SendsFault, SendsRegisters, end_fis, failed_tags_fis, page_setup, signature_fis, ended_tag_fis};
-ghost use Rattle.device_model.specs.PortView.{Media, cause_of, operation_of_kind, port_of};
-ghost use Rattle.device_model.specs.WholeAdapter.{AllMedia, device_of};
+ghost use Rattle.device_model.specs.{SentFises.{IsSentOrLost, SendsEnd, SendsFault, SendsDeviceToHost, end_fis, failed_tags_fis, page_setup_fis, signature_fis, ended_tag_fis}, PortView.{Media, cause_of, operation_of_kind, port_of}, WholeAdapter.{AllMedia, device_of}};
 
 use crate::hardware::{Hardware, put};
 use crate::port::{CommandKind, PortModel};
@@ -38,8 +36,8 @@ impl PortModel {
     }
 
     /// What a PIO Setup FIS tells of a page of 512 bytes that has come.
-    fn page_setup(&self) -> PioSetup
-        ensures { (m : Media) → result ≡ page_setup (port_of self.now m) }
+    fn page_setup_fis(&self) -> PioSetup
+        ensures { (m : Media) → result ≡ page_setup_fis (port_of self.now m) }
     {
         let (status, error) = self.status_and_error();
         PioSetup {
@@ -116,7 +114,7 @@ impl Hardware {
     fn send(&mut self, port: usize, place: usize, fis: &[u8])
         requires port { port < 4 }
         requires place { place + length fis.now ≤ RECEIVED_FIS_BYTES }
-        ensures sent { (o : AllMedia) → IsSent port place fis.now (device_of self.old o) (device_of self.new o) }
+        ensures sent { (o : AllMedia) → IsSentOrLost port place fis.now (device_of self.old o) (device_of self.new o) }
         ensures rest { self.new ≡ record self.old { memory = self.new.memory } }
     {
         let area = self.ports[port].addresses.fb as usize;
@@ -136,7 +134,7 @@ impl Hardware {
     {
         match command_kind {
             CommandKind::Identify | CommandKind::ReadLog => {
-                let fis = encode_pio_setup(&self.ports[port].page_setup());
+                let fis = encode_pio_setup(&self.ports[port].page_setup_fis());
                 self.send(port, SETUP, &fis);
             }
             CommandKind::ReadQueued | CommandKind::WriteQueued => {
@@ -168,7 +166,7 @@ impl Hardware {
     /// Sends the first FIS of a disk, whose link has come up.
     pub fn send_signature(&mut self, port: usize)
         requires { port < 4 }
-        ensures sent { (o : AllMedia) → SendsRegisters port (signature_fis ((device_of self.old o).port port))
+        ensures sent { (o : AllMedia) → SendsDeviceToHost port (signature_fis ((device_of self.old o).port port))
             (device_of self.old o) (device_of self.new o) }
         ensures rest { self.new ≡ record self.old { memory = self.new.memory } }
     {

@@ -1,8 +1,7 @@
 // What a port does by itself before a register is read, and what the end of a reset makes of it.
 ghost use Rattle.std.specs.Prelude.{◌≡◌, ◌%◌, ◌↔◌, IsTrue, true, false};
 ghost use Rattle.adapter.specs.Steps.{MayLinkUp, port_after_link_up, port_after_reset};
-ghost use Rattle.device_model.specs.ModelOwnSteps.{SettlesPort};
-ghost use Rattle.device_model.specs.PortView.{Media, port_of};
+ghost use Rattle.device_model.specs.{ModelOwnSteps.{SettlesPort}, PortView.{Media, port_of}};
 
 use crate::halt::Halting;
 use crate::port::PortModel;
@@ -53,7 +52,7 @@ impl PortModel {
     {
         self.detected = true;
         self.fresh = true;
-        self.halting = Halting::Running;
+        self.halting = Halting::NotHalted;
         self.broken = false;
         self.tfd = Some(self.task_file() & 0xff77);
         self.sig = Some(0x101);
@@ -94,7 +93,7 @@ impl PortModel {
         ensures { (m : Media) → port_of self.new m ≡ port_after_reset (port_of self.old m) }
     {
         self.link_due = self.link_due || self.sctl_det % 16 == 1;
-        set!(self, 0: sctl_det, enabled);
+        set!(self, 0: sctl_det, ie);
         set!(self, false: st, cr, fre, fr);
         set!(self, 0: ci, sact, is);
         set!(self, false: ips, other_causes, serr_n, serr_x, detected);

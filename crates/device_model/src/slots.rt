@@ -1,12 +1,7 @@
 // The slots of a port: which command is taken, and how it goes on.
 ghost use Rattle.std.specs.Prelude.{◌≡◌, ◌↔◌, ◌<◌, ◌≤◌, ◌^◌, ◌+◌, ◌||◌, ℕ, IsTrue, None, Some, true, false, is_some, slice_index_or, IfSome, List};
-ghost use Rattle.adapter.specs.Steps.{IsUnmixed, IsFetchable, IsWorking, admits, port_after_clear, port_after_done, port_after_fault, port_after_fetch, port_after_flush, port_after_move};
-ghost use Rattle.adapter.specs.declared.command.Operation.{Operation};
-ghost use Rattle.device_model.specs.WordBits.{word_bits};
-ghost use Rattle.device_model.specs.FetchedBytes.{IsUntouched};
-ghost use Rattle.device_model.specs.Slots.{IsOpenTo, MayTake, HasUntaken, WorksOnIn};
-ghost use Rattle.device_model.specs.PortView.{Media, cause_of, halt_of, taken_in, busy_if_left, media_after_move, media_after_clear, media_after_end, operation_of_kind, port_of, taken_of, blank_port};
-ghost use Rattle.device_model.specs.declared.port.TakenCommand.{TakenCommand};
+ghost use Rattle.adapter.specs.{Steps.{IsUnmixed, IsFetchable, IsWorking, admits, port_after_clear, port_after_done, port_after_fault, port_after_fetch, port_after_flush, port_after_move}, declared.command.Operation.{Operation}};
+ghost use Rattle.device_model.specs.{WordBits.{word_bits}, FetchedBytes.{IsNewlyTaken}, Slots.{IsOpenTo, MayTake, HasIssuedUntaken, WorksOnIn}, PortView.{Media, cause_of, halt_of, taken_in, busy_if_left, media_after_move, media_after_clear, media_after_end, operation_of_kind, port_of, taken_of, blank_port}, declared.port.TakenCommand.{TakenCommand}};
 
 use crate::bits::{is_clear_from, with_bit_as};
 use crate::clearing::SectorExtent;
@@ -38,7 +33,7 @@ impl PortModel {
     /// A command is taken in a slot: a queued one leaves PxCI, and a plain one sets BSY.
     pub fn take(&mut self, slot: u8, command: &TakenCommand)
         requires slot { slot < 32 }
-        requires new { IsUntouched command.now }
+        requires new { IsNewlyTaken command.now }
         requires alone { (m : Media) → IsUnmixed (port_of self.old m) (operation_of_kind command.now.command_kind) }
         ensures { (m : Media) → port_of self.new m ≡ port_after_fetch (port_of self.old m) slot
             (taken_of command.now).meaning
@@ -57,7 +52,8 @@ impl PortModel {
     #[inline(always)]
     pub fn advance(&mut self, slot: u8, command_kind: CommandKind, bytes: &[u8; 512])
         requires slot { slot < 32 }
-        requires held { (t : TakenCommand) × (taken_in self.old.taken slot ≡ Some t) × (t.command_kind ≡ command_kind)
+        requires slot_has_command { (t : TakenCommand) × (taken_in self.old.taken slot ≡ Some t)
+            × (t.command_kind ≡ command_kind)
             × (t.moved + 1 < 2 ^ 32) }
         ensures moved { (m : Media) (t : TakenCommand) → taken_in self.old.taken slot ≡ Some t →
             port_of self.new (media_after_move m (taken_of t) bytes.now)
@@ -96,10 +92,10 @@ impl PortModel {
             (operation_of_kind command_kind)
             here }
     {
-        self.lasting_at = command_kind.lasting_at(self.lasting_at, here);
+        self.lasting_tape_length = command_kind.lasting_at(self.lasting_tape_length, here);
         self.taken.remove(slot);
         self.is = with_bit_as(self.is, command_kind.cause(), true);
-        self.halting = Halting::Running;
+        self.halting = Halting::NotHalted;
         self.tfd = Some(self.task_file() & 0xff7f);
         if command_kind.is_queued() {
             self.sact = with_bit_as(self.sact, u32::from(slot), false);
@@ -139,7 +135,8 @@ impl PortModel {
     /// Whether the port works on such commands.
     pub fn is_working_on(&self, command_kind: CommandKind) -> bool
         ensures works { result ≡ true → (m : Media) → IsWorking (port_of self.now m) (operation_of_kind command_kind) }
-        ensures only { result ≡ false → (m : Media) → IsWorking (port_of self.now m) (operation_of_kind command_kind) →
+        ensures complete { result ≡ false → (m : Media)
+            → IsWorking (port_of self.now m) (operation_of_kind command_kind) →
             ⊥ }
     {
         self.cr && self.present && self.fresh && !self.broken && self.halting.admits(command_kind)
@@ -149,7 +146,7 @@ impl PortModel {
     /// that are taken.
     pub fn may_take_command(&self, command_kind: CommandKind) -> bool
         ensures open { result ≡ true → IsOpenTo self.now (operation_of_kind command_kind) }
-        ensures only { result ≡ false → (m : Media)
+        ensures complete { result ≡ false → (m : Media)
             → admits (halt_of self.now.halting) (operation_of_kind command_kind) ≡ true
             → IsUnmixed (port_of self.now m) (operation_of_kind command_kind) → ⊥ }
     {
@@ -176,10 +173,10 @@ impl PortModel {
 pub fn has_untaken(ports: &[PortModel; 4], port: usize, slot: u8) -> bool
     requires port { port < 4 }
     requires slot { slot < 32 }
-    ensures may { result ≡ true → HasUntaken (slice_index_or ports.now port blank_port) slot }
-    ensures only { result ≡ false → (m : Media) (operation : Operation)
+    ensures may { result ≡ true → HasIssuedUntaken (slice_index_or ports.now port blank_port) slot }
+    ensures complete { result ≡ false → (m : Media) (operation : Operation)
         → MayTake (port_of (slice_index_or ports.now port blank_port) m) slot operation → ⊥ }
-    ensures none { result ≡ false → (m : Media) (operation : Operation)
+    ensures is_not_fetchable { result ≡ false → (m : Media) (operation : Operation)
         → IsFetchable (port_of (slice_index_or ports.now port blank_port) m) slot →
         IsWorking (port_of (slice_index_or ports.now port blank_port) m) operation → ⊥ }
 {
@@ -197,7 +194,7 @@ pub fn working_on(ports: &[PortModel; 4], port: usize, slot: u8) -> Option<&Take
     requires port { port < 4 }
     requires slot { slot < 32 }
     ensures found { IfSome result (λ t. WorksOnIn (slice_index_or ports.now port blank_port) slot t.now) }
-    ensures low { IfSome result (λ t. t.now.first < 2 ^ 48) }
+    ensures first_in_range { IfSome result (λ t. t.now.first < 2 ^ 48) }
     ensures none { result ≡ None → (t : TakenCommand) → WorksOnIn (slice_index_or ports.now port blank_port) slot t
         → ⊥ }
 {

@@ -1,28 +1,13 @@
 // Steps that the hardware does when it is told.
-ghost use Rattle.std.specs.Prelude.{◌≡◌, ◌↔◌, IsTrue, ◌<◌, ◌≤◌, ◌+◌, ◌-◌, ◌*◌, ◌^◌, ◌++◌, ◌∷◌, [], true, false, ℕ, List, None, Some, IfSome, IsSomeAnd, if◌then◌else◌, length, nat_eq, slice_index, slice_index_or};
-ghost use Rattle.std.specs.Vec.{vec_len, vec_capacity};
-ghost use Rattle.adapter.specs.Commands.{Meaning, is_queued, is_ranged, reads_memory};
-ghost use Rattle.adapter.specs.Device.{Disk, FetchedCommand};
-ghost use Rattle.adapter.specs.Memory.{bytes_at};
-ghost use Rattle.adapter.specs.Decoding.{pieces};
-ghost use Rattle.adapter.specs.Steps.{Can, IsFinished, device_after, next_sector};
-ghost use Rattle.adapter.specs.Steps.DeviceTransition.{Fetch as FetchStep, FetchFault as FetchFaultStep, Move as MoveStep, Done as DoneStep, Fault as FaultStep, Fatal as FatalStep, Unplug as UnplugStep, Plug as PlugStep};
-ghost use Rattle.adapter.specs.ToldSteps.{DoesFatal, DoesFault, DoesFetch, EndsAndPosts, fatal_bit};
-ghost use Rattle.device_model.specs.TakenBlocks.{brought};
-ghost use Rattle.device_model.specs.WriteCaches.{HasRoomForOld, KeepsSameOldSectors};
-ghost use Rattle.device_model.specs.PieceTransfers.{IsTransferred, piece_of};
-ghost use Rattle.device_model.specs.FetchedBytes.{bytes_of};
-ghost use Rattle.device_model.specs.Finishing.{TapeHasRoom, HasRoomAhead, FindsPageCommand, IsInside, AreInside, IsCommandBegun, IsCovered, IsStepSkipped, IsRemaining, IsCommandUnbegun};
-ghost use Rattle.device_model.specs.SentFises.{SendsEnd};
-ghost use Rattle.device_model.specs.Slots.{WorksOnIn, IsNextMove, HasUntaken};
-ghost use Rattle.device_model.specs.Trims.{changes_ahead};
-ghost use Rattle.device_model.specs.PortView.{taken_in, busy_if_left, operation_of_kind, taken_of, blank_port};
-ghost use Rattle.device_model.specs.WholeAdapter.{AllMedia, device_of, all_media_after_move, all_media_after_end, all_media_after_plug};
-ghost use Rattle.device_model.specs.declared.port.TakenCommand.{TakenCommand};
+ghost use Rattle.std.specs.{Prelude.{◌≡◌, ◌↔◌, IsTrue, ◌<◌, ◌≤◌, ◌+◌, ◌-◌, ◌*◌, ◌^◌, ◌++◌, ◌∷◌, [], true, false, ℕ, List, None, Some, IfSome, IsSomeAnd, if◌then◌else◌, length, nat_eq, slice_index, slice_index_or}, Vec.{vec_len, vec_capacity}};
+ghost use Rattle.adapter.specs.{Commands.{Meaning, is_queued, is_ranged, reads_memory}, Device.{Disk, FetchedCommand}, Memory.{bytes_at}, Decoding.{pieces}, Steps.{Can, IsFinished, device_after, next_sector}, Steps.DeviceTransition.{Fetch as FetchStep, FetchFault as FetchFaultStep, Move as MoveStep, Done as DoneStep, Fault as FaultStep, Fatal as FatalStep, Unplug as UnplugStep, Plug as PlugStep}};
+ghost use Rattle.adapter.specs.AskedSteps.{DoesFatal, DoesFault, DoesFetch, EndsAndPosts, fatal_bit};
+ghost use Rattle.device_model.specs.{TakenBlocks.{brought}, WriteCaches.{HasRoomForOldSectors, KeepsSameOldSectors}, PieceTransfers.{IsTransferred, piece_of}, FetchedBytes.{bytes_of}, Finishing.{TapeHasRoom, HasRoomAhead, FindsPageCommand, IsInside, PiecesInside, IsCommandBegun, HasMovesLeft, IsStepSkipped, IsRemaining, IsCommandUnbegun}, SentFises.{SendsEnd}, Slots.{WorksOnIn, IsNextMove, HasIssuedUntaken}, Trims.{changes_ahead}};
+ghost use Rattle.device_model.specs.{PortView.{taken_in, busy_if_left, operation_of_kind, taken_of, blank_port}, WholeAdapter.{AllMedia, device_of, all_media_after_move, all_media_after_end, all_media_after_plug}, declared.port.TakenCommand.{TakenCommand}};
 
 use crate::cache::Cache;
 use crate::fetch::{
-    PiecePlace, count_pieces, decode_page_cmd, decodes_command, may_decode_page, place_at,
+    PiecePlace, count_pieces, decode_page_command, decodes_command, may_be_page_command, place_at,
     read_command,
 };
 use crate::hardware::Hardware;
@@ -44,14 +29,14 @@ pub struct NextMove {
     pub address: u32,
     /// How many pieces behind it can be moved without a look for their places: those of its region, if the command
     /// names sectors. (A region has 8,192 pieces at most; AHCI 1.3.1, 4.2.3.3.)
-    pub behind: u16,
+    pub pieces_following: u16,
     pub command_kind: CommandKind,
 }
 
 /// What is left of a command, but for its end: so many moves, and then so many clears.
 #[derive(Clone, Copy, Debug)]
 pub struct Remaining {
-    pub left: u32,
+    pub moves: u32,
     pub clears: u32,
     /// How many sectors of the disk these change: each sector that is written, and each one that is cleared.
     pub changes: usize,
@@ -60,9 +45,9 @@ pub struct Remaining {
 /// A command that is to be done to its end.
 #[derive(Clone, Copy, Debug)]
 pub struct BegunCommand {
-    pub rest: Remaining,
+    pub remaining: Remaining,
     /// Whether it was taken just now.
-    pub was_taken: bool,
+    pub is_newly_taken: bool,
 }
 
 /// An IDENTIFY DEVICE or READ LOG EXT that the model goes on with by itself.
@@ -71,7 +56,7 @@ pub struct PendingPage {
     pub port: u8,
     pub slot: u8,
     /// Whether it can be done to its end. Else it may be taken, and no more.
-    pub ends: bool,
+    pub can_end: bool,
 }
 
 impl NextMove {
@@ -85,22 +70,23 @@ impl NextMove {
 
     /// The move of the piece behind it, if that needs no look.
     fn after(self) -> Option<NextMove>
-        requires { (self.sector + self.behind < 2 ^ 64) × (self.address + 512 * self.behind < 2 ^ 32) }
-        ensures { IfSome result (λ n. (1 ≤ self.behind) × (n ≡ record {
+        requires { (self.sector + self.pieces_following < 2 ^ 64)
+            × (self.address + 512 * self.pieces_following < 2 ^ 32) }
+        ensures { IfSome result (λ n. (1 ≤ self.pieces_following) × (n ≡ record {
           command_kind = self.command_kind;
           sector = self.sector + 1;
           address = self.address + 512;
-          behind = self.behind - 1;
+          pieces_following = self.pieces_following - 1;
         })) }
     {
-        if self.behind == 0 {
+        if self.pieces_following == 0 {
             return None;
         }
         Some(NextMove {
             command_kind: self.command_kind,
             sector: self.sector + 1,
             address: self.address + 512,
-            behind: self.behind - 1,
+            pieces_following: self.pieces_following - 1,
         })
     }
 }
@@ -109,12 +95,12 @@ impl NextMove {
 /// a command names sectors, and each has its place in a memory of this size, and an address of 32 bits; and else none.
 fn pieces_following(command_kind: CommandKind, place: PiecePlace, size: usize) -> u16
     requires { place.address < 2 ^ 32 }
-    ensures few { result ≤ place.behind }
+    ensures few { result ≤ place.pieces_following }
     ensures inside { place.address + 512 ≤ size → place.address + 512 * result + 512 ≤ size }
     ensures low { place.address + 512 * result < 2 ^ 32 }
     ensures ranged { 1 ≤ result → is_ranged (operation_of_kind command_kind) ≡ true }
 {
-    let pieces = u64::from(place.behind).min(u64::from(u16::MAX));
+    let pieces = u64::from(place.pieces_following).min(u64::from(u16::MAX));
     let end = place.address + 512 * pieces + 512;
     if command_kind.is_ranged() && end <= (size as u64).min(1 << 32) {
         pieces as u16
@@ -127,12 +113,12 @@ fn pieces_following(command_kind: CommandKind, place: PiecePlace, size: usize) -
 #[inline(always)]
 pub fn record(tape: &mut Vec<Entry>, starved: &mut bool, entry: Entry) -> bool
     ensures added { result ≡ true → tape.new.items ≡ tape.old.items ++ entry ∷ [] }
-    ensures kept { result ≡ false → tape.new.items ≡ tape.old.items }
+    ensures tape_is_kept { result ≡ false → tape.new.items ≡ tape.old.items }
     ensures room { vec_len tape.old < vec_capacity tape.old → result ≡ true }
-    ensures left { (n : ℕ) → vec_len tape.old + (n + 1) ≤ vec_capacity tape.old
+    ensures room_is_left { (n : ℕ) → vec_len tape.old + (n + 1) ≤ vec_capacity tape.old
         → vec_len tape.new + n ≤ vec_capacity tape.new }
     ensures starved { result ≡ false → starved.new ≡ true }
-    ensures fed { result ≡ true → starved.new ≡ starved.old }
+    ensures starved_is_kept { result ≡ true → starved.new ≡ starved.old }
 {
     let added = tape.push(entry).is_ok();
     if !added {
@@ -152,8 +138,8 @@ fn is_inside(prd: &Prd, size: usize) -> bool
 
 /// Whether each piece of some regions is in a memory of this size.
 fn are_inside(prds: &[Prd], size: usize) -> bool
-    ensures inside { result ≡ true → AreInside size (pieces prds.now) }
-    ensures only { result ≡ false → AreInside size (pieces prds.now) → ⊥ }
+    ensures inside { result ≡ true → PiecesInside size (pieces prds.now) }
+    ensures only { result ≡ false → PiecesInside size (pieces prds.now) → ⊥ }
 {
     for prd in prds {
         if !is_inside(prd, size) {
@@ -165,8 +151,8 @@ fn are_inside(prds: &[Prd], size: usize) -> bool
 
 /// How many moves are left of a command, if each of its pieces has a place in a memory of this size.
 fn moves_left_of(command: &TakenCommand, size: usize) -> Option<u32>
-    ensures covered { IfSome result (λ left. IsCovered (taken_of command.now) size left) }
-    ensures only { (left : ℕ) → IsCovered (taken_of command.now) size left → result ≡ Some left }
+    ensures covered { IfSome result (λ left. HasMovesLeft (taken_of command.now) size left) }
+    ensures only { (left : ℕ) → HasMovesLeft (taken_of command.now) size left → result ≡ Some left }
 {
     let prds = command.prds.as_slice();
     if !are_inside(prds, size) {
@@ -179,19 +165,19 @@ fn moves_left_of(command: &TakenCommand, size: usize) -> Option<u32>
 fn remaining_of(command: &TakenCommand, block: &[u8], memory: &[u8]) -> Option<Remaining>
     requires block { block.now ≡ brought command.now.block }
     requires few { length block.now ≤ 512 }
-    ensures rest { IfSome result (λ rest. IsRemaining command.now memory.now rest.left rest.clears) }
+    ensures rest { IfSome result (λ rest. IsRemaining command.now memory.now rest.moves rest.clears) }
     ensures changes { IfSome result (λ rest. rest.changes
         ≡ changes_ahead (operation_of_kind command.now.command_kind) (bytes_of memory.now)
-        (taken_of command.now) rest.left) }
+        (taken_of command.now) rest.moves) }
     ensures only { (left clears : ℕ) → IsRemaining command.now memory.now left clears
-        → IsSomeAnd result (λ rest. (rest.left ≡ left) × (rest.clears ≡ clears)) }
+        → IsSomeAnd result (λ rest. (rest.moves ≡ left) × (rest.clears ≡ clears)) }
 {
-    let left = moves_left_of(command, memory.len())?;
+    let moves = moves_left_of(command, memory.len())?;
     let clears = clears_of(command, block, memory)?;
     Some(Remaining {
-        left,
+        moves,
         clears: clears.runs,
-        changes: command.command_kind.written(left) as usize + clears.sectors as usize,
+        changes: command.command_kind.sectors_to_write(moves) as usize + clears.sectors as usize,
     })
 }
 
@@ -206,11 +192,11 @@ pub struct Reservations {
 /// What a command needs to be done to its end: an entry of each move and each clear, and one of the end; and the old
 /// bytes of each sector that it changes.
 fn reservations_of(rest: Remaining) -> Reservations
-    ensures entries { result.entries ≡ rest.left + rest.clears + 1 }
+    ensures entries { result.entries ≡ rest.moves + rest.clears + 1 }
     ensures old_sectors { result.old_sectors ≡ rest.changes }
 {
     Reservations {
-        entries: rest.left as usize + rest.clears as usize + 1,
+        entries: rest.moves as usize + rest.clears as usize + 1,
         old_sectors: rest.changes,
     }
 }
@@ -221,11 +207,11 @@ fn reserve_all(tape: &mut Vec<Entry>, cache: &mut Cache, growths: Reservations) 
     ensures kept { vec_capacity tape.old ≤ vec_capacity tape.new }
     ensures same { KeepsSameOldSectors cache.old cache.new }
     ensures room { result ≡ true → vec_len tape.new + growths.entries ≤ vec_capacity tape.new }
-    ensures old_room { result ≡ true → HasRoomForOld cache.new growths.old_sectors }
+    ensures old_room { result ≡ true → HasRoomForOldSectors cache.new growths.old_sectors }
     ensures lacked { result ≡ false → vec_len tape.old + growths.entries ≤ vec_capacity tape.old
-        → HasRoomForOld cache.old growths.old_sectors → ⊥ }
+        → HasRoomForOldSectors cache.old growths.old_sectors → ⊥ }
     ensures lacks { result ≡ false → vec_len tape.new + growths.entries ≤ vec_capacity tape.new
-        → HasRoomForOld cache.new growths.old_sectors → ⊥ }
+        → HasRoomForOldSectors cache.new growths.old_sectors → ⊥ }
 {
     tape.reserve(growths.entries).is_ok() && cache.reserve(growths.old_sectors)
 }
@@ -240,10 +226,10 @@ fn note_no_memory(starved: &mut bool)
 /// Whether a command that sends a page can be done to its end: whether each of its pieces has a place in a memory of
 /// this size, and an address of 32 bits.
 fn can_end(command: &TakenCommand, size: usize) -> bool
-    ensures ends { result ≡ true → (left : ℕ) × IsCovered (taken_of command.now) size left
-        × AreInside (2 ^ 32) (pieces command.now.prds) }
-    ensures only { result ≡ false → (left : ℕ) → IsCovered (taken_of command.now) size left
-        → AreInside (2 ^ 32) (pieces command.now.prds) → ⊥ }
+    ensures ends { result ≡ true → (left : ℕ) × HasMovesLeft (taken_of command.now) size left
+        × PiecesInside (2 ^ 32) (pieces command.now.prds) }
+    ensures only { result ≡ false → (left : ℕ) → HasMovesLeft (taken_of command.now) size left
+        → PiecesInside (2 ^ 32) (pieces command.now.prds) → ⊥ }
 {
     match moves_left_of(command, size) {
         Some(_left) => are_inside(command.prds.as_slice(), 1 << 32),
@@ -292,7 +278,7 @@ impl Hardware {
         ensures did { result ≡ true → (o : AllMedia)
             → DoesFetch port slot (device_of self.old o) (device_of self.new o) }
         ensures refused { result ≡ false → self.new ≡ self.old }
-        ensures only { result ≡ false → (o : AllMedia) (m : Meaning) (places : List ℕ)
+        ensures complete { result ≡ false → (o : AllMedia) (m : Meaning) (places : List ℕ)
             → Can (FetchStep port slot m places) (device_of self.old o) → ⊥ }
         ensures tape { self.new.tape ≡ self.old.tape }
         ensures starved { self.new.starved ≡ self.old.starved }
@@ -305,7 +291,7 @@ impl Hardware {
     #[inline(never)]
     fn fetch_decoded(&mut self, port: u8, slot: u8) -> bool
         requires there { (port < 4) × (slot < 32) }
-        requires may { HasUntaken (slice_index_or self.old.ports port blank_port) slot }
+        requires may { HasIssuedUntaken (slice_index_or self.old.ports port blank_port) slot }
         ensures did { result ≡ true → (o : AllMedia)
             → DoesFetch port slot (device_of self.old o) (device_of self.new o) }
         ensures refused { result ≡ false → self.new ≡ self.old }
@@ -332,11 +318,11 @@ impl Hardware {
     fn decodes_page(&self, port: usize, slot: u8) -> Option<bool>
         requires port { port < 4 }
         requires slot { slot < 32 }
-        requires may { HasUntaken (slice_index_or self.now.ports port blank_port) slot }
+        requires may { HasIssuedUntaken (slice_index_or self.now.ports port blank_port) slot }
         ensures { (o : AllMedia) → FindsPageCommand (device_of self.now o) port slot result }
     {
         let list = self.ports[port].addresses.clb;
-        let command = decode_page_cmd(&self.memory, list, slot)?;
+        let command = decode_page_command(&self.memory, list, slot)?;
         if self.ports[port].may_take_command(command.command_kind) {
             Some(can_end(&command, self.memory.len()))
         } else {
@@ -355,7 +341,7 @@ impl Hardware {
             return None;
         }
         if has_untaken(&self.ports, port, slot) {
-            if !may_decode_page(&self.memory, self.ports[port].addresses.clb, slot) {
+            if !may_be_page_command(&self.memory, self.ports[port].addresses.clb, slot) {
                 return None;
             }
             return self.decodes_page(port, slot);
@@ -378,7 +364,7 @@ impl Hardware {
         ensures port { IfSome result (λ found. found.port ≡ port) }
         ensures small { IfSome result (λ found. found.slot < 32) }
         ensures found { IfSome result (λ found. (o : AllMedia) → FindsPageCommand (device_of self.now o) port found.slot
-            (Some found.ends)) }
+            (Some found.can_end)) }
         ensures first { IfSome result (λ found. (o : AllMedia) (slot : ℕ) → slot < found.slot
             → FindsPageCommand (device_of self.now o) port slot None) }
         ensures none { result ≡ None → (o : AllMedia) (slot : ℕ) → slot < 32
@@ -389,8 +375,12 @@ impl Hardware {
             if self.ports[place].is_unused_from(slot) {
                 return None;
             }
-            if let Some(ends) = self.has_page(place, slot) {
-                return Some(PendingPage { port, slot, ends });
+            if let Some(can_end) = self.has_page(place, slot) {
+                return Some(PendingPage {
+                    port,
+                    slot,
+                    can_end,
+                });
             }
         }
         None
@@ -438,7 +428,7 @@ impl Hardware {
             command_kind: command.command_kind,
             sector: sector_of(command),
             address: place.address as u32,
-            behind: pieces_following(command.command_kind, place, self.memory.len()),
+            pieces_following: pieces_following(command.command_kind, place, self.memory.len()),
         })
     }
 
@@ -453,7 +443,7 @@ impl Hardware {
             IsNextMove old port slot next t →
             device_of self.new (all_media_after_move o port (taken_of t) (piece_of self.old next))
             ≡ device_after (MoveStep port slot (taken_of t) (piece_of self.old next)) (device_of old o) }
-        ensures left { (n : ℕ) → TapeHasRoom self.old (n + 1) → TapeHasRoom self.new n }
+        ensures room_is_left { (n : ℕ) → TapeHasRoom self.old (n + 1) → TapeHasRoom self.new n }
         ensures starved { self.new.starved ≡ self.old.starved }
         ensures after { IfSome result (λ n. (t : TakenCommand) × IsNextMove self.new port slot n t) }
     {
@@ -498,14 +488,14 @@ impl Hardware {
         ensures found { IfSome result
             (λ rest. (t : TakenCommand) × WorksOnIn (slice_index_or self.now.ports port blank_port)
             slot t
-            × IsRemaining t self.now.memory.items rest.left rest.clears) }
+            × IsRemaining t self.now.memory.items rest.moves rest.clears) }
         ensures changes { IfSome result (λ rest. (t : TakenCommand)
             → WorksOnIn (slice_index_or self.now.ports port blank_port) slot t → rest.changes ≡ changes_ahead
-            (operation_of_kind t.command_kind) (bytes_of self.now.memory.items) (taken_of t) rest.left) }
+            (operation_of_kind t.command_kind) (bytes_of self.now.memory.items) (taken_of t) rest.moves) }
         ensures only { (t : TakenCommand) (left clears : ℕ)
             → WorksOnIn (slice_index_or self.now.ports port blank_port) slot t
             → IsRemaining t self.now.memory.items left clears
-            → IsSomeAnd result (λ rest. (rest.left ≡ left) × (rest.clears ≡ clears)) }
+            → IsSomeAnd result (λ rest. (rest.moves ≡ left) × (rest.clears ≡ clears)) }
     {
         let command = working_on(&self.ports, usize::from(port), slot)?;
         let block = self.ports[usize::from(port)].taken.block(slot);
@@ -521,10 +511,10 @@ impl Hardware {
             (λ command_kind. (o : AllMedia) → EndsAndPosts (SendsEnd slot) port slot (device_of self.old o)
             (device_of self.new (all_media_after_end o port (operation_of_kind command_kind)))) }
         ensures refused { result ≡ None → (o : AllMedia) → device_of self.new o ≡ device_of self.old o }
-        ensures left { result ≡ None → (o : AllMedia)
+        ensures step_is_skipped { result ≡ None → (o : AllMedia)
             → IsStepSkipped self.old self.new ((flag : ℕ) × (t : FetchedCommand)
             × Can (DoneStep port slot flag t) (device_of self.old o)) }
-        ensures fed { IfSome result (λ command_kind. self.new.starved ≡ self.old.starved) }
+        ensures starved_is_kept { IfSome result (λ command_kind. self.new.starved ≡ self.old.starved) }
     {
         let Some(command_kind) = self.kind_if_finished(port, slot) else {
             return None;
@@ -574,11 +564,11 @@ impl Hardware {
             → (f : DoesFault port slot error (busy_if_left busy) (device_of self.old o) (device_of self.new o))
             × (queued ≡ is_queued f.fetched_command.meaning.operation)) }
         ensures refused { result ≡ None → (o : AllMedia) → device_of self.new o ≡ device_of self.old o }
-        ensures left { result ≡ None → (o : AllMedia)
+        ensures step_is_skipped { result ≡ None → (o : AllMedia)
             → IsStepSkipped self.old self.new ((t : FetchedCommand)
             × Can (FaultStep port slot error (busy_if_left busy) t)
             (device_of self.old o)) }
-        ensures fed { IfSome result (λ _. self.new.starved ≡ self.old.starved) }
+        ensures starved_is_kept { IfSome result (λ _. self.new.starved ≡ self.old.starved) }
     {
         let queued = self.queued_if_running(port, slot)?;
         let entry = Entry::Fault(Fault {
@@ -603,9 +593,9 @@ impl Hardware {
         ensures did { result ≡ true → (o : AllMedia) → Can (FetchFaultStep port slot false 0) (device_of self.old o)
             × (device_of self.new o ≡ device_after (FetchFaultStep port slot false 0) (device_of self.old o)) }
         ensures refused { result ≡ false → (o : AllMedia) → device_of self.new o ≡ device_of self.old o }
-        ensures left { result ≡ false → (o : AllMedia)
+        ensures step_is_skipped { result ≡ false → (o : AllMedia)
             → IsStepSkipped self.old self.new (Can (FetchFaultStep port slot false 0) (device_of self.old o)) }
-        ensures fed { result ≡ true → self.new.starved ≡ self.old.starved }
+        ensures starved_is_kept { result ≡ true → self.new.starved ≡ self.old.starved }
     {
         let place = usize::from(port);
         if !has_untaken(&self.ports, place, slot) {
@@ -638,31 +628,32 @@ impl Hardware {
     fn begin_decoded(&mut self, port: u8, slot: u8, cache: &mut Cache) -> Option<BegunCommand>
         requires port { port < 4 }
         requires slot { slot < 32 }
-        requires may { HasUntaken (slice_index_or self.old.ports port blank_port) slot }
-        ensures begun { IfSome result (λ b. IsCommandBegun port slot b.rest.left b.rest.clears b.was_taken self.old
+        requires may { HasIssuedUntaken (slice_index_or self.old.ports port blank_port) slot }
+        ensures begun { IfSome result (λ b. IsCommandBegun port slot b.remaining.moves b.remaining.clears
+            b.is_newly_taken self.old
             self.new) }
         ensures ahead { IfSome result (λ b. (o : AllMedia)
-            → HasRoomAhead cache.new port slot b.rest.left (device_of self.new o)) }
+            → HasRoomAhead cache.new port slot b.remaining.moves (device_of self.new o)) }
         ensures same { KeepsSameOldSectors cache.old cache.new }
         ensures left { result ≡ None → IsCommandUnbegun port slot self.old self.new cache.old cache.new }
     {
         let model = &mut self.ports[usize::from(port)];
         let list = model.addresses.clb;
-        let Some(command) = self.room.read(&self.memory, list, slot) else {
+        let Some(command) = self.command_buffer.read(&self.memory, list, slot) else {
             return None;
         };
         if !model.may_take_command(command.command_kind) {
             return None;
         }
-        let rest = remaining_of(command, &[], &self.memory)?;
-        if !reserve_all(&mut self.tape, cache, reservations_of(rest)) {
+        let remaining = remaining_of(command, &[], &self.memory)?;
+        if !reserve_all(&mut self.tape, cache, reservations_of(remaining)) {
             note_no_memory(&mut self.starved);
             return None;
         }
         model.take(slot, command);
         Some(BegunCommand {
-            rest,
-            was_taken: true,
+            remaining,
+            is_newly_taken: true,
         })
     }
 
@@ -672,25 +663,26 @@ impl Hardware {
     pub fn begin(&mut self, port: u8, slot: u8, cache: &mut Cache) -> Option<BegunCommand>
         requires port { port < 4 }
         requires slot { slot < 32 }
-        ensures begun { IfSome result (λ b. IsCommandBegun port slot b.rest.left b.rest.clears b.was_taken self.old
+        ensures begun { IfSome result (λ b. IsCommandBegun port slot b.remaining.moves b.remaining.clears
+            b.is_newly_taken self.old
             self.new) }
         ensures ahead { IfSome result (λ b. (o : AllMedia)
-            → HasRoomAhead cache.new port slot b.rest.left (device_of self.new o)) }
-        ensures same { KeepsSameOldSectors cache.old cache.new }
-        ensures left { result ≡ None → IsCommandUnbegun port slot self.old self.new cache.old cache.new }
+            → HasRoomAhead cache.new port slot b.remaining.moves (device_of self.new o)) }
+        ensures old_sectors_are_kept { KeepsSameOldSectors cache.old cache.new }
+        ensures is_unbegun { result ≡ None → IsCommandUnbegun port slot self.old self.new cache.old cache.new }
     {
         let place = usize::from(port);
         if has_untaken(&self.ports, place, slot) {
             return self.begin_decoded(port, slot, cache);
         }
-        let rest = self.remaining_at(port, slot)?;
-        if !reserve_all(&mut self.tape, cache, reservations_of(rest)) {
+        let remaining = self.remaining_at(port, slot)?;
+        if !reserve_all(&mut self.tape, cache, reservations_of(remaining)) {
             self.starved = true;
             return None;
         }
         Some(BegunCommand {
-            rest,
-            was_taken: false,
+            remaining,
+            is_newly_taken: false,
         })
     }
 
@@ -700,9 +692,9 @@ impl Hardware {
         ensures did { result ≡ true → (o : AllMedia)
             → DoesFatal port error (device_of self.old o) (device_of self.new o) }
         ensures refused { result ≡ false → (o : AllMedia) → device_of self.new o ≡ device_of self.old o }
-        ensures left { result ≡ false → (o : AllMedia)
+        ensures step_is_skipped { result ≡ false → (o : AllMedia)
             → IsStepSkipped self.old self.new (Can (FatalStep port (fatal_bit error)) (device_of self.old o)) }
-        ensures fed { result ≡ true → self.new.starved ≡ self.old.starved }
+        ensures starved_is_kept { result ≡ true → self.new.starved ≡ self.old.starved }
     {
         let place = usize::from(port);
         if !self.ports[place].cr {
@@ -721,9 +713,9 @@ impl Hardware {
         ensures did { result ≡ true → (o : AllMedia) → Can (UnplugStep port) (device_of self.old o)
             × (device_of self.new o ≡ device_after (UnplugStep port) (device_of self.old o)) }
         ensures refused { result ≡ false → (o : AllMedia) → device_of self.new o ≡ device_of self.old o }
-        ensures left { result ≡ false → (o : AllMedia)
+        ensures step_is_skipped { result ≡ false → (o : AllMedia)
             → IsStepSkipped self.old self.new (Can (UnplugStep port) (device_of self.old o)) }
-        ensures fed { result ≡ true → self.new.starved ≡ self.old.starved }
+        ensures starved_is_kept { result ≡ true → self.new.starved ≡ self.old.starved }
     {
         let place = usize::from(port);
         if !self.ports[place].present {
@@ -740,22 +732,22 @@ impl Hardware {
     /// tape found no memory.
     pub fn plug(&mut self, port: u8, number: u32, same: bool) -> bool
         requires { port < 4 }
-        ensures free { result ≡ true → (o : AllMedia) → ((device_of self.old o).port port).present ≡ false }
+        ensures no_disk_was_in { result ≡ true → (o : AllMedia) → ((device_of self.old o).port port).present ≡ false }
         ensures did { result ≡ true → (o : AllMedia) (disk : Disk) → disk.name ≡ number →
             same ≡ nat_eq disk.name (o.media port).disk.name →
             device_of self.new (all_media_after_plug o port disk) ≡ device_after (PlugStep port disk)
             (device_of self.old o) }
         ensures refused { result ≡ false → (o : AllMedia) → device_of self.new o ≡ device_of self.old o }
-        ensures left { result ≡ false → (o : AllMedia)
+        ensures step_is_skipped { result ≡ false → (o : AllMedia)
             → IsStepSkipped self.old self.new (((device_of self.old o).port port).present ≡ false) }
-        ensures fed { result ≡ true → self.new.starved ≡ self.old.starved }
+        ensures starved_is_kept { result ≡ true → self.new.starved ≡ self.old.starved }
     {
         let place = usize::from(port);
         if self.ports[place].present {
             return false;
         }
         let here = self.tape.len();
-        let lasting_at = lasting_since(same, self.ports[place].lasting_at, here);
+        let lasting_at = lasting_since(same, self.ports[place].lasting_tape_length, here);
         let entry = Entry::Plug(Port(port), number);
         if !record(&mut self.tape, &mut self.starved, entry) {
             return false;
@@ -767,9 +759,9 @@ impl Hardware {
     /// Finds memory for so many entries of the tape; `false` says that there was none. That something was left out for
     /// that is not told yet.
     pub fn reserve(&mut self, entries: usize) -> bool
-        ensures same { (o : AllMedia) → device_of self.new o ≡ device_of self.old o }
+        ensures device_is_kept { (o : AllMedia) → device_of self.new o ≡ device_of self.old o }
         ensures room { result ≡ true → TapeHasRoom self.new entries }
-        ensures kept { (n : ℕ) → TapeHasRoom self.old n → TapeHasRoom self.new n }
+        ensures room_is_kept { (n : ℕ) → TapeHasRoom self.old n → TapeHasRoom self.new n }
         ensures enough { TapeHasRoom self.old entries → result ≡ true }
         ensures lacks { result ≡ false → TapeHasRoom self.new entries → ⊥ }
         ensures starved { self.new.starved ≡ self.old.starved }

@@ -1,11 +1,7 @@
 // The commands that a port has taken.
 ghost use Rattle.std.specs.Prelude.{◌≡◌, ◌≢◌, ◌<◌, ◌≤◌, ◌+◌, ◌^◌, ◌↔◌, ℕ, IsTrue, IfOk, IfSome, None, Some, is_some, true, length};
-ghost use Rattle.adapter.specs.Commands.{is_queued};
-ghost use Rattle.adapter.specs.Memory.{changed};
-ghost use Rattle.adapter.specs.Steps.{snapshot_of_bytes};
-ghost use Rattle.device_model.specs.TakenBlocks.{brought, taken_in_slot};
-ghost use Rattle.device_model.specs.PortView.{taken_in, operation_of_kind};
-ghost use Rattle.device_model.specs.declared.port.TakenCommand.{TakenCommand};
+ghost use Rattle.adapter.specs.{Commands.{is_queued}, Memory.{changed}, Steps.{snapshot_of_bytes}};
+ghost use Rattle.device_model.specs.{TakenBlocks.{brought, taken_in_slot}, PortView.{taken_in, operation_of_kind}, declared.port.TakenCommand.{TakenCommand}};
 
 use crate::bits::{is_clear_from, with_bit_as};
 use crate::port::{CommandKind, TakenCommand};
@@ -29,14 +25,14 @@ pub struct TakenCommands {
 
 impl Model for TakenCommands {
     ghost use Rattle.std.specs.Prelude.{◌≡◌, List, Option, length};
-    ghost use Rattle.device_model.specs.TakenBlocks.{HasBlock, taken_in_slot, taken_list_from};
-    ghost use Rattle.device_model.specs.declared.port.TakenCommand.{TakenCommand};
+    ghost use Rattle.device_model.specs.{TakenBlocks.{BlockIsOfTakenTrim, taken_in_slot, taken_list_from}, declared.port.TakenCommand.{TakenCommand}};
 
     ghost Value = { List (Option TakenCommand) };
 
     ghost view = { λ s. taken_list_from 0 s.filled s.slots.items };
 
-    ghost invariant = { λ s. (length s.slots.items ≡ 32) × HasBlock (taken_in_slot s.filled s.slots.items) s.block };
+    ghost invariant = { λ s. (length s.slots.items ≡ 32)
+        × BlockIsOfTakenTrim (taken_in_slot s.filled s.slots.items) s.block };
 }
 
 impl TakenCommands {
@@ -59,7 +55,7 @@ impl TakenCommands {
     pub fn get(&self, slot: u8) -> Option<&TakenCommand>
         requires { slot < 32 }
         ensures found { IfSome result (λ command. taken_in self.now slot ≡ Some command.now) }
-        ensures low { IfSome result (λ command. command.now.first < 2 ^ 48) }
+        ensures first_in_range { IfSome result (λ command. command.now.first < 2 ^ 48) }
         ensures none { result ≡ None → taken_in self.now slot ≡ None }
     {
         if is_set(self.filled, u32::from(slot)) {

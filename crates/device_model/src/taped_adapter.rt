@@ -1,8 +1,7 @@
 // What can be seen of an adapter in software without an access.
 ghost use Rattle.std.specs.Prelude.{◌≡◌, Bool};
 ghost use Rattle.adapter.specs.Access.{Shows};
-ghost use Rattle.device_model.specs.ModelState.{is_starved};
-ghost use Rattle.device_model.specs.WholeAdapter.{HasRegister};
+ghost use Rattle.device_model.specs.{ModelState.{is_starved}, WholeAdapter.{HasRegister}};
 
 use crate::model::Model;
 use adapter::{Entry, Stepped};
@@ -19,7 +18,7 @@ pub trait TapedAdapter: Stepped {
         ensures { result.now ≡ (Self.device self.now).tape };
 
     /// Whether nothing more is to be asked of it.
-    fn has_ended(&self) -> bool
+    fn is_exhausted(&self) -> bool
         ensures { result ≡ ended self.now };
 }
 
@@ -40,7 +39,7 @@ impl<S: SectorStore> TapedAdapter for Model<S> {
         Model::tape(self)
     }
 
-    fn has_ended(&self) -> bool {
+    fn is_exhausted(&self) -> bool {
         self.starved()
     }
 }

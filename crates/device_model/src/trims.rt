@@ -1,17 +1,7 @@
 // Trims: what is left to clear of one, and that it is cleared.
 ghost use Rattle.std.specs.Prelude.{◌≡◌, ◌↔◌, ◌+◌, ◌^◌, ◌<◌, ◌≤◌, ℕ, IsTrue, IfSome, IsSomeAnd, None, Some, length, drop, slice_index_or};
-ghost use Rattle.adapter.specs.Decoding.{pieces};
-ghost use Rattle.adapter.specs.Steps.{IsFinished, device_after};
-ghost use Rattle.adapter.specs.Steps.DeviceTransition.{Clear as ClearStep};
-ghost use Rattle.adapter.specs.Trim.{trim_sectors};
-ghost use Rattle.device_model.specs.TakenBlocks.{brought};
-ghost use Rattle.device_model.specs.FetchedBytes.{bytes_of};
-ghost use Rattle.device_model.specs.Finishing.{TapeHasRoom};
-ghost use Rattle.device_model.specs.Slots.{CanClear, WorksOnIn, IsNextRun};
-ghost use Rattle.device_model.specs.Trims.{HasRunsLeft, HasClearsLeft, block_ahead, cleared_ahead, next_uncleared, next_run_length, uncleared};
-ghost use Rattle.device_model.specs.PortView.{blank_port, operation_of_kind, taken_of};
-ghost use Rattle.device_model.specs.WholeAdapter.{AllMedia, device_of, all_media_after_clear};
-ghost use Rattle.device_model.specs.declared.port.TakenCommand.{TakenCommand};
+ghost use Rattle.adapter.specs.{Decoding.{pieces}, Steps.{IsFinished, device_after}, Steps.DeviceTransition.{Clear as ClearStep}, Trim.{trim_sectors}};
+ghost use Rattle.device_model.specs.{TakenBlocks.{brought}, FetchedBytes.{bytes_of}, Finishing.{TapeHasRoom}, Slots.{CanClear, WorksOnIn, IsNextRun}, Trims.{HasRunsLeft, HasClearsLeft, block_ahead, cleared_ahead, next_uncleared, next_run_length, uncleared}, PortView.{blank_port, operation_of_kind, taken_of}, WholeAdapter.{AllMedia, device_of, all_media_after_clear}, declared.port.TakenCommand.{TakenCommand}};
 
 use crate::clearing::{SectorExtent, count_runs, count_sectors, next_run};
 use crate::fetch::{copy_bytes, count_pieces, piece_at};
@@ -97,7 +87,7 @@ pub fn clears_of(command: &TakenCommand, block: &[u8], memory: &[u8]) -> Option<
     ensures sectors { IfSome result (λ clears. clears.sectors ≡ cleared_ahead (operation_of_kind
         command.now.command_kind)
         (bytes_of memory.now) (taken_of command.now)) }
-    ensures only { (runs : ℕ) → HasClearsLeft (operation_of_kind command.now.command_kind) (bytes_of memory.now)
+    ensures complete { (runs : ℕ) → HasClearsLeft (operation_of_kind command.now.command_kind) (bytes_of memory.now)
         (taken_of command.now) runs → IsSomeAnd result (λ clears. clears.runs ≡ runs) }
 {
     if command.command_kind.is_trim() {
@@ -168,15 +158,16 @@ impl Hardware {
     /// Sectors of a slot's trim were cleared: that is noted on the tape. Where there are none, nothing is.
     pub fn clear(&mut self, port: u8, slot: u8, run: SectorExtent)
         requires there { (port < 4) × (slot < 32) }
-        requires held { (t : TakenCommand) × WorksOnIn (slice_index_or self.old.ports port blank_port) slot t
+        requires slot_has_command { (t : TakenCommand)
+            × WorksOnIn (slice_index_or self.old.ports port blank_port) slot t
             × (t.cleared + run.count < 2 ^ 32) }
         requires room { TapeHasRoom self.old 1 }
-        ensures none { run.count ≡ 0 → self.new ≡ self.old }
+        ensures none_changes_nothing { run.count ≡ 0 → self.new ≡ self.old }
         ensures cleared { 1 ≤ run.count → (o : AllMedia) (t : TakenCommand)
             → WorksOnIn (slice_index_or self.old.ports port blank_port) slot t →
             device_of self.new (all_media_after_clear o port run.first run.count)
             ≡ device_after (ClearStep port slot (taken_of t) run.first run.count) (device_of self.old o) }
-        ensures left { (n : ℕ) → TapeHasRoom self.old (n + 1) → TapeHasRoom self.new n }
+        ensures room_is_left { (n : ℕ) → TapeHasRoom self.old (n + 1) → TapeHasRoom self.new n }
         ensures starved { self.new.starved ≡ self.old.starved }
     {
         if run.count == 0 {

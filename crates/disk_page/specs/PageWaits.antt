@@ -5,10 +5,10 @@ use Rattle.ata_types.specs.declared.memory.TheConstants.{DRIVER_BYTES}
 use Rattle.adapter.specs.Device.{Device}
 use Rattle.adapter.specs.Rules.{IsOn, HasPort}
 use Rattle.adapter.specs.declared.command.Operation.{Operation}
-use Rattle.refinement.specs.AwaitedPage.{AwaitsPage}
-use Rattle.refinement.specs.Fragments.{IsRelated, IsSimulatedChangingUses, GainsNoMove}
-use Rattle.refinement.specs.HaltRecovery.{EndsHalt}
-use Rattle.refinement.specs.Slots.{Free, Own, SlotStates, op_of, set_slot_state}
+use Rattle.refinement.specs.AwaitedPage.{AwaitsOrHasPage}
+use Rattle.refinement.specs.Fragments.{SomeMachineAgrees, IsSimulatedChangingUses, GainsNoMove}
+use Rattle.refinement.specs.HaltRecovery.{OwnCommandEndsHalt}
+use Rattle.refinement.specs.Slots.{Free, Own, SlotStates, client_operation_of, set_slot_state}
 use Rattle.command_table.specs.TableStores.{IsUnused}
 use Rattle.disk_page.specs.PageRequests.{IsPageAccess, page_operation}
 use Rattle.disk_page.specs.declared.Page.{Page}
@@ -17,18 +17,19 @@ use Rattle.disk_page.specs.declared.Page.{Page}
 -- the port is used, its end ends a halt. No page of another command came since this device.
 pub record IsPageAwaited (port : Port) (o : Operation) (since : ℕ) (uses : SlotStates) (start d : Device) : Type 0 where
   pub adapter_is_on : IsOn d
-  pub driver_memory_fits : DRIVER_BYTES ≤ d.size
-  pub machine_is_related : IsRelated uses d
-  pub awaits : AwaitsPage uses port.0 o since d
-  pub ends_halt : ((slot : ℕ) → slot ≢ 0 → uses port.0 slot ≡ Free) → EndsHalt uses port.0 d
-  pub no_other_page_moves : (other : Operation) → op_of other ≡ None → other ≢ o → GainsNoMove port.0 other start d
+  pub driver_memory_fits : DRIVER_BYTES ≤ d.memory_size
+  pub machine_is_related : SomeMachineAgrees uses d
+  pub awaits : AwaitsOrHasPage uses port.0 o since d
+  pub ends_halt : ((slot : ℕ) → slot ≢ 0 → uses port.0 slot ≡ Free) → OwnCommandEndsHalt uses port.0 d
+  pub no_other_page_moves : (other : Operation) → client_operation_of other ≡ None → other ≢ o
+      → GainsNoMove port.0 other start d
 
 -- The command that brings the page was issued in slot 0, as an access of asking: from then on it is waited for.
 pub record AsksForPage (port : Port) (page : Page) (old new : Device) : Type 0 where
   pub followed : IsSimulatedChangingUses (IsPageAccess port) (IsUnused port.0 0)
       (λ uses. set_slot_state uses port.0 0 (Own (page_operation page)))
       old new
-  pub page_is_awaited : (uses : SlotStates) → IsUnused port.0 0 uses → IsRelated uses old
+  pub page_is_awaited : (uses : SlotStates) → IsUnused port.0 0 uses → SomeMachineAgrees uses old
       → IsPageAwaited port (page_operation page) (length new.tape)
       (set_slot_state uses port.0 0 (Own (page_operation page))) old new
   pub has_port : HasPort new port.0

@@ -1,12 +1,9 @@
 // Laws of the definitions, for callers: the clause is the theorem. These functions do nothing.
 ghost use Rattle.std.specs.Prelude.{ℕ, ◌++◌, List};
 ghost use Rattle.ata_types.specs.declared.Port.{Port};
-ghost use Rattle.adapter.specs.Access.{Access};
-ghost use Rattle.adapter.specs.Device.{Device};
-ghost use Rattle.adapter.specs.Rules.{IsOn};
-ghost use Rattle.refinement.specs.Fragments.{HasNoCommand, IsDrivenBy, SparesOtherPorts};
-ghost use Rattle.refinement.specs.Slots.{IsOver};
-ghost use Rattle.disk_page.specs.PageRequests.{IsPageAccess, LeavesRunning, WaitsInVain};
+ghost use Rattle.adapter.specs.{Access.{Access}, Device.{Device}, Rules.{IsOn}};
+ghost use Rattle.refinement.specs.{Fragments.{HasNoCommand, IsDrivenBy, SparesOtherPorts}, Slots.{IsOver}};
+ghost use Rattle.disk_page.specs.PageRequests.{IsPageAccess, LeavesPortWhileAsking, WaitsForSlot0InVain};
 
 use super::prerequisites::law_prerequisites;
 
@@ -15,8 +12,9 @@ use super::prerequisites::law_prerequisites;
 pub fn law_asking_is_of_one_port()
     ensures of_its_port { (port : Port) (access : Access) → IsPageAccess port access → SparesOtherPorts port access }
     ensures leaves_running { (port : Port) (old new : Device) → IsOn old → IsDrivenBy (IsPageAccess port) old new
-        → LeavesRunning port.0 old new }
-    ensures slots_stay_empty { (port : ℕ) (old new : Device) → LeavesRunning port old new → HasNoCommand (old.port port)
+        → LeavesPortWhileAsking port.0 old new }
+    ensures slots_stay_empty { (port : ℕ) (old new : Device) → LeavesPortWhileAsking port old new
+        → HasNoCommand (old.port port)
         → IsOver (new.port port) 0 → HasNoCommand (new.port port) }
 {
     law_prerequisites();
@@ -24,8 +22,8 @@ pub fn law_asking_is_of_one_port()
 
 /// What accesses tell of a wait in vain, they tell with others after them, and with others before them.
 pub fn law_what_is_told_of_waits_stays()
-    ensures later { (port : Port) (early late : List Access) → WaitsInVain port early
-        → WaitsInVain port (early ++ late) }
-    ensures earlier { (port : Port) (early late : List Access) → WaitsInVain port late
-        → WaitsInVain port (early ++ late) }
+    ensures later { (port : Port) (early late : List Access) → WaitsForSlot0InVain port early
+        → WaitsForSlot0InVain port (early ++ late) }
+    ensures earlier { (port : Port) (early late : List Access) → WaitsForSlot0InVain port late
+        → WaitsForSlot0InVain port (early ++ late) }
 {}

@@ -6,24 +6,16 @@
 #![tactic(auto)]
 
 ghost use Rattle.std.specs.Prelude.{◌≡◌, ◌<◌, ◌+◌, ◌*◌, true, false, None, ℕ};
-ghost use Rattle.adapter.specs.Commands.{command_of};
-ghost use Rattle.adapter.specs.Device.{Device};
-ghost use Rattle.adapter.specs.Rules.{IsOn, HasPort};
-ghost use Rattle.adapter.specs.declared.command.Operation.{Operation};
-ghost use Rattle.refinement.specs.Fragments.{AnyUse, IsSimulated, IsSimulatedAlong};
-ghost use Rattle.refinement.specs.PortFacts.{IsSlotClear};
-ghost use Rattle.refinement.specs.Slots.{SlotStates};
-ghost use Rattle.disk_page.specs.PageRequests.{AreIssuedReadings, GetsPage, IsPageAccess, MayAwaitPage, MayGetPage, page_operation};
-ghost use Rattle.disk_page.specs.PageWaits.{AsksForPage, IsPageAwaited};
-ghost use Rattle.adapter.specs.AccessBounds.{MakesAtMost};
-ghost use Rattle.disk_page.specs.Costs.{ASK_FOR_PAGE_ACCESSES, PAGE_ACCESSES};
+ghost use Rattle.adapter.specs.{Commands.{command_of}, Device.{Device}, Rules.{IsOn, HasPort}, declared.command.Operation.{Operation}, AccessBounds.{MakesAtMost}};
+ghost use Rattle.refinement.specs.{Fragments.{AnySlotStates, IsSimulated, IsSimulatedAlong}, PortFacts.{IsSlotClear}, Slots.{SlotStates}};
+ghost use Rattle.disk_page.specs.{PageRequests.{AreSlot0IssuedReadings, GetsPage, IsPageAccess, MayAwaitPage, MayGetPage, page_operation}, PageWaits.{AsksForPage, IsPageAwaited}, Costs.{ASK_FOR_PAGE_ACCESSES, PAGE_ACCESSES}};
 
 pub mod laws;
 mod prerequisites;
 
 use adapter::{Adapter, Command};
 use ata_types::{
-    DRIVER_BYTES, FRAME_BYTES, Frame, IDENTIFY_DEVICE, MOST_READINGS, PORT_FRAMES, Port,
+    DRIVER_BYTES, DRIVER_FRAMES_PER_PORT, FRAME_BYTES, Frame, IDENTIFY_DEVICE, MOST_READINGS, Port,
     READ_LOG_EXT, SCRATCH_FRAME, Slot,
 };
 use command_table::{prds, write_table};
@@ -64,12 +56,12 @@ fn command(page: Page) -> Command
 /// Issues the command that brings the page to the scratch frame, in slot 0.
 fn ask<A: Adapter>(adapter: &mut A, port: Port, page: Page)
     requires may { MayGetPage port (A.device adapter.old) }
-    ensures on { IsOn (A.device adapter.new) }
+    ensures adapter_is_on { IsOn (A.device adapter.new) }
     ensures asks { AsksForPage port page (A.device adapter.old) (A.device adapter.new) }
     ensures cost { MakesAtMost ASK_FOR_PAGE_ACCESSES (A.access_count adapter.old) (A.access_count adapter.new) }
 {
     law_prerequisites();
-    let scratch = Frame(PORT_FRAMES * u16::from(port.0) + SCRATCH_FRAME);
+    let scratch = Frame(DRIVER_FRAMES_PER_PORT * u16::from(port.0) + SCRATCH_FRAME);
     let prds = prds(&[scratch], PAGE_BYTES);
     write_table(adapter, port, Slot(0), &command(page), prds.as_slice());
     adapter.write(Reg::Px(port, PortReg::Ci), 1);
@@ -78,8 +70,8 @@ fn ask<A: Adapter>(adapter: &mut A, port: Port, page: Page)
 /// Waits until the command in slot 0 isn't issued any more, for 64 readings of PxCI at most.
 fn wait<A: Adapter>(adapter: &mut A, port: Port) -> bool
     requires may { MayAwaitPage port (A.device adapter.old) }
-    ensures followed { IsSimulated (IsPageAccess port) AnyUse (A.device adapter.old) (A.device adapter.new) }
-    ensures on { IsOn (A.device adapter.new) }
+    ensures followed { IsSimulated (IsPageAccess port) AnySlotStates (A.device adapter.old) (A.device adapter.new) }
+    ensures adapter_is_on { IsOn (A.device adapter.new) }
     ensures waiting { (o : Operation) (since : ℕ) (uses : SlotStates) (start : Device)
         → IsPageAwaited port o since uses start (A.device adapter.old)
         → IsPageAwaited port o since uses start (A.device adapter.new) }
@@ -87,8 +79,9 @@ fn wait<A: Adapter>(adapter: &mut A, port: Port) -> bool
         → IsPageAwaited port o since uses start (A.device adapter.old)
         → IsSlotClear ((A.device adapter.new).port port.0) 0 }
     ensures vain { result ≡ false
-        → (((A.device adapter.new).port port.0).notes.command_count ≡ MOST_READINGS)
-        × IsSimulatedAlong (AreIssuedReadings port MOST_READINGS) (IsPageAccess port) AnyUse (A.device adapter.old)
+        → (((A.device adapter.new).port port.0).notes.slot0_issued_count ≡ MOST_READINGS)
+        × IsSimulatedAlong (AreSlot0IssuedReadings port MOST_READINGS) (IsPageAccess port) AnySlotStates
+        (A.device adapter.old)
         (A.device adapter.new) }
     ensures cost { MakesAtMost MOST_READINGS (A.access_count adapter.old) (A.access_count adapter.new) }
 {
@@ -118,7 +111,8 @@ pub fn read_page<A: Adapter>(adapter: &mut A, port: Port, page: Page) -> Option<
         return None;
     }
     let mut bytes = [0; 512];
-    let scratch = FRAME_BYTES * u32::from(PORT_FRAMES * u16::from(port.0) + SCRATCH_FRAME);
+    let scratch = FRAME_BYTES
+        * u32::from(DRIVER_FRAMES_PER_PORT * u16::from(port.0) + SCRATCH_FRAME);
     adapter.load(scratch, &mut bytes);
     Some(bytes)
 }

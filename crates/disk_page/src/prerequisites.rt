@@ -7,12 +7,12 @@ use adapter::laws::{
 use command_table::laws::law_stores_are_of_one_port;
 use refinement::access_kinds::law_fragment_prerequisites;
 use refinement::fragments::{
-    law_agreeing_goes_on, law_other_ports_are_left, law_tape_prerequisites,
+    law_agreeing_goes_on, law_other_ports_are_untouched, law_tape_prerequisites,
     law_unused_slots_are_silent,
 };
 use refinement::laws::{
     law_own_issuing_is_permitted, law_pages_come_when_asked, law_pages_may_be_loaded,
-    law_putting_is_of_one_slot,
+    law_setting_changes_one_slot,
 };
 use refinement::port_facts::{
     law_adapter_stays, law_faults_are_recorded, law_over_stays, law_page_is_awaited,
@@ -35,11 +35,11 @@ pub fn law_prerequisites()
     law_own_issuing_is_permitted();
     law_pages_may_be_loaded();
     law_pages_come_when_asked();
-    law_putting_is_of_one_slot();
+    law_setting_changes_one_slot();
     law_halt_is_ended();
     law_tape_prerequisites();
     law_unused_slots_are_silent();
     law_agreeing_goes_on();
-    law_other_ports_are_left();
+    law_other_ports_are_untouched();
     law_stores_are_of_one_port();
 }

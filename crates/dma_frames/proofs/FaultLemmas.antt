@@ -7,7 +7,7 @@ use Rattle.ata_types.specs.declared.refusal.FrameFault.{FrameFault}
 use Rattle.ata_types.specs.declared.refusal.FrameFault.TheVariants.{FrameForeign, FrameTwice, FrameLent}
 use Rattle.ata_types.specs.declared.refusal.Refusal.TheVariants as refused
 use Rattle.ata_types.specs.declared.refusal.Rule.TheVariants.{Frames}
-use Rattle.block_machine.specs.Rules.{IsForeignAt, IsTwiceAt, IsLentAt, HasFault, RanksBefore, refusal_rank, HasNoFault, IsFirstFault}
+use Rattle.block_machine.specs.Rules.{IsForeignAt, IsRepeatAt, IsLentAt, HasFault, RanksBefore, refusal_rank, HasNoFault, IsFirstFault}
 use Rattle.dma_frames.specs.LeastPlaces.{IsLeast}
 
 module _ (owner : Frame → Option ClientId) (lent : Frame → Option RequestId) (client : ClientId) (frames : List Frame) where
@@ -19,7 +19,7 @@ module _ (owner : Frame → Option ClientId) (lent : Frame → Option RequestId)
       none_before (FrameTwice j) before = elim before [ inl h ↦ absurd (omega arith) | inr h ↦ absurd (omega arith) ]
       none_before (FrameLent j) before = elim before [ inl h ↦ absurd (omega arith) | inr h ↦ absurd (omega arith) ]
 
-  pub first_twice_fault : (i : ℕ) → ((j : ℕ) → IsForeignAt owner client frames j → ⊥) → IsLeast (IsTwiceAt frames) i
+  pub first_twice_fault : (i : ℕ) → ((j : ℕ) → IsForeignAt owner client frames j → ⊥) → IsLeast (IsRepeatAt frames) i
       → IsFirstFault owner lent client frames (FrameTwice i)
   first_twice_fault i own least = (least.0, none_before)
     where
@@ -28,7 +28,7 @@ module _ (owner : Frame → Option ClientId) (lent : Frame → Option RequestId)
       none_before (FrameTwice j) before = elim before [ inl h ↦ absurd (omega arith) | inr h ↦ least.1 j h.1 ]
       none_before (FrameLent j) before = elim before [ inl h ↦ absurd (omega arith) | inr h ↦ absurd (omega arith) ]
 
-  pub first_lent_fault : (i : ℕ) → ((j : ℕ) → IsForeignAt owner client frames j → ⊥) → ((j : ℕ) → IsTwiceAt frames j → ⊥)
+  pub first_lent_fault : (i : ℕ) → ((j : ℕ) → IsForeignAt owner client frames j → ⊥) → ((j : ℕ) → IsRepeatAt frames j → ⊥)
       → IsLeast (IsLentAt lent frames) i → IsFirstFault owner lent client frames (FrameLent i)
   first_lent_fault i own once least = (least.0, none_before)
     where
@@ -37,7 +37,7 @@ module _ (owner : Frame → Option ClientId) (lent : Frame → Option RequestId)
       none_before (FrameTwice j) before = once j
       none_before (FrameLent j) before = elim before [ inl h ↦ absurd (omega arith) | inr h ↦ least.1 j h.1 ]
 
-  pub no_fault : ((j : ℕ) → IsForeignAt owner client frames j → ⊥) → ((j : ℕ) → IsTwiceAt frames j → ⊥)
+  pub no_fault : ((j : ℕ) → IsForeignAt owner client frames j → ⊥) → ((j : ℕ) → IsRepeatAt frames j → ⊥)
       → ((j : ℕ) → IsLentAt lent frames j → ⊥) → HasNoFault owner lent client frames
   no_fault own once free (FrameForeign i) = own i
   no_fault own once free (FrameTwice i) = once i

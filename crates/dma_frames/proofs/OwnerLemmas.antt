@@ -10,7 +10,7 @@ use Rattle.ata_types.specs.declared.request.RequestId.{RequestId}
 use Rattle.ata_types.specs.declared.memory.TheConstants.{MOST_FRAMES}
 use Rattle.ata_types.specs.declared.refusal.FrameFault.TheVariants.{FrameForeign}
 use Rattle.block_machine.specs.Rules.{HasNoFault, IsForeignAt}
-use Rattle.dma_frames.specs.FrameTables.{FrameExtent, ExtentHasFrame, ExtentsApart, owner_of, lent_to, FrameOwnership}
+use Rattle.dma_frames.specs.FrameTables.{FrameExtent, ExtentHasFrame, ExtentsApart, owner_of, lent_to, OwnersAndLoans}
 
 -- the frames of the first i runs are their owners'
 abbrev pub Owned : List FrameExtent → List (Option ClientId) → ℕ → Type 0
@@ -51,7 +51,7 @@ pub none_is : {A : Type 0} {o : Option A} {x : A} → o ≡ None → o ≡ Some 
 none_is p q = let r = sym p ∙ q in cc
 
 -- a frame that is lent is in the memory
-pub lent_within : (t : FrameOwnership) (request : RequestId) (frames : List Frame)
+pub lent_within : (t : OwnersAndLoans) (request : RequestId) (frames : List Frame)
     → All (λ f. lent_to t f ≡ Some request) frames → All (λ f. f.0 < length t.lent) frames
 lent_within t request frames lent k d h = elim (cases_lt (get_or frames k d).0 (length t.lent)) [
   | inl low ↦ low
@@ -59,7 +59,7 @@ lent_within t request frames lent k d h = elim (cases_lt (get_or frames k d).0 (
 ]
 
 -- frames that the client owns are in the memory
-pub owned_within : (t : FrameOwnership) (client : ClientId) (frames : List Frame)
+pub owned_within : (t : OwnersAndLoans) (client : ClientId) (frames : List Frame)
     → ((k : ℕ) → k < length frames → IsForeignAt (owner_of t) client frames k → ⊥) → All (λ f. f.0 < length t.owners) frames
 owned_within t client frames own k d h = elim (cases_lt (get_or frames k d).0 (length t.owners)) [
   | inl low ↦ low
@@ -74,6 +74,6 @@ get_or-copies (suc n) zero x = refl
 get_or-copies (suc n) (suc k) x = get_or-copies n k x
 
 -- frames with no fault are in the memory
-pub faultless_within : (table : FrameOwnership) (client : ClientId) (frames : List Frame) → HasNoFault (owner_of table) (lent_to table) client frames → length table.owners ≡ MOST_FRAMES
+pub faultless_within : (table : OwnersAndLoans) (client : ClientId) (frames : List Frame) → HasNoFault (owner_of table) (lent_to table) client frames → length table.owners ≡ MOST_FRAMES
     → All (λ f. f.0 < MOST_FRAMES) frames
 faultless_within table client frames clear many k d less = let owned = owned_within table client frames (λ j _. clear (FrameForeign j)) k d less in omega (arith, owned, many)

@@ -5,7 +5,7 @@ use Rattle.std.proofs.lemmas.Bool.{cases_eq}
 use Rattle.std.proofs.lemmas.Option.{same_Some}
 use Rattle.ata_types.specs.declared.request.Frame.{Frame}
 use Rattle.ata_types.specs.declared.memory.TheConstants.{MOST_FRAMES}
-use Rattle.block_machine.specs.Rules.{IsTwiceAt}
+use Rattle.block_machine.specs.Rules.{IsRepeatAt}
 use Rattle.dma_frames.specs.FrameBits.{frame_bit}
 use Rattle.dma_frames.proofs.FrameBits.{no_bit}
 
@@ -32,7 +32,7 @@ earlier frames n frame here f w not = elim (cases_eq w.0 n) [
 
 -- a frame whose bit isn't set doesn't stand twice, where the bits of those before it are set
 pub once_by : (words : List ℕ) (frames : List Frame) (n : ℕ) (frame : Frame) → slice_get frames n ≡ Some frame → frame.0 < MOST_FRAMES
-    → ((f : ℕ) → f < MOST_FRAMES → StandsBefore frames n f → frame_bit words f ≡ 1) → (frame_bit words frame.0 ≡ 1 → ⊥) → IsTwiceAt frames n → ⊥
+    → ((f : ℕ) → f < MOST_FRAMES → StandsBefore frames n f → frame_bit words f ≡ 1) → (frame_bit words frame.0 ≡ 1 → ⊥) → IsRepeatAt frames n → ⊥
 once_by words frames n frame here within seen not twice =
     let same : twice.0 ≡ frame = same_Some _ _ (sym twice.4 ∙ here) in
     not (seen frame.0 within (twice.1, twice.2, twice.3 ∙ ap Some same))
@@ -52,5 +52,5 @@ module _ (words : List ℕ) (frames : List Frame) (n : ℕ) (frame : Frame) (her
     )
   ]
 
-  pub once_here : (frame_bit words frame.0 ≡ 1 → ⊥) → IsTwiceAt frames n → ⊥
+  pub once_here : (frame_bit words frame.0 ≡ 1 → ⊥) → IsRepeatAt frames n → ⊥
   once_here = once_by words frames n frame here within (λ f lt. (seen f lt).1)

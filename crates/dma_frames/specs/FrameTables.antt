@@ -6,20 +6,20 @@ use Rattle.ata_types.specs.declared.request.Frame.{Frame}
 use Rattle.ata_types.specs.declared.request.RequestId.{RequestId}
 
 -- by the frame's number: its owner, and the request that it is lent to
-pub record FrameOwnership : Type 0 where
+pub record OwnersAndLoans : Type 0 where
   pub owners : List (Option ClientId)
   pub lent : List (Option RequestId)
 
 -- a frame past the memory is owned by nobody
-abbrev pub owner_of : FrameOwnership → Frame → Option ClientId
+abbrev pub owner_of : OwnersAndLoans → Frame → Option ClientId
 owner_of t f = slice_index_or t.owners f.0 None
 
 -- a frame past the memory is lent to none
-abbrev pub lent_to : FrameOwnership → Frame → Option RequestId
+abbrev pub lent_to : OwnersAndLoans → Frame → Option RequestId
 lent_to t f = slice_index_or t.lent f.0 None
 
 -- these frames are now lent to this request, or to none, and nothing else changed
-pub record LendsOnly (old new : FrameOwnership) (frames : List Frame) (to : Option RequestId) : Type 0 where
+pub record SetsLoanOnly (old new : OwnersAndLoans) (frames : List Frame) (to : Option RequestId) : Type 0 where
   pub owners_are_kept : new.owners ≡ old.owners
   pub these_are_lent : All (λ f. lent_to new f ≡ to) frames
   pub others_are_kept : (f : Frame) → (Contains frames f → ⊥) → lent_to new f ≡ lent_to old f
@@ -33,18 +33,18 @@ abbrev pub ExtentHasFrame : FrameExtent → Frame → Type 0
 ExtentHasFrame run f = (run.1.0 ≤ f.0) × (f.0 < run.1.0 + run.2)
 
 -- The owner is one of 1 to 8, and each frame is one of the largest memory's. A run of no frames may begin anywhere.
-abbrev pub IsOwnerExtent : FrameExtent → Type 0
-IsOwnerExtent run = (1 ≤ run.0.0) × (run.0.0 ≤ 8) × ((f : Frame) → ExtentHasFrame run f → f.0 < MOST_FRAMES)
+abbrev pub IsValidExtent : FrameExtent → Type 0
+IsValidExtent run = (1 ≤ run.0.0) × (run.0.0 ≤ 8) × ((f : Frame) → ExtentHasFrame run f → f.0 < MOST_FRAMES)
 
 -- no frame is in both
 abbrev pub ExtentsApart : FrameExtent → FrameExtent → Type 0
 ExtentsApart a b = (f : Frame) → ExtentHasFrame a f → ExtentHasFrame b f → ⊥
 
 -- Each frame of a run is its owner's, a frame of no run is nobody's, and nothing is lent.
-pub record IsTableOf (runs : List FrameExtent) (t : FrameOwnership) : Type 0 where
-  pub runs_are_owned : (run : FrameExtent) (f : Frame) → Contains runs run → ExtentHasFrame run f → owner_of t f
+pub record IsUnlentTableOf (extents : List FrameExtent) (t : OwnersAndLoans) : Type 0 where
+  pub extents_are_owned : (run : FrameExtent) (f : Frame) → Contains extents run → ExtentHasFrame run f → owner_of t f
       ≡ Some run.0
   pub no_other_is_owned : (f : Frame) (client : ClientId) → owner_of t f ≡ Some client → (run : FrameExtent)
-      × Contains runs run
+      × Contains extents run
       × ExtentHasFrame run f × (run.0 ≡ client)
   pub nothing_is_lent : (f : Frame) → lent_to t f ≡ None

@@ -6,11 +6,8 @@
 #![tactic(auto)]
 
 ghost use Rattle.std.specs.Prelude.{[], ◌≡◌, ◌≢◌, ℕ, ◌<◌, ◌≤◌, length, All, AllPairs, Contains, None, Some, IsSome, IsTrue, false, ◌↔◌, OnOk, IfOk, IfErr, slice_index_or};
-ghost use Rattle.block_machine.specs.Rules.{IsForeignAt, IsTwiceAt, IsLentAt, HasNoFault, IsFirstFault};
-ghost use Rattle.dma_frames.specs.Loan.{Lending};
-ghost use Rattle.dma_frames.specs.LeastPlaces.{IsLeastPlace};
-ghost use Rattle.dma_frames.specs.FrameTables.{FrameExtent, owner_of, lent_to, LendsOnly, ExtentHasFrame, IsOwnerExtent, IsTableOf, ExtentsApart};
-ghost use Rattle.dma_frames.specs.TableLists.{client_of, borrowers_of, owners_of};
+ghost use Rattle.block_machine.specs.Rules.{IsForeignAt, IsRepeatAt, IsLentAt, HasNoFault, IsFirstFault};
+ghost use Rattle.dma_frames.specs.{Loan.{Lending}, LeastPlaces.{IsLeastPlace}, FrameTables.{FrameExtent, owner_of, lent_to, SetsLoanOnly, ExtentHasFrame, IsValidExtent, IsUnlentTableOf, ExtentsApart}, TableLists.{client_of, borrowers_of, owners_of}};
 
 mod frame_bits;
 
@@ -48,7 +45,7 @@ impl Loan {
     /// The frames, in the request's order.
     pub fn frames(&self) -> &[Frame]
         ensures frames { result.now ≡ self.now.frames }
-        ensures few { length result.now ≤ MOST_REQUEST_FRAMES }
+        ensures count_is_allowed { length result.now ≤ MOST_REQUEST_FRAMES }
     {
         &self.frames[..self.count]
     }
@@ -101,7 +98,7 @@ impl LoanPlace {
     pub fn take(&mut self) -> Loan
         requires { IsSome self.old }
         ensures taken { self.old ≡ Some result }
-        ensures left { self.new ≡ None }
+        ensures place_is_empty { self.new ≡ None }
     {
         let LoanPlace { loan, is_held: _ } = mem::replace(self, LoanPlace::empty());
         loan
@@ -131,10 +128,9 @@ pub struct FrameTable {
 }
 
 impl Model for FrameTable {
-    ghost use Rattle.dma_frames.specs.FrameTables.{FrameOwnership};
-    ghost use Rattle.dma_frames.specs.TableLists.{HasAllFrames, borrowers_of, owners_of};
+    ghost use Rattle.dma_frames.specs.{FrameTables.{OwnersAndLoans}, TableLists.{HasAllFrames, borrowers_of, owners_of}};
 
-    ghost Value = { FrameOwnership };
+    ghost Value = { OwnersAndLoans };
 
     ghost view = { λ t. record { owners = owners_of t.owners; lent = borrowers_of t.lent t.ids } };
 
@@ -145,13 +141,13 @@ impl FrameTable {
     /// A table of runs of frames, each by its owner (1 to 8), its first frame and its number of frames, all of them
     /// below `FRAMES`. Frames of no run are owned by nobody. Nothing is lent.
     pub fn new(runs: &[(ClientId, Frame, u16)]) -> Self
-        requires runs { All IsOwnerExtent runs.now }
+        requires extents { All IsValidExtent runs.now }
         requires apart { AllPairs ExtentsApart runs.now }
         ensures owned { (run : FrameExtent) (f : Frame) → Contains runs.now run → ExtentHasFrame run f
             → owner_of result f ≡ Some run.0 }
-        ensures only { (f : Frame) (client : ClientId) → owner_of result f ≡ Some client
+        ensures no_other_is_owned { (f : Frame) (client : ClientId) → owner_of result f ≡ Some client
             → (run : FrameExtent) × Contains runs.now run × ExtentHasFrame run f × (run.0 ≡ client) }
-        ensures free { (f : Frame) → lent_to result f ≡ None }
+        ensures nothing_is_lent { (f : Frame) → lent_to result f ≡ None }
     {
         let mut table = FrameTable::of_nobody();
         table.mark_all(runs);
@@ -163,9 +159,9 @@ impl FrameTable {
         alloc: Global,
         runs: &[(ClientId, Frame, u16)],
     ) -> Result<Box<FrameTable>, AllocError>
-        requires runs { All IsOwnerExtent runs.now }
+        requires extents { All IsValidExtent runs.now }
         requires apart { AllPairs ExtentsApart runs.now }
-        ensures { IfOk result (λ table. IsTableOf runs.now table.value) }
+        ensures { IfOk result (λ table. IsUnlentTableOf runs.now table.value) }
     {
         let mut table = Box::new(alloc, FrameTable::of_nobody())?;
         table.mark_all(runs);
@@ -186,11 +182,11 @@ impl FrameTable {
 
     /// Notes the owners of the runs' frames, where nobody owned a frame.
     fn mark_all(&mut self, runs: &[(ClientId, Frame, u16)])
-        requires runs { All IsOwnerExtent runs.now }
+        requires runs { All IsValidExtent runs.now }
         requires apart { AllPairs ExtentsApart runs.now }
         requires nobody { (f : Frame) → owner_of self.old f ≡ None }
         requires free { (f : Frame) → lent_to self.old f ≡ None }
-        ensures { IsTableOf runs.now self.new }
+        ensures { IsUnlentTableOf runs.now self.new }
     {
         for run in runs {
             set_owner_of_run(&mut self.owners, run);
@@ -261,11 +257,11 @@ impl FrameTable {
 
     /// Lends frames of the client, at most 128, to a request. `check` says whether they can be lent.
     pub fn lend(&mut self, client: ClientId, frames: &[Frame], request: RequestId) -> Loan
-        requires clear { HasNoFault (owner_of self.old) (lent_to self.old) client frames.now }
-        requires few { length frames.now ≤ MOST_REQUEST_FRAMES }
+        requires has_no_fault { HasNoFault (owner_of self.old) (lent_to self.old) client frames.now }
+        requires count_is_allowed { length frames.now ≤ MOST_REQUEST_FRAMES }
         ensures frames { result.frames ≡ frames.now }
         ensures request { result.request ≡ request }
-        ensures lent { LendsOnly self.old self.new frames.now (Some request) }
+        ensures lent { SetsLoanOnly self.old self.new frames.now (Some request) }
     {
         let mut loan = no_frames();
         begin(&mut loan, frames, request);
@@ -281,11 +277,11 @@ impl FrameTable {
         request: RequestId,
         place: &mut LoanPlace,
     )
-        requires clear { HasNoFault (owner_of self.old) (lent_to self.old) client frames.now }
-        requires few { length frames.now ≤ MOST_REQUEST_FRAMES }
+        requires has_no_fault { HasNoFault (owner_of self.old) (lent_to self.old) client frames.now }
+        requires count_is_allowed { length frames.now ≤ MOST_REQUEST_FRAMES }
         requires empty { place.old ≡ None }
         ensures held { place.new ≡ Some (record { frames = frames.now; request = request }) }
-        ensures lent { LendsOnly self.old self.new frames.now (Some request) }
+        ensures lent { SetsLoanOnly self.old self.new frames.now (Some request) }
     {
         begin(&mut place.loan, frames, request);
         place.is_held = true;
@@ -295,7 +291,7 @@ impl FrameTable {
     /// Takes the frames of a loan back: they are lent to none.
     pub fn give_back(&mut self, loan: Loan)
         requires { All (λ f. lent_to self.old f ≡ Some loan.request) loan.frames }
-        ensures { LendsOnly self.old self.new loan.frames None }
+        ensures { SetsLoanOnly self.old self.new loan.frames None }
     {
         note_returned(&mut self.lent, &self.ids, loan.frames());
         destroy(loan);
@@ -305,8 +301,9 @@ impl FrameTable {
     pub fn give_back_at(&mut self, place: &mut LoanPlace)
         requires { (loan : Lending) × (place.old ≡ Some loan)
             × All (λ f. lent_to self.old f ≡ Some loan.request) loan.frames }
-        ensures lends { (loan : Lending) → place.old ≡ Some loan → LendsOnly self.old self.new loan.frames None }
-        ensures left { place.new ≡ None }
+        ensures frames_are_returned { (loan : Lending) → place.old ≡ Some loan
+            → SetsLoanOnly self.old self.new loan.frames None }
+        ensures place_is_empty { place.new ≡ None }
     {
         note_returned(&mut self.lent, &self.ids, place.loan.frames());
         place.is_held = false;
@@ -390,7 +387,7 @@ fn destroy(loan: Loan) {
 /// The first place whose frame stands at an earlier place too. Each frame that was seen has its bit set.
 fn first_twice(frames: &[Frame]) -> Option<usize>
     requires { All (λ f. f.0 < FRAMES) frames.now }
-    ensures { IsLeastPlace (IsTwiceAt frames.now) result }
+    ensures { IsLeastPlace (IsRepeatAt frames.now) result }
 {
     let mut seen = [0; BIT_WORDS];
     for (place, frame) in frames.iter().enumerate() {
@@ -456,7 +453,7 @@ fn client_of(number: u8) -> Option<ClientId>
 
 /// Notes the owner of the run's frames.
 fn set_owner_of_run(owners: &mut [u8], run: &(ClientId, Frame, u16))
-    requires run { IsOwnerExtent run.now }
+    requires run { IsValidExtent run.now }
     requires memory { length owners.old ≡ FRAMES }
     ensures these { (f : Frame) → ExtentHasFrame run.now f
         → slice_index_or (owners_of owners.new) f.0 None ≡ Some run.now.0 }

@@ -10,11 +10,11 @@ use Rattle.adapter.specs.Device.{Device, DevicePort}
 use Rattle.adapter.specs.declared.access.DeviceStep.{DeviceStep}
 use Rattle.adapter.specs.declared.tape.Entry.{Entry}
 use Rattle.adapter.specs.declared.tape.Entry.TheVariants as entry
-use Rattle.refinement.specs.Errors.{IsFatalOf}
+use Rattle.refinement.specs.Errors.{IsFatalErrorOf}
 use Rattle.refinement.specs.PortFacts.{Undisturbed, IsDisturbance, IsFaultOf, ShowsNoTrouble}
-use Rattle.refinement.specs.Links.{IsPlugEvent}
+use Rattle.refinement.specs.PreservedParts.{IsPlugEvent}
 use Rattle.refinement.specs.Tape.{TellsDeviceSteps}
-use Rattle.block_machine.specs.Events.{AbstractCall, AbstractState, Submit, StoreAt, LoadAt, Service, Tick, Reset, RevokeOf, State, Device as Told, CallResult, Submitted, Stored, Loaded, Served, WasReset, WasRevoked, Shown, Stepped, IsAnswered, HasTimedOut, RestartsTimedOut, changes_disk, abstract_after}
+use Rattle.block_machine.specs.Events.{AbstractCall, AbstractState, Submit, StoreAt, LoadAt, Service, Tick, Reset, RevokeOf, State, StepDevice as Told, AbstractCallResult, Submitted, Stored, Loaded, Replied, WasReset, WasRevoked, PortStateShown, Stepped, ResultMatchesSteps, TimesOutAtTick, RestartsTimedOut, changes_disk, abstract_after}
 use Rattle.block_machine.specs.Histories.{JointState, JointEvent}
 use Rattle.block_machine.specs.Ports.{Ports, Evidence, IsStoppedOrStuck}
 use Rattle.block_machine.specs.State.{Machine}
@@ -22,7 +22,7 @@ use Rattle.block_machine.specs.Steps.{Step}
 use Rattle.identify.specs.declared.wanted.Wanted.{Wanted}
 use Rattle.driver_history.specs.EvidenceHandling.{IsDisturbed, IsLeftAlone, ServicesReadyPort, HandlesEvidenceAt}
 use Rattle.driver_history.specs.Claims.{IsFaultFreeOutcome, IsSpared}
-use Rattle.driver_history.specs.Evidence.{TapeGainsEntry, HasErrors, HasFatalErrors, IsEvidencedOf, IsGone, ShowsFailure, StaysHealthy}
+use Rattle.driver_history.specs.Evidence.{TapeGainsEntry, ReadyPortHasErrors, ReadyPortHasFatalErrors, IsEvidencedOf, ReadyPortHasLinkChange, ShowsFailure, StaysHealthy}
 use Rattle.error_recovery.specs.Evidence.{GainsSinceStart, ShowsFatal}
 use Rattle.driver_history.specs.Histories.{LosesNoPortError, CallCorresponds}
 use Rattle.driver_history.specs.AccessTrace.{LeavesEngine}
@@ -52,7 +52,7 @@ fault_disturbs port (entry.Move x) is = absurd is
 fault_disturbs port (entry.Clear x) is = absurd is
 fault_disturbs port (entry.Done x) is = absurd is
 
-fatal_disturbs : (port : ℕ) (e : Entry) → IsFatalOf port e → IsDisturbance port e
+fatal_disturbs : (port : ℕ) (e : Entry) → IsFatalErrorOf port e → IsDisturbance port e
 fatal_disturbs port (entry.Fatal x) is = is
 fatal_disturbs port (entry.Fault x) is = absurd is
 fatal_disturbs port (entry.Unplug x) is = absurd is
@@ -77,7 +77,7 @@ no_failure p quiet f = ⊎_elim (no_fatal p quiet) (λ fault. false≢true (sym 
 pub gains_of : (port : ℕ) (Is : Entry → Type 0) (old new : Device) → GainsSinceStart Is port old new → TapeGainsEntry Is old new
 gains_of port Is old new g = record {
   new_entries = g.before ++ (g.entry ∷ g.later);
-  tape_is = g.tape;
+  tape_is = g.tape_grows;
   entry = g.entry;
   entry_is_new = Contains-append_right g.before (g.entry ∷ g.later) g.entry (0, omega arith, refl);
   entry_is_of_kind = g.is_of_kind;
@@ -86,46 +86,46 @@ gains_of port Is old new g = record {
 -- a port that stays healthy has no trouble that could be lost
 pub untroubled : (evidence : Evidence) (old : JointState Device) (ports : Ports) (new : Device) (port : Port) → StaysHealthy port.0 old.device new → LosesNoPortError evidence old ports new port
 untroubled evidence old ports new port healthy = record {
-  errors = λ ready port_error. absurd (⊎_elim
+  errors_are_handled_or_shown = λ ready port_error. absurd (⊎_elim
       (no_failure (old.device.port port.0) healthy.port_runs_well.shows_no_trouble)
       (λ g. ⊎_elim
       (none_gained port.0 (IsFaultOf port.0) old.device new (fault_disturbs port.0) healthy.undisturbed)
-      (none_gained port.0 (IsFatalOf port.0) old.device new (fatal_disturbs port.0) healthy.undisturbed)
+      (none_gained port.0 (IsFatalErrorOf port.0) old.device new (fatal_disturbs port.0) healthy.undisturbed)
       g)
       port_error);
-  fault = λ ready g. absurd (none_gained port.0 (IsFaultOf port.0) old.device new (fault_disturbs port.0) healthy.undisturbed (gains_of port.0 (IsFaultOf port.0) old.device new g));
-  fatal = λ ready g. absurd (none_gained port.0 (IsFatalOf port.0) old.device new (fatal_disturbs port.0) healthy.undisturbed (gains_of port.0 (IsFatalOf port.0) old.device new g));
-  disk = λ ready g. absurd (none_gained port.0 (IsPlugEvent port.0) old.device new (plugging_disturbs port.0) healthy.undisturbed (gains_of port.0 (IsPlugEvent port.0) old.device new g));
-  changes = λ ready port_error. absurd (⊎_elim
-      (λ change. ⊎_elim (λ n. false≢true (sym healthy.port_runs_well.shows_no_trouble.serr_n ∙ n)) (λ x. false≢true (sym healthy.port_runs_well.shows_no_trouble.serr_x ∙ x)) change)
+  new_fault_is_shown = λ ready g. absurd (none_gained port.0 (IsFaultOf port.0) old.device new (fault_disturbs port.0) healthy.undisturbed (gains_of port.0 (IsFaultOf port.0) old.device new g));
+  new_fatal_is_shown = λ ready g. absurd (none_gained port.0 (IsFatalErrorOf port.0) old.device new (fatal_disturbs port.0) healthy.undisturbed (gains_of port.0 (IsFatalErrorOf port.0) old.device new g));
+  new_plug_event_is_shown = λ ready g. absurd (none_gained port.0 (IsPlugEvent port.0) old.device new (plugging_disturbs port.0) healthy.undisturbed (gains_of port.0 (IsPlugEvent port.0) old.device new g));
+  changes_are_handled_or_shown = λ ready port_error. absurd (⊎_elim
+      (λ change. ⊎_elim (λ n. false≢true (sym healthy.port_runs_well.shows_no_trouble.serr_n_is_clear ∙ n)) (λ x. false≢true (sym healthy.port_runs_well.shows_no_trouble.serr_x_is_clear ∙ x)) change)
       (none_gained port.0 (IsPlugEvent port.0) old.device new (plugging_disturbs port.0) healthy.undisturbed)
       port_error);
 }
 
 -- nothing of what trouble is named for is so of it
 module _ (port : Port) (old : JointState Device) (new : Device) (healthy : StaysHealthy port.0 old.device new) where
-  pub no_errors : HasErrors port old new → ⊥
+  pub no_errors : ReadyPortHasErrors port old new → ⊥
   no_errors e = ⊎_elim
       (no_failure (old.device.port port.0) healthy.port_runs_well.shows_no_trouble)
       (λ g. ⊎_elim
       (none_gained port.0 (IsFaultOf port.0) old.device new (fault_disturbs port.0) healthy.undisturbed)
-      (none_gained port.0 (IsFatalOf port.0) old.device new (fatal_disturbs port.0) healthy.undisturbed)
+      (none_gained port.0 (IsFatalErrorOf port.0) old.device new (fatal_disturbs port.0) healthy.undisturbed)
       g)
       e.1
 
-  pub no_fatal_errors : HasFatalErrors port old new → ⊥
+  pub no_fatal_errors : ReadyPortHasFatalErrors port old new → ⊥
   no_fatal_errors e = ⊎_elim
       (no_fatal (old.device.port port.0) healthy.port_runs_well.shows_no_trouble)
-      (none_gained port.0 (IsFatalOf port.0) old.device new (fatal_disturbs port.0) healthy.undisturbed)
+      (none_gained port.0 (IsFatalErrorOf port.0) old.device new (fatal_disturbs port.0) healthy.undisturbed)
       e.1
 
   pub no_plugging : TapeGainsEntry (IsPlugEvent port.0) old.device new → ⊥
   no_plugging = none_gained port.0 (IsPlugEvent port.0) old.device new (plugging_disturbs port.0) healthy.undisturbed
 
-  pub not_gone : IsGone port old new → ⊥
+  pub not_gone : ReadyPortHasLinkChange port old new → ⊥
   not_gone g = ⊎_elim
-      (λ change. ⊎_elim (λ n. false≢true (sym healthy.port_runs_well.shows_no_trouble.serr_n ∙ n)) (λ x. false≢true (sym healthy.port_runs_well.shows_no_trouble.serr_x ∙ x)) change)
-      (λ more. ⊎_elim (λ missing. missing healthy.port_runs_well.det) no_plugging more)
+      (λ change. ⊎_elim (λ n. false≢true (sym healthy.port_runs_well.shows_no_trouble.serr_n_is_clear ∙ n)) (λ x. false≢true (sym healthy.port_runs_well.shows_no_trouble.serr_x_is_clear ∙ x)) change)
+      (λ more. ⊎_elim (λ missing. missing healthy.port_runs_well.det_is_3) no_plugging more)
       g.1
 
 -- ---- a call in which a port stays healthy
@@ -135,8 +135,8 @@ module _ (told : EntryIsTold) (wanted : List Wanted) (old : JointState Device) (
   p : DevicePort
   p = old.device.port port.0
 
-  ev : IsEvidencedOf h.event.ask h.event.said t.accesses old h.event.ports h.device h.event.evidence port
-  ev = t.is_evidenced.port port
+  ev : IsEvidencedOf h.event.call h.event.result t.accesses old h.event.ports h.device h.event.evidence port
+  ev = t.is_evidenced.each_port_is_evidenced port
 
   changes : list_any (changes_disk port) h.event.steps ≡ true → ⊥
   changes is =
@@ -144,9 +144,9 @@ module _ (told : EntryIsTold) (wanted : List Wanted) (old : JointState Device) (
       no_plugging port old h.device healthy (record { new_entries = t.is_backed.new_entries; tape_is = t.is_backed.tape_is; entry = x.0; entry_is_new = x.1; entry_is_of_kind = x.2 })
 
   undisturbed : IsDisturbed h.event.evidence h.event.steps port → ⊥
-  undisturbed d = ⊎_elim (λ failed. no_errors port old h.device healthy (ev.failed_only failed)) (λ rest. ⊎_elim (λ g. not_gone port old h.device healthy (ev.link_changed_only g)) changes rest) d
+  undisturbed d = ⊎_elim (λ failed. no_errors port old h.device healthy (ev.showing_error_only failed)) (λ rest. ⊎_elim (λ g. not_gone port old h.device healthy (ev.link_changed_only g)) changes rest) d
 
-  module _ (asks : h.event.ask ≡ Service) (ready : old.abstract.ports.state port ≡ Ready) where
+  module _ (asks : h.event.call ≡ Service) (ready : old.abstract.ports.state port ≡ Ready) where
     serves : ServicesReadyPort old.abstract h.event.evidence h.event.steps (abstract_after old.abstract h.event) port
     serves =
         let Heeded : AbstractCall DeviceStep → Type 0 = λ ask. HandlesEvidenceAt port ask old.abstract h.event.evidence h.event.steps (abstract_after old.abstract h.event) in
@@ -160,7 +160,7 @@ module _ (told : EntryIsTold) (wanted : List Wanted) (old : JointState Device) (
     spared = record {
       port_is_same = alone.port_is_same;
       outcomes_are_fault_free = λ e o here at. subst (λ (ask : AbstractCall DeviceStep). IsFaultFreeOutcome ask o) (sym asks) (⊎_elim (λ x. x) (λ x. x) (alone.only_ok_is_told e o here at));
-      engine_is_left = ⊎_elim (λ a. a) (λ i. absurd (alone.is_not_interrupted i)) ev.stopped_all;
+      engine_is_left = ⊎_elim (λ a. a) (λ i. absurd (alone.is_not_interrupted i)) ev.engine_is_left_or_stopped;
     }
 
   -- nothing stopped it, unless it is a tick that restarts it, or a reset
@@ -176,24 +176,24 @@ module _ (told : EntryIsTold) (wanted : List Wanted) (old : JointState Device) (
   no_interrupt (State at) heeds other spares ready i = heeds i
   no_interrupt (Told step) heeds other spares ready i = heeds i
 
-  pub engine_left : h.event.ask ≢ Reset → (h.event.ask ≡ Tick → IsStoppedOrStuck h.event.evidence port → ⊥) → old.abstract.ports.state port ≡ Ready → All (LeavesEngine port) t.accesses
-  engine_left other spares ready = ⊎_elim (λ a. a) (λ i. absurd (no_interrupt h.event.ask (t.ports_correspond port).handles_evidence other spares ready i)) ev.stopped_all
+  pub engine_left : h.event.call ≢ Reset → (h.event.call ≡ Tick → IsStoppedOrStuck h.event.evidence port → ⊥) → old.abstract.ports.state port ≡ Ready → All (LeavesEngine port) t.accesses
+  engine_left other spares ready = ⊎_elim (λ a. a) (λ i. absurd (no_interrupt h.event.call (t.ports_correspond port).handles_evidence other spares ready i)) ev.engine_is_left_or_stopped
 
-tick_restarts : (said : CallResult) (old : AbstractState) (evidence : Evidence) (steps : List Step) (new : AbstractState) → IsAnswered {D = DeviceStep} Tick said old evidence steps new → RestartsTimedOut old evidence steps new
-tick_restarts (Served replies) old evidence steps new a = a.restarts_timed_out
+tick_restarts : (said : AbstractCallResult) (old : AbstractState) (evidence : Evidence) (steps : List Step) (new : AbstractState) → ResultMatchesSteps {D = DeviceStep} Tick said old evidence steps new → RestartsTimedOut old evidence steps new
+tick_restarts (Replied replies) old evidence steps new a = a.restarts_timed_out
 tick_restarts (Submitted r) old evidence steps new a = absurd a
 tick_restarts (Stored r) old evidence steps new a = absurd a
 tick_restarts (Loaded r) old evidence steps new a = absurd a
 tick_restarts (WasReset r) old evidence steps new a = absurd a
 tick_restarts (WasRevoked r) old evidence steps new a = absurd a
-tick_restarts (Shown r) old evidence steps new a = absurd a
+tick_restarts (PortStateShown r) old evidence steps new a = absurd a
 tick_restarts (Stepped r) old evidence steps new a = absurd a
 
-pub restarts_of : (ask : AbstractCall DeviceStep) (said : CallResult) (old : AbstractState) (evidence : Evidence) (steps : List Step) (new : AbstractState) → IsAnswered ask said old evidence steps new → ask ≡ Tick
+pub restarts_of : (ask : AbstractCall DeviceStep) (said : AbstractCallResult) (old : AbstractState) (evidence : Evidence) (steps : List Step) (new : AbstractState) → ResultMatchesSteps ask said old evidence steps new → ask ≡ Tick
     → RestartsTimedOut old evidence steps new
-restarts_of ask said old evidence steps new answered asks = tick_restarts said old evidence steps new (subst (λ (a : AbstractCall DeviceStep). IsAnswered a said old evidence steps new) asks answered)
+restarts_of ask said old evidence steps new answered asks = tick_restarts said old evidence steps new (subst (λ (a : AbstractCall DeviceStep). ResultMatchesSteps a said old evidence steps new) asks answered)
 
 -- a tick interrupts none that it doesn't bring to its limit
-pub tick_spares : (ask : AbstractCall DeviceStep) (said : CallResult) (old : AbstractState) (evidence : Evidence) (steps : List Step) (new : AbstractState) (port : Port) → IsAnswered ask said old evidence steps new
-    → (ask ≡ Tick → HasTimedOut old port → ⊥) → ask ≡ Tick → IsStoppedOrStuck evidence port → ⊥
-tick_spares ask said old evidence steps new port answered young asks i = young asks (((restarts_of ask said old evidence steps new answered asks).is_interrupted port).1 i)
+pub tick_spares : (ask : AbstractCall DeviceStep) (said : AbstractCallResult) (old : AbstractState) (evidence : Evidence) (steps : List Step) (new : AbstractState) (port : Port) → ResultMatchesSteps ask said old evidence steps new
+    → (ask ≡ Tick → TimesOutAtTick old port → ⊥) → ask ≡ Tick → IsStoppedOrStuck evidence port → ⊥
+tick_spares ask said old evidence steps new port answered young asks i = young asks (((restarts_of ask said old evidence steps new answered asks).timed_out_iff_interrupted port).1 i)

@@ -14,12 +14,12 @@ use Rattle.adapter.specs.Device.{Device, DevicePort}
 use Rattle.adapter.specs.Steps.{Steps}
 use Rattle.adapter.specs.declared.tape.Entry.{Entry}
 use Rattle.refinement.specs.Fragments.{TapeGrows}
-use Rattle.refinement.specs.Errors.{IsFatalOf, NoneFails, NoneFatal}
+use Rattle.refinement.specs.Errors.{IsFatalErrorOf, NoFaults, NoFatalErrors}
 use Rattle.refinement.specs.PortFacts.{IsFaultOf}
-use Rattle.refinement.specs.Links.{IsPlugEvent, NoPlugEvents, DoesNotWrite}
+use Rattle.refinement.specs.PreservedParts.{IsPlugEvent, NoPlugEvents, DoesNotWrite}
 use Rattle.error_recovery.specs.Evidence.{ShowsFatal}
-use Rattle.driver_history.specs.Evidence.{TapeGainsEntry, ShowsChange, ShowsFailure}
-use Rattle.driver_history.specs.Laws.{Laws}
+use Rattle.driver_history.specs.Evidence.{TapeGainsEntry, ShowsLinkChange, ShowsFailure}
+use Rattle.driver_history.specs.Laws.{AccessLaws}
 
 -- ---- what the tape gained
 
@@ -55,7 +55,7 @@ Shows links p = p.serr_x ≡ true
 -- the entry is one of the port
 abbrev pub IsOne : TroubleKind → ℕ → Entry → Type 0
 IsOne faults port = IsFaultOf port
-IsOne fatals port = IsFatalOf port
+IsOne fatals port = IsFatalErrorOf port
 IsOne disks port = IsPlugEvent port
 IsOne links port = λ e. ⊥
 
@@ -70,8 +70,8 @@ register_of links = Serr
 abbrev pub Tells : TroubleKind → DevicePort → Type 0
 Tells faults p = ShowsFailure p
 Tells fatals p = ShowsFailure p
-Tells disks p = ShowsChange p
-Tells links p = ShowsChange p
+Tells disks p = ShowsLinkChange p
+Tells links p = ShowsLinkChange p
 
 -- where one is shown, that is
 pub told : (kind : TroubleKind) (p : DevicePort) → Shows kind p → Tells kind p
@@ -81,7 +81,7 @@ told disks p set = inl set
 told links p set = inr set
 
 -- which is trouble
-pub is_trouble : (kind : TroubleKind) (p : DevicePort) → Tells kind p → ShowsFailure p ⊎ ShowsChange p
+pub is_trouble : (kind : TroubleKind) (p : DevicePort) → Tells kind p → ShowsFailure p ⊎ ShowsLinkChange p
 is_trouble faults p tells = inl tells
 is_trouble fatals p tells = inl tells
 is_trouble disks p tells = inr tells
@@ -108,7 +108,7 @@ pub failure_still : (port : ℕ) (old new : Device) → ((kind : TroubleKind) �
 failure_still port old new shown f = ⊎_elim (λ fatal. inl ((shown fatals).still fatal)) (λ fault. inr ((shown faults).still fault)) f
 
 -- and so is a change
-pub change_still : (port : ℕ) (old new : Device) → ((kind : TroubleKind) → AreShown kind port old new) → ShowsChange (old.port port) → ShowsChange (new.port port)
+pub change_still : (port : ℕ) (old new : Device) → ((kind : TroubleKind) → AreShown kind port old new) → ShowsLinkChange (old.port port) → ShowsLinkChange (new.port port)
 change_still port old new shown c = ⊎_elim (λ n. inl ((shown disks).still n)) (λ x. inr ((shown links).still x)) c
 
 pub tells_still : (kind : TroubleKind) (port : ℕ) (old new : Device) → ((kind : TroubleKind) → AreShown kind port old new) → Tells kind (old.port port) → Tells kind (new.port port)
@@ -128,9 +128,9 @@ by_bit Such old new was is tells = (
     unless : (is ≡ false → ⊥) → is ≡ true
     unless not = ⊎_elim (λ set. set) (λ clear. absurd (not clear)) (cases_Bool is)
 
-module _ (laws : Laws) where
+module _ (laws : AccessLaws) where
   -- what isn't shown wasn't, and hasn't come
-  of_faults : (port : ℕ) (old new : Device) → ((new.port port).is 30 ≡ false → ((old.port port).is 30 ≡ false) × NoneFails port old new) → AreShown faults port old new
+  of_faults : (port : ℕ) (old new : Device) → ((new.port port).is 30 ≡ false → ((old.port port).is 30 ≡ false) × NoFaults port old new) → AreShown faults port old new
   of_faults port old new tells =
       let b = by_bit (IsFaultOf port) old new ((old.port port).is 30) ((new.port port).is 30) (λ clear. let t = tells clear in (t.0, (t.1.new_entries, t.1.tape_is, t.1.no_such_entry))) in
       record { still = b.0; came = b.1 }
@@ -144,23 +144,23 @@ module _ (laws : Laws) where
   of_links port old new keeps = record { still = keeps; came = λ g. absurd g.entry_is_of_kind }
 
   of_fatals : (port : ℕ) (old new : Device)
-      → (((place : ℕ) → 27 ≤ place → place ≤ 29 → (new.port port).is place ≡ false) → ((place : ℕ) → 27 ≤ place → place ≤ 29 → (old.port port).is place ≡ false) × NoneFatal port old new)
+      → (((place : ℕ) → 27 ≤ place → place ≤ 29 → (new.port port).is place ≡ false) → ((place : ℕ) → 27 ≤ place → place ≤ 29 → (old.port port).is place ≡ false) × NoFatalErrors port old new)
       → AreShown fatals port old new
   of_fatals port old new tells = record {
-    still = λ shown. laws.fatal_unless (new.port port) (λ clear. false≢true (sym ((tells clear).0 shown.place shown.from shown.to) ∙ shown.cause_is_set));
-    came = λ g. laws.fatal_unless (new.port port) (λ clear. let none = (tells clear).1 in denies (IsFatalOf port) old new none.new_entries none.tape_is none.no_such_entry g);
+    still = λ shown. laws.shows_fatal_unless_clear (new.port port) (λ clear. false≢true (sym ((tells clear).0 shown.place shown.from shown.to) ∙ shown.cause_is_set));
+    came = λ g. laws.shows_fatal_unless_clear (new.port port) (λ clear. let none = (tells clear).1 in denies (IsFatalErrorOf port) old new none.new_entries none.tape_is none.no_such_entry g);
   }
 
   -- the device's own steps clear none
   pub steps_show : (kind : TroubleKind) (port : ℕ) (old new : Device) → old.hr ≡ false → Steps old new → AreShown kind port old new
-  steps_show faults port old new on steps = of_faults port old new (laws.faults_steps port old new on steps)
-  steps_show fatals port old new on steps = of_fatals port old new (laws.fatals_steps port old new on steps)
-  steps_show disks port old new on steps = of_disks port old new (laws.disks_steps port old new on steps)
-  steps_show links port old new on steps = of_links port old new (laws.changes_steps port old new on steps).serr_x
+  steps_show faults port old new on steps = of_faults port old new (laws.steps_end_tfes_clear_no_fault port old new on steps)
+  steps_show fatals port old new on steps = of_fatals port old new (laws.steps_end_fatal_clear_no_fatal port old new on steps)
+  steps_show disks port old new on steps = of_disks port old new (laws.steps_end_n_clear_no_plug_event port old new on steps)
+  steps_show links port old new on steps = of_links port old new (laws.steps_keep_errors port old new on steps).serr_x_is_kept
 
   -- nor does an access that doesn't write their register
   pub access_shows : (kind : TroubleKind) (port : Port) (access : Access) (old new : Device) → old.hr ≡ false → DoesNotWrite (Px port (register_of kind)) access → Does access old new → AreShown kind port.0 old new
-  access_shows faults port access old new on spares does = of_faults port.0 old new (laws.faults_access port access old new on spares does)
-  access_shows fatals port access old new on spares does = of_fatals port.0 old new (laws.fatals_access port access old new on spares does)
-  access_shows disks port access old new on spares does = of_disks port.0 old new (laws.disks_access port access old new on spares does)
-  access_shows links port access old new on spares does = of_links port.0 old new (laws.changes_access port access old new on spares does).1
+  access_shows faults port access old new on spares does = of_faults port.0 old new (laws.access_ends_tfes_clear_no_fault port access old new on spares does)
+  access_shows fatals port access old new on spares does = of_fatals port.0 old new (laws.access_ends_fatal_clear_no_fatal port access old new on spares does)
+  access_shows disks port access old new on spares does = of_disks port.0 old new (laws.access_ends_n_clear_no_plugs port access old new on spares does)
+  access_shows links port access old new on spares does = of_links port.0 old new (laws.access_keeps_serr_n_and_x port access old new on spares does).1

@@ -5,7 +5,7 @@ use Rattle.ata_types.specs.declared.Port.{Port}
 use Rattle.ata_types.specs.declared.request.Outcome.{Outcome}
 use Rattle.adapter.specs.Device.{Device}
 use Rattle.adapter.specs.declared.access.DeviceStep.{DeviceStep}
-use Rattle.block_machine.specs.Events.{AbstractCall, Submit, StoreAt, LoadAt, Service, Tick, Reset, RevokeOf, State, Device as Told, CallResult, Submitted, Stored, Loaded, WasRevoked, Shown, Stepped, AbstractState, IsAnswered, HasTimedOut, IsByServer, abstract_after}
+use Rattle.block_machine.specs.Events.{AbstractCall, Submit, StoreAt, LoadAt, Service, Tick, Reset, RevokeOf, State, StepDevice as Told, AbstractCallResult, Submitted, Stored, Loaded, WasRevoked, PortStateShown, Stepped, AbstractState, ResultMatchesSteps, TimesOutAtTick, IsByServer, abstract_after}
 use Rattle.block_machine.specs.Histories.{JointState, JointEvent, joint_state_after}
 use Rattle.block_machine.specs.Ports.{Ports, Evidence, SamePort}
 use Rattle.block_machine.specs.State.{Pending}
@@ -20,7 +20,7 @@ use Rattle.driver_history.proofs.Leaving.{left_well}
 use Rattle.driver_history.proofs.Resting.{belongs_of}
 
 -- calls that are neither a service, nor a tick, nor a reset leave each port what it is, and answer nobody but where a grant is revoked
-same_port : (ask : AbstractCall DeviceStep) (said : CallResult) (old : AbstractState) (evidence : Evidence) (steps : List Step) (new : AbstractState) (port : Port) → IsAnswered ask said old evidence steps new
+same_port : (ask : AbstractCall DeviceStep) (said : AbstractCallResult) (old : AbstractState) (evidence : Evidence) (steps : List Step) (new : AbstractState) (port : Port) → ResultMatchesSteps ask said old evidence steps new
     → ask ≢ Service → ask ≢ Tick → ask ≢ Reset → SamePort old.ports new.ports port
 same_port (Submit r) (Submitted (Ok id)) old evidence steps new port a one two three = a.2 port
 same_port (Submit r) (Submitted (Err refusal)) old evidence steps new port a one two three = a.2 port
@@ -30,7 +30,7 @@ same_port (StoreAt client frame offset bytes) (Stored None) old evidence steps n
 same_port (StoreAt client frame offset bytes) (Stored (Some fault)) old evidence steps new port a one two three = a.0 port
 same_port (LoadAt client frame offset count) (Loaded (Ok bytes)) old evidence steps new port a one two three = a.0 port
 same_port (LoadAt client frame offset count) (Loaded (Err fault)) old evidence steps new port a one two three = a.0 port
-same_port (State at) (Shown state) old evidence steps new port a one two three = a.2 port
+same_port (State at) (PortStateShown state) old evidence steps new port a one two three = a.2 port
 same_port (Told step) (Stepped true) old evidence steps new port a one two three = a.1 port
 same_port (Told step) (Stepped false) old evidence steps new port a one two three = a.1 port
 same_port Service said old evidence steps new port a one two three = absurd (one refl)
@@ -80,21 +80,21 @@ module _ (told : EntryIsTold) (steps : KeepsWell) (wanted : List Wanted) (first 
 
     engine : All (LeavesEngine port) t.accesses
     engine = engine_left told wanted old h t port healthy.stays_healthy healthy.is_no_reset
-        (tick_spares h.event.ask h.event.said old.abstract h.event.evidence h.event.steps (abstract_after old.abstract h.event) port history.1.is_answered healthy.has_not_timed_out) healthy.ready
+        (tick_spares h.event.call h.event.result old.abstract h.event.evidence h.event.steps (abstract_after old.abstract h.event) port history.1.result_matches_steps healthy.has_not_timed_out) healthy.ready
 
-    left_alone : Kind h.event.ask → IsSpared old h t.accesses port
+    left_alone : Kind h.event.call → IsSpared old h t.accesses port
     left_alone (service asks) = spared told wanted old h t port healthy.stays_healthy asks healthy.ready
     left_alone (reset asks) = absurd (healthy.is_no_reset asks)
     left_alone (tick asks) =
-        let r = restarts_of h.event.ask h.event.said old.abstract h.event.evidence h.event.steps (abstract_after old.abstract h.event) history.1.is_answered asks in
+        let r = restarts_of h.event.call h.event.result old.abstract h.event.evidence h.event.steps (abstract_after old.abstract h.event) history.1.result_matches_steps asks in
         record {
-          port_is_same = ⊎_elim (λ (calm : _ × _). calm.1) (λ (hung : _ × _). absurd (healthy.has_not_timed_out asks hung.0)) (r.ports port);
-          outcomes_are_fault_free = λ e o here own. absurd (healthy.has_not_timed_out asks (subst (HasTimedOut old.abstract) own (r.only_timed_out_are_answered e o here)));
+          port_is_same = ⊎_elim (λ (calm : _ × _). calm.1) (λ (hung : _ × _). absurd (healthy.has_not_timed_out asks hung.0)) (r.each_port_is_same_or_restarts port);
+          outcomes_are_fault_free = λ e o here own. absurd (healthy.has_not_timed_out asks (subst (TimesOutAtTick old.abstract) own (r.only_timed_out_are_answered e o here)));
           engine_is_left = engine;
         }
     left_alone (other one two three) = record {
-      port_is_same = same_port h.event.ask h.event.said old.abstract h.event.evidence h.event.steps (abstract_after old.abstract h.event) port history.1.is_answered one two three;
-      outcomes_are_fault_free = λ e o here own. ⊎_elim (λ (d : ⊥). absurd d) (λ s. tells_calmly h.event.ask h.event.ports e o s one two three) (belongs_of h.event.ask h.event.ports h.event.steps history.1.steps_are_of_call (Answer e o) here);
+      port_is_same = same_port h.event.call h.event.result old.abstract h.event.evidence h.event.steps (abstract_after old.abstract h.event) port history.1.result_matches_steps one two three;
+      outcomes_are_fault_free = λ e o here own. ⊎_elim (λ (d : ⊥). absurd d) (λ s. tells_calmly h.event.call h.event.ports e o s one two three) (belongs_of h.event.call h.event.ports h.event.steps history.1.steps_are_of_call (Answer e o) here);
       engine_is_left = engine;
     }
 
@@ -102,7 +102,7 @@ module _ (told : EntryIsTold) (steps : KeepsWell) (wanted : List Wanted) (first 
     goes_well = record {
       accesses = t.accesses;
       accesses_are_explained = t.accesses_are_explained;
-      is_spared = left_alone (kind_of h.event.ask);
+      is_spared = left_alone (kind_of h.event.call);
       port_runs_well = left_well told steps wanted first past h port history healthy.ready healthy.is_no_reset healthy.has_not_timed_out healthy.stays_healthy;
       finds_done = (t.ports_correspond port).finds_done;
       issues_all_due = t.issues_all_due port;

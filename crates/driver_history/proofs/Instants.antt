@@ -29,7 +29,7 @@ history_fit Begins Relation first (x ∷ past) h = h.1.ports_are_well_formed
 -- a port that is ready is served, and one of the four
 pub ready_low : (i : JointState Device) (port : Port) → PortsWellFormed i.abstract.ports → i.abstract.ports.state port ≡ Ready → (i.abstract.ports.served port ≡ true) × (port.0 < 4)
 ready_low i port fit ready = ⊎_elim
-    (λ (served : i.abstract.ports.served port ≡ true). (served, fit.few_are_served port served))
+    (λ (served : i.abstract.ports.served port ≡ true). (served, fit.served_are_ports_0_to_3 port served))
     (λ (other : i.abstract.ports.served port ≡ false). let z : Absent ≡ Ready = sym (fit.unserved_are_absent port other) ∙ ready in absurd cc)
     (cases_Bool (i.abstract.ports.served port))
 
@@ -63,24 +63,24 @@ module _ (wanted : List Wanted) where
     ready : IsReadyAt (wanted_of wanted e.request.port.0) s i e.request.port
     ready = ready_at wanted i e.request.port (fit_at first past h) s holds is_ready
 
-    slot : (slot : ℕ) × (s.uses e.request.port.0 slot ≡ Serves e.request.id)
+    slot : (slot : ℕ) × (s.slot_states e.request.port.0 slot ≡ Serves e.request.id)
     slot = ⊎_elim
         (λ parked. absurd (All-contains (λ _. ⊥) [] e.request.id (All-nil (λ _. ⊥)) (subst (λ (ids : List RequestId). Contains ids e.request.id) ready.slots_invariant.none_is_parked parked)))
         (λ has. has)
         (holds.driver_relation.have_slots e.request.port.0 e (inl (here, issued)) refl)
 
-    usable : slot.0 < (i.abstract.ports.mode e.request.port).usable
+    usable : slot.0 < (i.abstract.ports.mode e.request.port).usable_slots
     usable = ⊎_elim
         (λ low. low)
         (λ high. let z : Free ≡ Serves e.request.id = sym (ready.slots_invariant.unusable_are_free slot.0 high) ∙ slot.1 in absurd cc)
-        (cases_lt slot.0 (i.abstract.ports.mode e.request.port).usable)
+        (cases_lt slot.0 (i.abstract.ports.mode e.request.port).usable_slots)
 
-    pub has_slot : (slot : ℕ) × (slot < (i.abstract.ports.mode e.request.port).usable)
+    pub has_slot : (slot : ℕ) × (slot < (i.abstract.ports.mode e.request.port).usable_slots)
         × ServesRequest i.abstract.machine i.device.memory (i.device.port e.request.port.0) e.request.port.0 slot e.request.id
         × ((i.device.port e.request.port.0).st ≡ true)
     has_slot = (
       slot.0,
       usable,
       subst (λ (u : SlotState). RelatesSlot i.abstract.machine i.device.memory i.device.tape (i.device.port e.request.port.0) e.request.port.0 slot.0 u) slot.1 (holds.driver_relation.state_relation.relates_slots e.request.port.0 slot.0),
-      ready.engine_runs.st,
+      ready.engine_runs.st_is_set,
     )

@@ -8,16 +8,16 @@ use Rattle.hba_regs.specs.declared.reg.Reg.TheVariants.{Ghc, Px}
 use Rattle.hba_regs.specs.declared.reg.PortReg.TheVariants.{Cmd, Sctl, Sact, Ci}
 use Rattle.adapter.specs.Access.{Access, DoesAll}
 use Rattle.adapter.specs.Access.Access.{Reading, Writing, Loading, Storing}
-use Rattle.adapter.specs.ToldSteps.{DoesOrFailsStep}
+use Rattle.adapter.specs.AskedSteps.{DoesOrFailsStep}
 use Rattle.adapter.specs.Device.{Device}
 use Rattle.adapter.specs.Rules.{IsOn}
 use Rattle.adapter.specs.Steps.{Steps}
 use Rattle.adapter.specs.declared.access.DeviceStep.{DeviceStep}
 use Rattle.refinement.specs.PortFacts.{RunsWell, Undisturbed}
-use Rattle.refinement.specs.Links.{DoesNotWrite}
-use Rattle.block_machine.specs.Events.{AbstractCall, Submit, StoreAt, LoadAt, Service, Tick, Reset, RevokeOf, Device as Told, CallResult, Submitted, Stored, Loaded, Served, WasRevoked, Stepped, HasTimedOut, AbstractState}
-use Rattle.driver_history.specs.Histories.{ExplainsAccesses, IsIssuingAccess, IsPortAlive}
-use Rattle.driver_history.specs.AccessTrace.{IsAccessForPorts, LeavesEngine}
+use Rattle.refinement.specs.PreservedParts.{DoesNotWrite}
+use Rattle.block_machine.specs.Events.{AbstractCall, Submit, StoreAt, LoadAt, Service, Tick, Reset, RevokeOf, StepDevice as Told, AbstractCallResult, Submitted, Stored, Loaded, Replied, WasRevoked, Stepped, TimesOutAtTick, AbstractState}
+use Rattle.driver_history.specs.Histories.{ExplainsAccesses, IsIssuingAccess, IsServedAndNotDead}
+use Rattle.driver_history.specs.AccessTrace.{UsesPortsAndNotGhc, LeavesEngine}
 use Rattle.port_boot.specs.States.{StaysRunning}
 
 -- it writes neither GHC, nor PxCMD or PxSCTL of the port
@@ -59,14 +59,14 @@ module _ (port : Port) (m : AbstractState) (accesses : List Access) (old new : D
   abbrev Calm : Type 0
   Calm = IsCalm port accesses old new
 
-  serving : (Such : Port → Type 0) → All (IsAccessForPorts Such) accesses → All (LeavesEngine port) accesses → All (LeavesRunning port) accesses
+  serving : (Such : Port → Type 0) → All (UsesPortsAndNotGhc Such) accesses → All (LeavesEngine port) accesses → All (LeavesRunning port) accesses
   serving Such serves leaves i e small = ((serves i e small).1, leaves i e small)
 
   none : accesses ≡ [] → new ≡ old → Calm
   none made same = inl (subst (λ (list : List Access). All (LeavesRunning port) list × DoesAll list old new) (sym made) (All-nil (LeavesRunning port), same))
 
   -- how the call came there, if it leaves the engine alone
-  pub came_calmly : KeepsWell → (ask : AbstractCall DeviceStep) (said : CallResult) → ExplainsAccesses m ask said accesses old new → IsNoReset ask → All (LeavesEngine port) accesses → Calm
+  pub came_calmly : KeepsWell → (ask : AbstractCall DeviceStep) (said : AbstractCallResult) → ExplainsAccesses m ask said accesses old new → IsNoReset ask → All (LeavesEngine port) accesses → Calm
   came_calmly laws (Told step) (Stepped true) c other leaves = inr (laws.asked step old new c.1)
   came_calmly laws (Submit r) (Submitted (Ok id)) c other leaves = inl ((λ i e small. issuing_leaves port c.1.0.port _ (c.1.2 i e small)), c.0)
   came_calmly laws (RevokeOf client number) (WasRevoked (Some replies)) c other leaves = inl ((λ i e small. issuing_leaves port c.1.0.0.port _ (c.1.1 i e small)), c.0)
@@ -74,8 +74,8 @@ module _ (port : Port) (m : AbstractState) (accesses : List Access) (old new : D
       inl (subst (All (LeavesRunning port)) (sym c.1) (one_leaves port (Storing (FRAME_BYTES * frame.0 + offset) bytes) (tt, (tt, tt))), c.0)
   came_calmly laws (LoadAt client frame offset count) (Loaded (Ok bytes)) c other leaves =
       inl (subst (All (LeavesRunning port)) (sym c.1) (one_leaves port (Loading (FRAME_BYTES * frame.0 + offset) bytes) (tt, (tt, tt))), c.0)
-  came_calmly laws Service (Served replies) c other leaves = inl (serving (IsPortAlive m.ports) c.1 leaves, c.0)
-  came_calmly laws Tick (Served replies) c other leaves = inl (serving (HasTimedOut m) c.1 leaves, c.0)
+  came_calmly laws Service (Replied replies) c other leaves = inl (serving (IsServedAndNotDead m.ports) c.1 leaves, c.0)
+  came_calmly laws Tick (Replied replies) c other leaves = inl (serving (TimesOutAtTick m) c.1 leaves, c.0)
   came_calmly laws Reset said c other leaves = absurd (other refl)
   came_calmly laws ask said c other leaves = none c.0 c.1
 

@@ -14,13 +14,13 @@ use Rattle.adapter.specs.Device.{Device, DevicePort}
 use Rattle.adapter.specs.RegisterEffects.{PortRegisterWritten}
 use Rattle.adapter.specs.Rules.{IsOn}
 use Rattle.refinement.specs.Relation.{port_at}
-use Rattle.refinement.specs.Errors.{IsFatalOf}
+use Rattle.refinement.specs.Errors.{IsFatalErrorOf}
 use Rattle.refinement.specs.PortFacts.{IsFaultOf}
-use Rattle.refinement.specs.Links.{IsPlugEvent, DoesNotWrite}
+use Rattle.refinement.specs.PreservedParts.{IsPlugEvent, DoesNotWrite}
 use Rattle.block_machine.specs.Histories.{JointState}
 use Rattle.block_machine.specs.Ports.{Evidence, Ports}
 use Rattle.driver_history.specs.Histories.{LosesNoPortError}
-use Rattle.driver_history.specs.Laws.{Laws}
+use Rattle.driver_history.specs.Laws.{AccessLaws}
 use Rattle.driver_history.specs.AccessTrace.{ClearsNoError}
 use Rattle.driver_history.proofs.Calm.{gains_of}
 use Rattle.driver_history.proofs.Errors.{AreShown, Shows, TroubleKind, access_shows, change_still, disks, failure_still, faults, fatals, links, register_of, shown_more, shown_none, steps_show}
@@ -46,7 +46,7 @@ is_its fatals r = is_causes r
 is_its disks r = is_errors r
 is_its links r = is_errors r
 
-module _ (laws : Laws) (port : Port) where
+module _ (laws : AccessLaws) (port : Port) where
   module _ (kind : TroubleKind) where
     writes_or_spares : (access : Access) → DoesNotWrite (Px port (register_of kind)) access ⊎ ((v : ℕ) × (access ≡ Writing (Px port (register_of kind)) v))
     writes_or_spares (Writing (Px at r) v) = ⊎_elim
@@ -68,23 +68,23 @@ module _ (laws : Laws) (port : Port) where
   -- a write of a kind's register that leaves its bits
   module _ (v : ℕ) (old new : Device) where
     module _ (x : PortRegisterWritten port.0 register.Is v old new) (leaves : ClearsNoError port (Writing (Px port register.Is) v)) where
-      cause_left : (place : ℕ) → 27 ≤ place → place ≤ 30 → (x.mid.port port.0).is place ≡ true → (new.port port.0).is place ≡ true
+      cause_left : (place : ℕ) → 27 ≤ place → place ≤ 30 → (x.at_access.port port.0).is place ≡ true → (new.port port.0).is place ≡ true
       cause_left place low high set =
           ap (λ (p : DevicePort). p.is place) x.port_is_written
-          ∙ cleared_of ((x.mid.port port.0).is place) (bit v place) (leaves.pxis_trouble_is_kept refl place low high) set
+          ∙ cleared_of ((x.at_access.port port.0).is place) (bit v place) (leaves.pxis_trouble_is_kept refl place low high) set
 
     module _ (x : PortRegisterWritten port.0 register.Serr v old new) (leaves : ClearsNoError port (Writing (Px port register.Serr) v)) where
-      disk_left : (x.mid.port port.0).serr_n ≡ true → (new.port port.0).serr_n ≡ true
+      disk_left : (x.at_access.port port.0).serr_n ≡ true → (new.port port.0).serr_n ≡ true
       disk_left set =
           ap (λ (p : DevicePort). p.serr_n) x.port_is_written
-          ∙ cleared_of (x.mid.port port.0).serr_n (bit v 16) (leaves.serr_trouble_is_kept refl).0 set
+          ∙ cleared_of (x.at_access.port port.0).serr_n (bit v 16) (leaves.serr_trouble_is_kept refl).0 set
 
-      link_left : (x.mid.port port.0).serr_x ≡ true → (new.port port.0).serr_x ≡ true
+      link_left : (x.at_access.port port.0).serr_x ≡ true → (new.port port.0).serr_x ≡ true
       link_left set =
           ap (λ (p : DevicePort). p.serr_x) x.port_is_written
-          ∙ cleared_of (x.mid.port port.0).serr_x (bit v 26) (leaves.serr_trouble_is_kept refl).1 set
+          ∙ cleared_of (x.at_access.port port.0).serr_x (bit v 26) (leaves.serr_trouble_is_kept refl).1 set
 
-    left_set : (kind : TroubleKind) → ClearsNoError port (Writing (Px port (register_of kind)) v) → (x : PortRegisterWritten port.0 (register_of kind) v old new) → Shows kind (x.mid.port port.0) → Shows kind (new.port port.0)
+    left_set : (kind : TroubleKind) → ClearsNoError port (Writing (Px port (register_of kind)) v) → (x : PortRegisterWritten port.0 (register_of kind) v old new) → Shows kind (x.at_access.port port.0) → Shows kind (new.port port.0)
     left_set faults leaves x set = cause_left x leaves 30 (omega arith) (omega arith) set
     left_set fatals leaves x shown =
         let high = shown.to in
@@ -94,11 +94,11 @@ module _ (laws : Laws) (port : Port) where
 
     write_shows : (kind : TroubleKind) → old.hr ≡ false → ClearsNoError port (Writing (Px port (register_of kind)) v) → Writes (Px port (register_of kind)) v old new → AreShown kind port.0 old new
     write_shows kind on leaves writes =
-        let x = laws.put port (register_of kind) v old new writes on in
-        let y = steps_show laws kind port.0 old x.mid on x.steps in
+        let x = laws.port_register_written port (register_of kind) v old new writes on in
+        let y = steps_show laws kind port.0 old x.at_access on x.steps in
         record {
           still = λ shown. left_set kind leaves x (y.still shown);
-          came = λ g. left_set kind leaves x (y.came (record { new_entries = g.new_entries; tape_is = sym x.tape ∙ g.tape_is; entry = g.entry; entry_is_new = g.entry_is_new; entry_is_of_kind = g.entry_is_of_kind }));
+          came = λ g. left_set kind leaves x (y.came (record { new_entries = g.new_entries; tape_is = sym x.tape_is_as_at_access ∙ g.tape_is; entry = g.entry; entry_is_new = g.entry_is_new; entry_is_of_kind = g.entry_is_of_kind }));
         }
 
   one_shows : (kind : TroubleKind) (access : Access) (old new : Device) → old.hr ≡ false → ClearsNoError port access → Does access old new → AreShown kind port.0 old new
@@ -112,7 +112,7 @@ module _ (laws : Laws) (port : Port) where
   pub accesses_show : (accesses : List Access) (old new : Device) → IsOn old → DoesAll accesses old new → All (DoesNotWrite Ghc) accesses → All (ClearsNoError port) accesses → (kind : TroubleKind) → AreShown kind port.0 old new
   accesses_show [] old new on same spares clears kind = subst (AreShown kind port.0 old) (sym same) (shown_none kind port.0 old)
   accesses_show (access ∷ accesses) old new on (mid, does, rest) spares clears kind =
-      let on_mid = laws.on_all (access ∷ []) old mid on (All-cons (DoesNotWrite Ghc) access [] (All-head (DoesNotWrite Ghc) access accesses spares) (All-nil (DoesNotWrite Ghc))) (mid, does, refl) in
+      let on_mid = laws.accesses_keep_adapter_on (access ∷ []) old mid on (All-cons (DoesNotWrite Ghc) access [] (All-head (DoesNotWrite Ghc) access accesses spares) (All-nil (DoesNotWrite Ghc))) (mid, does, refl) in
       shown_more kind port.0 old mid new (laws.tape.access_grows access old mid does) (grows_over laws port accesses mid new rest)
       (one_shows kind access old mid on.no_reset (All-head (ClearsNoError port) access accesses clears) does)
       (accesses_show accesses mid new on_mid rest (All-tail (DoesNotWrite Ghc) access accesses spares) (All-tail (ClearsNoError port) access accesses clears) kind)
@@ -122,12 +122,12 @@ module _ (laws : Laws) (port : Port) where
   -- what was shown is shown still, and so is what came
   pub loses_none : (old : JointState Device) (new : Device) → ((kind : TroubleKind) → AreShown kind port.0 old.device new) → (evidence : Evidence) (ports : Ports) → LosesNoPortError evidence old ports new port
   loses_none old new shows evidence ports = record {
-    errors = λ ready port_error. inr (⊎_elim
+    errors_are_handled_or_shown = λ ready port_error. inr (⊎_elim
         (failure_still port.0 old.device new shows)
         (λ came. ⊎_elim (λ g. inr ((shows faults).came g)) (λ g. inl ((shows fatals).came g)) came)
         port_error);
-    changes = λ tends port_error. inr (⊎_elim (change_still port.0 old.device new shows) (λ g. inl ((shows disks).came g)) port_error);
-    fault = λ ready g. (shows faults).came (gains_of port.0 (IsFaultOf port.0) old.device new g);
-    fatal = λ ready g. (shows fatals).came (gains_of port.0 (IsFatalOf port.0) old.device new g);
-    disk = λ ready g. (shows disks).came (gains_of port.0 (IsPlugEvent port.0) old.device new g);
+    changes_are_handled_or_shown = λ tends port_error. inr (⊎_elim (change_still port.0 old.device new shows) (λ g. inl ((shows disks).came g)) port_error);
+    new_fault_is_shown = λ ready g. (shows faults).came (gains_of port.0 (IsFaultOf port.0) old.device new g);
+    new_fatal_is_shown = λ ready g. (shows fatals).came (gains_of port.0 (IsFatalErrorOf port.0) old.device new g);
+    new_plug_event_is_shown = λ ready g. (shows disks).came (gains_of port.0 (IsPlugEvent port.0) old.device new g);
   }

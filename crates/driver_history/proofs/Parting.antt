@@ -16,15 +16,15 @@ use Rattle.adapter.specs.declared.tape.Fault as tape_fault
 use Rattle.adapter.specs.declared.command.Operation.TheVariants.{ReadLog}
 use Rattle.refinement.specs.Fragments.{IsDrivenBy, SparesOtherPorts, TapeGrows, LeavesPort, GainsNoMove}
 use Rattle.refinement.specs.Slots.{IsMove}
-use Rattle.refinement.specs.Errors.{ChangesByDisks, ChangesByErrors, IsFatalOf}
+use Rattle.refinement.specs.Errors.{LinkErrorsRiseByDisks, ErrorBitsRiseByErrors, IsFatalErrorOf}
 use Rattle.refinement.specs.PortFacts.{IsFaultOf}
-use Rattle.refinement.specs.Links.{ComesUp, IsPlugEvent, NoPlugEvents, SameLink}
-use Rattle.block_machine.specs.Events.{AbstractCall, AbstractState, CallResult}
+use Rattle.refinement.specs.PreservedParts.{ComesUp, IsPlugEvent, NoPlugEvents, SameLink}
+use Rattle.block_machine.specs.Events.{AbstractCall, AbstractState, AbstractCallResult}
 use Rattle.block_machine.specs.Histories.{JointState}
 use Rattle.block_machine.specs.Ports.{Ports, SamePort, Evidence, IsStoppedOrStuck}
-use Rattle.driver_history.specs.Evidence.{TapeGainsEntry, HasErrors, HasFatalErrors, IsEvidencedOf, IsGone, IsLost, ShowsChange, ShowsLoss}
+use Rattle.driver_history.specs.Evidence.{TapeGainsEntry, ReadyPortHasErrors, ReadyPortHasFatalErrors, IsEvidencedOf, ReadyPortHasLinkChange, IsLost, ShowsLinkChange, ShowsLoss}
 use Rattle.error_recovery.specs.Evidence.{BringsLog, HasFailed, ShowsFatal}
-use Rattle.driver_history.specs.Laws.{Laws}
+use Rattle.driver_history.specs.Laws.{AccessLaws}
 use Rattle.driver_history.specs.PortTurn.{HasTurnIn, IsOfOtherPort, EvidenceAgreesOn, call_accesses}
 use Rattle.driver_history.specs.AccessTrace.{DoesNotWriteCmd, LeavesEngine}
 use Rattle.driver_history.proofs.Errors.{AreShown, TroubleKind, access_shows, change_still, failure_still, fatals, register_of, shown_more, shown_none}
@@ -70,7 +70,7 @@ is_fault port (entry.Clear x) = inr (λ is. is)
 is_fault port (entry.Done x) = inr (λ is. is)
 is_fault port (entry.Fatal x) = inr (λ is. is)
 
-is_fatal : (port : ℕ) (e : Entry) → IsFatalOf port e ⊎ (IsFatalOf port e → ⊥)
+is_fatal : (port : ℕ) (e : Entry) → IsFatalErrorOf port e ⊎ (IsFatalErrorOf port e → ⊥)
 is_fatal port (entry.Fatal at) = cases_eq at.0 port
 is_fatal port (entry.Unplug at) = inr (λ is. is)
 is_fatal port (entry.Plug at name) = inr (λ is. is)
@@ -97,30 +97,30 @@ gains_within Is old start end new first last g = record {
 
 -- ---- accesses of other ports
 
-module _ (laws : Laws) (port : Port) where
+module _ (laws : AccessLaws) (port : Port) where
   -- What is left of the port by accesses of others: the adapter is on; the port is left to its device; its errors rise by errors alone; and its trouble is shown.
   pub record IsLeft (old new : Device) : Type 0 where
     pub on : IsOn new
     pub leaves : LeavesPort (old.port port.0) (new.port port.0)
     pub grows : TapeGrows old new
-    pub errors : ChangesByErrors port.0 old new
+    pub errors : ErrorBitsRiseByErrors port.0 old new
     pub undue : (old.port port.0).link_due ≡ false → (new.port port.0).link_due ≡ false
-    pub disks : (old.port port.0).link_due ≡ false → ChangesByDisks port.0 old new
+    pub disks : (old.port port.0).link_due ≡ false → LinkErrorsRiseByDisks port.0 old new
     pub shows : (old.port port.0).link_due ≡ false → NoPlugEvents port.0 old new → (new.port port.0).ssts_det ≡ (old.port port.0).ssts_det
     pub shown : NoPlugEvents port.0 old new → (old.port port.0).ssts_det ≡ 3 → (new.port port.0).ssts_det ≡ 3
     pub fresh : (old.port port.0).link_due ≡ false → NoPlugEvents port.0 old new → (new.port port.0).fresh ≡ (old.port port.0).fresh
     pub trouble_shown : (kind : TroubleKind) → AreShown kind port.0 old new
 
-  pub errors_none : (d : Device) → ChangesByErrors port.0 d d
+  pub errors_none : (d : Device) → ErrorBitsRiseByErrors port.0 d d
   errors_none d = record { fatal = λ none place low high is. is; fault = λ none is. is }
 
-  pub errors_more : (old mid new : Device) → TapeGrows old mid → TapeGrows mid new → ChangesByErrors port.0 old mid → ChangesByErrors port.0 mid new → ChangesByErrors port.0 old new
+  pub errors_more : (old mid new : Device) → TapeGrows old mid → TapeGrows mid new → ErrorBitsRiseByErrors port.0 old mid → ErrorBitsRiseByErrors port.0 mid new → ErrorBitsRiseByErrors port.0 old new
   errors_more old mid new first last a b = record {
     fatal = λ none place low high is.
-        let parts = laws.tape.fatal_parts port.0 old mid new first.0 last.0 first.1 last.1 none in
+        let parts = laws.tape.no_fatal_errors_in_parts port.0 old mid new first.0 last.0 first.1 last.1 none in
         b.fatal parts.1 place low high (a.fatal parts.0 place low high is);
     fault = λ none is.
-        let parts = laws.tape.fails_parts port.0 old mid new first.0 last.0 first.1 last.1 none in
+        let parts = laws.tape.no_faults_in_parts port.0 old mid new first.0 last.0 first.1 last.1 none in
         b.fault parts.1 (a.fault parts.0 is);
   }
 
@@ -128,35 +128,35 @@ module _ (laws : Laws) (port : Port) where
   one_left access old new on (other, apart, of) does =
       let driven : IsDrivenBy (SparesOtherPorts other) old new = record { accesses = access ∷ []; all_are_done = (new, does, refl); accesses_are_of_kind = All-cons (SparesOtherPorts other) access [] of (All-nil (SparesOtherPorts other)) } in
       record {
-        on = laws.on other old new on driven;
-        leaves = laws.left other port.0 old new apart on driven;
+        on = laws.one_port_keeps_adapter_on other old new on driven;
+        leaves = laws.other_ports_are_left other port.0 old new apart on driven;
         grows = laws.tape.access_grows access old new does;
-        errors = laws.errors port access old new does;
-        undue = λ undue. laws.tape.access_undue port access old new on.no_reset undue (laws.spares other port Sctl apart access of) does;
-        disks = λ undue. laws.tape.access_change port access old new on.no_reset undue does;
+        errors = laws.access_changes_by_errors port access old new does;
+        undue = λ undue. laws.tape.access_makes_no_link_due port access old new on.no_reset undue (laws.one_port_spares_registers other port Sctl apart access of) does;
+        disks = λ undue. laws.tape.access_raises_by_disks port access old new on.no_reset undue does;
         shows = λ undue none. ⊎_elim
             (λ (same : SameLink (old.port port.0) (new.port port.0)). same.det)
-            (λ (up : ComesUp (old.port port.0) (new.port port.0)). absurd (false≢true (sym undue ∙ up.due)))
-            (laws.link port access old new on.no_reset (laws.spares other port Sctl apart access of) does none);
+            (λ (up : ComesUp (old.port port.0) (new.port port.0)). absurd (false≢true (sym undue ∙ up.link_was_due)))
+            (laws.link_stays_without_plug_events port access old new on.no_reset (laws.one_port_spares_registers other port Sctl apart access of) does none);
         shown = λ none shows. ⊎_elim
             (λ (same : SameLink (old.port port.0) (new.port port.0)). same.det ∙ shows)
             (λ (up : ComesUp (old.port port.0) (new.port port.0)). up.det)
-            (laws.link port access old new on.no_reset (laws.spares other port Sctl apart access of) does none);
+            (laws.link_stays_without_plug_events port access old new on.no_reset (laws.one_port_spares_registers other port Sctl apart access of) does none);
         fresh = λ undue none. ⊎_elim
             (λ (same : SameLink (old.port port.0) (new.port port.0)). same.fresh)
-            (λ (up : ComesUp (old.port port.0) (new.port port.0)). absurd (false≢true (sym undue ∙ up.due)))
-            (laws.link port access old new on.no_reset (laws.spares other port Sctl apart access of) does none);
-        trouble_shown = λ kind. access_shows laws kind port access old new on.no_reset (laws.spares other port (register_of kind) apart access of) does;
+            (λ (up : ComesUp (old.port port.0) (new.port port.0)). absurd (false≢true (sym undue ∙ up.link_was_due)))
+            (laws.link_stays_without_plug_events port access old new on.no_reset (laws.one_port_spares_registers other port Sctl apart access of) does none);
+        trouble_shown = λ kind. access_shows laws kind port access old new on.no_reset (laws.one_port_spares_registers other port (register_of kind) apart access of) does;
       }
 
   pub others_leave : (accesses : List Access) (old new : Device) → IsOn old → DoesAll accesses old new → All (IsOfOtherPort port) accesses → IsLeft old new
   others_leave [] old new on same of = subst (IsLeft old) (sym same) (record {
     on = on;
-    leaves = laws.left_none (old.port port.0);
-    grows = laws.tape.grows_none old;
+    leaves = laws.leaves_port_is_reflexive (old.port port.0);
+    grows = laws.tape.growth_is_reflexive old;
     errors = errors_none old;
     undue = λ undue. undue;
-    disks = λ undue. laws.tape.change_none port.0 old;
+    disks = λ undue. laws.tape.link_errors_reflexive port.0 old;
     shows = λ undue none. refl;
     shown = λ none shows. shows;
     fresh = λ undue none. refl;
@@ -167,19 +167,19 @@ module _ (laws : Laws) (port : Port) where
       let b = others_leave accesses mid new a.on rest (All-tail (IsOfOtherPort port) access accesses of) in
       record {
         on = b.on;
-        leaves = laws.left_more (old.port port.0) (mid.port port.0) (new.port port.0) a.leaves b.leaves;
-        grows = laws.tape.grows_more old mid new a.grows b.grows;
+        leaves = laws.leaves_port_is_transitive (old.port port.0) (mid.port port.0) (new.port port.0) a.leaves b.leaves;
+        grows = laws.tape.growth_is_transitive old mid new a.grows b.grows;
         errors = errors_more old mid new a.grows b.grows a.errors b.errors;
         undue = λ undue. b.undue (a.undue undue);
-        disks = λ undue. laws.tape.change_more port.0 old mid new a.grows b.grows (a.disks undue) (b.disks (a.undue undue));
+        disks = λ undue. laws.tape.link_errors_transitive port.0 old mid new a.grows b.grows (a.disks undue) (b.disks (a.undue undue));
         shows = λ undue none.
-            let parts = laws.tape.plugs_parts port.0 old mid new a.grows.0 b.grows.0 a.grows.1 b.grows.1 none in
+            let parts = laws.tape.no_plug_events_in_parts port.0 old mid new a.grows.0 b.grows.0 a.grows.1 b.grows.1 none in
             b.shows (a.undue undue) parts.1 ∙ a.shows undue parts.0;
         shown = λ none shows.
-            let parts = laws.tape.plugs_parts port.0 old mid new a.grows.0 b.grows.0 a.grows.1 b.grows.1 none in
+            let parts = laws.tape.no_plug_events_in_parts port.0 old mid new a.grows.0 b.grows.0 a.grows.1 b.grows.1 none in
             b.shown parts.1 (a.shown parts.0 shows);
         fresh = λ undue none.
-            let parts = laws.tape.plugs_parts port.0 old mid new a.grows.0 b.grows.0 a.grows.1 b.grows.1 none in
+            let parts = laws.tape.no_plug_events_in_parts port.0 old mid new a.grows.0 b.grows.0 a.grows.1 b.grows.1 none in
             b.fresh (a.undue undue) parts.1 ∙ a.fresh undue parts.0;
         trouble_shown = λ kind. shown_more kind port.0 old mid new a.grows b.grows (a.trouble_shown kind) (b.trouble_shown kind);
       }
@@ -187,12 +187,12 @@ module _ (laws : Laws) (port : Port) where
   -- they write neither PxCMD nor PxSCTL of it
   pub others_leave_engine : (accesses : List Access) → All (IsOfOtherPort port) accesses → All (LeavesEngine port) accesses
   others_leave_engine accesses of =
-      All-weaker (IsOfOtherPort port) (LeavesEngine port) (λ access x. (laws.spares x.0 port Cmd x.1 access x.2, laws.spares x.0 port Sctl x.1 access x.2)) accesses of
+      All-weaker (IsOfOtherPort port) (LeavesEngine port) (λ access x. (laws.one_port_spares_registers x.0 port Cmd x.1 access x.2, laws.one_port_spares_registers x.0 port Sctl x.1 access x.2)) accesses of
 
   -- the tape gains over accesses
   pub grows_over : (accesses : List Access) (old new : Device) → DoesAll accesses old new → TapeGrows old new
-  grows_over [] old new same = subst (TapeGrows old) (sym same) (laws.tape.grows_none old)
-  grows_over (access ∷ accesses) old new (mid, does, rest) = laws.tape.grows_more old mid new (laws.tape.access_grows access old mid does) (grows_over accesses mid new rest)
+  grows_over [] old new same = subst (TapeGrows old) (sym same) (laws.tape.growth_is_reflexive old)
+  grows_over (access ∷ accesses) old new (mid, does, rest) = laws.tape.growth_is_transitive old mid new (laws.tape.access_grows access old mid does) (grows_over accesses mid new rest)
 
   -- ---- a turn in a call
 
@@ -201,9 +201,9 @@ module _ (laws : Laws) (port : Port) where
   loss_then old new on undue t loss = ⊎_elim
       (λ change. inl (change_still port.0 old t.start first.trouble_shown change))
       (λ missing.
-      let a = laws.tape.comes_parts port.0 old t.start new first.grows.0 since.0 first.grows.1 since.1 missing.1 in
-      let b = laws.tape.comes_parts port.0 t.start t.end new middle.0 last.0 middle.1 last.1 a.1 in
-      inr ((λ there. missing.0 ((first.disks undue).det a.0 there).0), b.0))
+      let a = laws.tape.no_disk_comes_in_parts port.0 old t.start new first.grows.0 since.0 first.grows.1 since.1 missing.1 in
+      let b = laws.tape.no_disk_comes_in_parts port.0 t.start t.end new middle.0 last.0 middle.1 last.1 a.1 in
+      inr ((λ there. missing.0 ((first.disks undue).det_3_was_3_if_none_comes a.0 there).0), b.0))
       loss
     where
       first : IsLeft old t.start
@@ -216,9 +216,9 @@ module _ (laws : Laws) (port : Port) where
       last = grows_over t.later t.end new t.leads_to_new
 
       since : TapeGrows t.start new
-      since = laws.tape.grows_more t.start t.end new middle last
+      since = laws.tape.growth_is_transitive t.start t.end new middle last
 
-  module _ (old : JointState Device) (begun : AbstractState) (ended ports : Ports) (new : Device) (turn call : Evidence) (ask : AbstractCall DeviceStep) (said : CallResult)
+  module _ (old : JointState Device) (begun : AbstractState) (ended ports : Ports) (new : Device) (turn call : Evidence) (ask : AbstractCall DeviceStep) (said : AbstractCallResult)
       (on : IsOn old.device) (linked : (old.abstract.ports.state port ≡ Ready) ⊎ Contains turn.lost port → (old.device.port port.0).link_due ≡ false) (t : HasTurnIn port old.device new) (on_then : IsOn t.end)
       (was : SamePort old.abstract.ports begun.ports port) (stays : SamePort ended ports port) (alike : EvidenceAgreesOn port turn call)
       (its : IsEvidencedOf ask said t.turn (record { device = t.start; abstract = begun }) ended t.end turn port) where
@@ -229,37 +229,37 @@ module _ (laws : Laws) (port : Port) where
     last = others_leave t.later t.end new on_then t.leads_to_new t.later_are_of_others
 
     since : TapeGrows t.start new
-    since = laws.tape.grows_more t.start t.end new (grows_over t.turn t.start t.end t.turn_leads_to_end) last.grows
+    since = laws.tape.growth_is_transitive t.start t.end new (grows_over t.turn t.start t.end t.turn_leads_to_end) last.grows
 
     -- what the turn gained, and what was gained before it, the call gained
     within : (Is : Entry → Type 0) → TapeGainsEntry Is t.start t.end → TapeGainsEntry Is old.device new
     within Is = gains_within Is old.device t.start t.end new first.grows last.grows
 
     before : (Is : Entry → Type 0) → TapeGainsEntry Is old.device t.start → TapeGainsEntry Is old.device new
-    before Is = gains_within Is old.device old.device t.start new (laws.tape.grows_none old.device) since
+    before Is = gains_within Is old.device old.device t.start new (laws.tape.growth_is_reflexive old.device) since
 
     -- a disk went or came before the turn, or none did
     plugged : TapeGainsEntry (IsPlugEvent port.0) old.device t.start ⊎ NoPlugEvents port.0 old.device t.start
     plugged = plugged_or_not port.0 old.device t.start first.grows
 
     -- what the port shows when its turn begins, it showed when the call began, or the call gained what it tells of
-    changes : (old.device.port port.0).link_due ≡ false → ShowsChange (t.start.port port.0) → ShowsChange (old.device.port port.0) ⊎ TapeGainsEntry (IsPlugEvent port.0) old.device new
+    changes : (old.device.port port.0).link_due ≡ false → ShowsLinkChange (t.start.port port.0) → ShowsLinkChange (old.device.port port.0) ⊎ TapeGainsEntry (IsPlugEvent port.0) old.device new
     changes undue shown = ⊎_elim (λ g. inr (before (IsPlugEvent port.0) g)) (λ none. inl (⊎_elim (n none) (x none) shown)) plugged
       where
-        n : NoPlugEvents port.0 old.device t.start → (t.start.port port.0).serr_n ≡ true → ShowsChange (old.device.port port.0)
-        n none is = ⊎_elim (λ set. inl set) (λ clear. absurd (false≢true (sym ((first.disks undue).serr_n none clear) ∙ is))) (cases_Bool (old.device.port port.0).serr_n)
+        n : NoPlugEvents port.0 old.device t.start → (t.start.port port.0).serr_n ≡ true → ShowsLinkChange (old.device.port port.0)
+        n none is = ⊎_elim (λ set. inl set) (λ clear. absurd (false≢true (sym ((first.disks undue).serr_n_rises_by_plug_events none clear) ∙ is))) (cases_Bool (old.device.port port.0).serr_n)
 
-        x : NoPlugEvents port.0 old.device t.start → (t.start.port port.0).serr_x ≡ true → ShowsChange (old.device.port port.0)
-        x none is = ⊎_elim (λ set. inr set) (λ clear. absurd (false≢true (sym ((first.disks undue).serr_x (laws.tape.plugs_come port.0 old.device t.start none) clear) ∙ is)))
+        x : NoPlugEvents port.0 old.device t.start → (t.start.port port.0).serr_x ≡ true → ShowsLinkChange (old.device.port port.0)
+        x none is = ⊎_elim (λ set. inr set) (λ clear. absurd (false≢true (sym ((first.disks undue).serr_x_rises_by_disk_coming (laws.tape.no_plug_event_no_disk port.0 old.device t.start none) clear) ∙ is)))
             (cases_Bool (old.device.port port.0).serr_x)
 
     missing : (old.device.port port.0).link_due ≡ false → (t.start.port port.0).ssts_det ≢ 3 → ((old.device.port port.0).ssts_det ≢ 3) ⊎ TapeGainsEntry (IsPlugEvent port.0) old.device new
     missing undue gone = ⊎_elim (λ g. inr (before (IsPlugEvent port.0) g)) (λ none. inl (λ there. gone (first.shows undue none ∙ there))) plugged
 
-    fatal : ShowsFatal (t.start.port port.0) → ShowsFatal (old.device.port port.0) ⊎ TapeGainsEntry (IsFatalOf port.0) old.device new
+    fatal : ShowsFatal (t.start.port port.0) → ShowsFatal (old.device.port port.0) ⊎ TapeGainsEntry (IsFatalErrorOf port.0) old.device new
     unfolding GainsOrNone
     fatal shown = ⊎_elim
-        (λ g. inr (before (IsFatalOf port.0) g))
+        (λ g. inr (before (IsFatalErrorOf port.0) g))
         (λ none. inl (record {
           place = shown.place;
           from = shown.from;
@@ -268,7 +268,7 @@ module _ (laws : Laws) (port : Port) where
               (λ clear. absurd (false≢true (sym (first.errors.fatal (record { new_entries = none.0; tape_is = none.1; no_such_entry = none.2 }) shown.place shown.from shown.to clear) ∙ shown.cause_is_set)))
               (cases_Bool ((old.device.port port.0).is shown.place));
         }))
-        (gains_or_none (IsFatalOf port.0) (is_fatal port.0) old.device t.start first.grows)
+        (gains_or_none (IsFatalErrorOf port.0) (is_fatal port.0) old.device t.start first.grows)
 
     failed : (t.start.port port.0).is 30 ≡ true → ((old.device.port port.0).is 30 ≡ true) ⊎ TapeGainsEntry (IsFaultOf port.0) old.device new
     unfolding GainsOrNone
@@ -295,42 +295,42 @@ module _ (laws : Laws) (port : Port) where
       (λ is same. end.1 (sym stays.1 ∙ is) (sym stays.2 ∙ same.0 ∙ sym was.2, sym stays.3 ∙ same.1 ∙ sym was.3)),
     )))
 
-    gone_only : IsGone port (record { device = t.start; abstract = begun }) t.end → IsGone port old new
+    gone_only : ReadyPortHasLinkChange port (record { device = t.start; abstract = begun }) t.end → ReadyPortHasLinkChange port old new
     gone_only (is, inl shown) = (ready_then is, ⊎_elim (λ change. inl change) (λ g. inr (inr g)) (changes (linked (inl (ready_then is))) shown))
     gone_only (is, inr (inl gone)) = (ready_then is, ⊎_elim (λ out. inr (inl out)) (λ g. inr (inr g)) (missing (linked (inl (ready_then is))) gone))
     gone_only (is, inr (inr g)) = (ready_then is, inr (inr (within (IsPlugEvent port.0) g)))
 
-    errors : HasErrors port (record { device = t.start; abstract = begun }) t.end → HasErrors port old new
+    errors : ReadyPortHasErrors port (record { device = t.start; abstract = begun }) t.end → ReadyPortHasErrors port old new
     errors (is, inl (inl shown)) = (ready_then is, ⊎_elim (λ f. inl (inl f)) (λ g. inr (inr g)) (fatal shown))
     errors (is, inl (inr shown)) = (ready_then is, ⊎_elim (λ f. inl (inr f)) (λ g. inr (inl g)) (failed shown))
     errors (is, inr (inl g)) = (ready_then is, inr (inl (within (IsFaultOf port.0) g)))
-    errors (is, inr (inr g)) = (ready_then is, inr (inr (within (IsFatalOf port.0) g)))
+    errors (is, inr (inr g)) = (ready_then is, inr (inr (within (IsFatalErrorOf port.0) g)))
 
-    fatal_errors : HasFatalErrors port (record { device = t.start; abstract = begun }) t.end → HasFatalErrors port old new
+    fatal_errors : ReadyPortHasFatalErrors port (record { device = t.start; abstract = begun }) t.end → ReadyPortHasFatalErrors port old new
     fatal_errors (is, inl shown) = (ready_then is, ⊎_elim (λ f. inl f) (λ g. inr g) (fatal shown))
-    fatal_errors (is, inr g) = (ready_then is, inr (within (IsFatalOf port.0) g))
+    fatal_errors (is, inr g) = (ready_then is, inr (within (IsFatalErrorOf port.0) g))
 
     pub evidence_is_the_calls : IsEvidencedOf ask said (call_accesses t) old ports new call port
     evidence_is_the_calls = record {
-      lost = λ named. lost (linked (inr (alike.lost.1 named))) (its.lost (alike.lost.1 named));
+      lost_only = λ named. lost (linked (inr (alike.lost.1 named))) (its.lost_only (alike.lost.1 named));
       link_changed_all = λ is loss. alike.link_changed.0 (its.link_changed_all (ready is) (loss_then old.device new on (linked (inl is)) t loss));
       link_changed_only = λ named. gone_only (its.link_changed_only (alike.link_changed.1 named));
-      failed_all = λ is failure. alike.failed.0 (its.failed_all (ready is) (failure_still port.0 old.device t.start first.trouble_shown failure));
-      failed_only = λ named. errors (its.failed_only (alike.failed.1 named));
-      fatal_all = λ is shown. alike.fatal.0 (its.fatal_all (ready is) ((first.trouble_shown fatals).still shown));
-      fatal_only = λ named. fatal_errors (its.fatal_only (alike.fatal.1 named));
-      stopped_all = ⊎_elim
+      showing_error_all = λ is failure. alike.showing_error.0 (its.showing_error_all (ready is) (failure_still port.0 old.device t.start first.trouble_shown failure));
+      showing_error_only = λ named. errors (its.showing_error_only (alike.showing_error.1 named));
+      showing_fatal_error_all = λ is shown. alike.showing_fatal_error.0 (its.showing_fatal_error_all (ready is) ((first.trouble_shown fatals).still shown));
+      showing_fatal_error_only = λ named. fatal_errors (its.showing_fatal_error_only (alike.showing_fatal_error.1 named));
+      engine_is_left_or_stopped = ⊎_elim
           (λ left. inl (All-append (LeavesEngine port) t.before (t.turn ++ t.later) (others_leave_engine t.before t.earlier_are_of_others)
           (All-append (LeavesEngine port) t.turn t.later left (others_leave_engine t.later t.later_are_of_others))))
           (λ (i : IsStoppedOrStuck turn port). inr (⊎_elim (λ a. inl (alike.stopped.0 a)) (λ b. inr (alike.stuck.0 b)) i))
-          its.stopped_all;
+          its.engine_is_left_or_stopped;
       stopped_only = λ named. ⊎_elim
-          (λ stops. inl (laws.falls_since t.before (t.turn ++ t.later) 0 15 port (laws.falls_then t.turn t.later 0 15 port stops)))
+          (λ stops. inl (laws.fall_holds_with_earlier t.before (t.turn ++ t.later) 0 15 port (laws.fall_holds_with_later t.turn t.later 0 15 port stops)))
           (λ reset. inr (reset.0, sym was.0 ∙ reset.1))
           (its.stopped_only (alike.stopped.1 named));
       stuck_only = λ named. ⊎_elim
           (λ sticks. inl (
-            laws.sticks_since t.before (t.turn ++ t.later) port (laws.sticks_then t.turn t.later port sticks.0),
+            laws.sticking_holds_with_earlier t.before (t.turn ++ t.later) port (laws.sticking_holds_with_later t.turn t.later port sticks.0),
             ap (λ n. n.engine_count) last.leaves.notes ∙ sticks.1,
           ))
           (λ reset. inr (reset.0, sym was.0 ∙ reset.1))

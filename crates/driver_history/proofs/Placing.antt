@@ -10,8 +10,8 @@ use Rattle.adapter.specs.declared.tape.Entry.{Entry}
 use Rattle.adapter.specs.declared.tape.Entry.TheVariants as entry
 use Rattle.adapter.specs.declared.tape.Move as tape_move
 use Rattle.adapter.specs.declared.tape.Clear as tape_clear
-use Rattle.refinement.specs.Slots.{op_of}
-use Rattle.refinement.specs.MemoryLayout.{scratch_of}
+use Rattle.refinement.specs.Slots.{client_operation_of}
+use Rattle.refinement.specs.MemoryLayout.{scratch_frame_address}
 use Rattle.refinement.specs.Tape.{MovesSector, ClearsSectors, TellsDeviceSteps, TellsEntry, TellsMove}
 use Rattle.block_machine.specs.Events.{IsRun, steps_of}
 use Rattle.block_machine.specs.Histories.{JointState, JointEvent, events_of, joint_state_after}
@@ -38,7 +38,7 @@ record IsAmong (m : Machine) (steps : List Step) (op : Op) (move : tape_move.Mov
 abbrev Goes : Option Op → Machine → List Step → tape_move.Move → Type 0
 Goes (Some Read) m steps move = IsAmong m steps Read move
 Goes (Some Write) m steps move = IsAmong m steps Write move
-Goes other m steps move = move.address ≡ scratch_of move.port.0
+Goes other m steps move = move.address ≡ scratch_frame_address move.port.0
 
 among_first : (m : Machine) (op : Op) (move : tape_move.Move) (own first rest : List Step) → MovesSector (after m own) op move first → IsAmong m (rest ++ (first ++ own)) op move
 among_first m op move own first rest t = record {
@@ -73,18 +73,18 @@ goes_later laws (Some Trim) m move rest early a = a
 goes_later laws (Some Flush) m move rest early a = a
 
 abbrev GoesAs : Machine → List Step → Entry → Type 0
-GoesAs m steps e = (move : tape_move.Move) → e ≡ entry.Move move → Goes (op_of move.operation) m steps move
+GoesAs m steps e = (move : tape_move.Move) → e ≡ entry.Move move → Goes (client_operation_of move.operation) m steps move
 
 all_go : RunLaws → (m : Machine) (entries : List Entry) (steps : List Step) → TellsDeviceSteps m entries steps → All (GoesAs m steps) entries
 all_go laws m [] steps tells = All-nil (GoesAs m steps)
 all_go laws m (e ∷ entries) steps (own, first, rest, alone, tells, more, is) = All-cons (GoesAs m steps) e entries
-    (λ move same. subst (λ (all : List Step). Goes (op_of move.operation) m all move) (sym is)
-    (goes_first (op_of move.operation) m move own first rest (subst (λ (x : Entry). TellsEntry (after m own) x first) same tells)))
+    (λ move same. subst (λ (all : List Step). Goes (client_operation_of move.operation) m all move) (sym is)
+    (goes_first (client_operation_of move.operation) m move own first rest (subst (λ (x : Entry). TellsEntry (after m own) x first) same tells)))
     (All-weaker (GoesAs (after m (first ++ own)) rest) (GoesAs m steps)
-    (λ x later move same. subst (λ (all : List Step). Goes (op_of move.operation) m all move) (sym is) (goes_later laws (op_of move.operation) m move rest (first ++ own) (later move same)))
+    (λ x later move same. subst (λ (all : List Step). Goes (client_operation_of move.operation) m all move) (sym is) (goes_later laws (client_operation_of move.operation) m move rest (first ++ own) (later move same)))
     entries (all_go laws (after m (first ++ own)) entries rest more))
 
-goes : RunLaws → (m : Machine) (entries : List Entry) (steps : List Step) → TellsDeviceSteps m entries steps → (move : tape_move.Move) → Contains entries (entry.Move move) → Goes (op_of move.operation) m steps move
+goes : RunLaws → (m : Machine) (entries : List Entry) (steps : List Step) → TellsDeviceSteps m entries steps → (move : tape_move.Move) → Contains entries (entry.Move move) → Goes (client_operation_of move.operation) m steps move
 goes laws m entries steps tells move here = All-contains (GoesAs m steps) entries (entry.Move move) (all_go laws m entries steps tells) here move refl
 
 -- the clear is among the steps, from this machine on
@@ -149,7 +149,7 @@ module _ (laws : RunLaws) (wanted : List Wanted) (first : JointState Device) (pa
     before = a.before;
     steps_are_split = a.here;
     moves_sector = then;
-    is_confined = laws.touches first.abstract (events_of (h ∷ past)) a.later (a.before ++ early) then.pending then.sector_number (slice_index move.bytes.value) run split;
+    is_confined = laws.touches_are_confined first.abstract (events_of (h ∷ past)) a.later (a.before ++ early) then.pending then.sector_number (slice_index move.bytes.value) run split;
   }
     where
       then : MovesSector (after start (a.before ++ early)) op move (a.step ∷ [])
@@ -174,7 +174,7 @@ module _ (laws : RunLaws) (wanted : List Wanted) (first : JointState Device) (pa
     steps_are_split = c.here;
     clears_sectors = then;
     was_accepted =
-        let whole = laws.legal first.abstract (events_of (h ∷ past)) run in
+        let whole = laws.run_steps_are_legal first.abstract (events_of (h ∷ past)) run in
         laws.holders_were_accepted start (c.before ++ early) then.pending whole.0 (legal_before start (c.later ++ c.touches) (c.before ++ early) (subst (IsLegal start) split whole.1))
         (⊎_elim (λ issued. inl issued.0) (λ kept. inr kept) then.may_still_move);
   }
@@ -189,6 +189,6 @@ module _ (laws : RunLaws) (wanted : List Wanted) (first : JointState Device) (pa
   keeps_moves = record {
     new_entries = history.2.is_backed.new_entries;
     tape_is = history.2.is_backed.tape_is;
-    moves_keep_to_frames = λ move here. keeps (op_of move.operation) move (goes laws m history.2.is_backed.new_entries h.event.steps history.2.is_backed.tells_device_steps move here);
+    moves_keep_to_frames = λ move here. keeps (client_operation_of move.operation) move (goes laws m history.2.is_backed.new_entries h.event.steps history.2.is_backed.tells_device_steps move here);
     clears_are_confined = λ clear here. confined_clear clear (cleared laws m history.2.is_backed.new_entries h.event.steps history.2.is_backed.tells_device_steps clear here);
   }

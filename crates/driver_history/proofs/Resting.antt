@@ -12,7 +12,7 @@ use Rattle.ata_types.specs.declared.request.Outcome.{Outcome}
 use Rattle.ata_types.specs.declared.request.Outcome.TheVariants as outcome
 use Rattle.adapter.specs.Device.{Device}
 use Rattle.adapter.specs.declared.access.DeviceStep.{DeviceStep}
-use Rattle.block_machine.specs.Events.{AbstractCall, Submit, StoreAt, LoadAt, Service, Tick, Reset, RevokeOf, State, Device as Told, CallResult, AbstractState, AllAnswersLawful, AllEnabled, AreStepsOfCall, Happens, IsByDevice, IsLawfulAnswer, IsByServer, abstract_after}
+use Rattle.block_machine.specs.Events.{AbstractCall, Submit, StoreAt, LoadAt, Service, Tick, Reset, RevokeOf, State, StepDevice as Told, AbstractCallResult, AbstractState, AnswersAndWaitsLawful, AllEnabled, AreStepsOfCall, Happens, IsByDevice, IsLawfulAnswer, IsByServer, abstract_after}
 use Rattle.block_machine.specs.Histories.{JointState, JointEvent}
 use Rattle.block_machine.specs.Ports.{Ports, Evidence, PortsWellFormed}
 use Rattle.block_machine.specs.State.{Pending, Machine}
@@ -30,27 +30,27 @@ dead_at : (wanted : List Wanted) (i : JointState Device) (port : Port) → Ports
 dead_at wanted i port fit (s, holds) dead = ⊎_elim
     (λ (served : i.abstract.ports.served port ≡ true).
     subst (λ (state : PortState). PortStateInvariant (wanted_of wanted port.0) s i port true state) dead
-    (subst (λ (b : Bool). PortStateInvariant (wanted_of wanted port.0) s i port b (i.abstract.ports.state port)) served (holds.ports_hold port (fit.few_are_served port served))))
+    (subst (λ (b : Bool). PortStateInvariant (wanted_of wanted port.0) s i port b (i.abstract.ports.state port)) served (holds.ports_hold port (fit.served_are_ports_0_to_3 port served))))
     (λ (other : i.abstract.ports.served port ≡ false). let z : Absent ≡ Dead = sym (fit.unserved_are_absent port other) ∙ dead in absurd cc)
     (cases_Bool (i.abstract.ports.served port))
 
 -- ---- a step of a call
 
-lawful_rest : (old : AbstractState) (evidence : Evidence) (ports : Ports) (step : Step) (before : List Step) → AllAnswersLawful old evidence ports (step ∷ before) → AllAnswersLawful old evidence ports before
+lawful_rest : (old : AbstractState) (evidence : Evidence) (ports : Ports) (step : Step) (before : List Step) → AnswersAndWaitsLawful old evidence ports (step ∷ before) → AnswersAndWaitsLawful old evidence ports before
 lawful_rest old evidence ports (Answer e o) before l = l.0
 lawful_rest old evidence ports (WaitAgain e) before l = l.0
 lawful_rest old evidence ports _ before l = l
 
 -- each answer among lawful steps is lawful
-all_lawful : (old : AbstractState) (evidence : Evidence) (ports : Ports) (steps : List Step) → AllAnswersLawful old evidence ports steps
+all_lawful : (old : AbstractState) (evidence : Evidence) (ports : Ports) (steps : List Step) → AnswersAndWaitsLawful old evidence ports steps
     → All (λ step. (e : Pending) (o : Outcome) → step ≡ Answer e o → IsLawfulAnswer old evidence ports e o) steps
 all_lawful old evidence ports [] l = All-nil (λ step. (e : Pending) (o : Outcome) → step ≡ Answer e o → IsLawfulAnswer old evidence ports e o)
 all_lawful old evidence ports (step ∷ before) l =
     All-cons (λ step. (e : Pending) (o : Outcome) → step ≡ Answer e o → IsLawfulAnswer old evidence ports e o) step before
-    (λ e o same. let whole : AllAnswersLawful old evidence ports (Answer e o ∷ before) = subst (λ (x : Step). AllAnswersLawful old evidence ports (x ∷ before)) same l in whole.1)
+    (λ e o same. let whole : AnswersAndWaitsLawful old evidence ports (Answer e o ∷ before) = subst (λ (x : Step). AnswersAndWaitsLawful old evidence ports (x ∷ before)) same l in whole.1)
     (all_lawful old evidence ports before (lawful_rest old evidence ports step before l))
 
-lawful_of : (old : AbstractState) (evidence : Evidence) (ports : Ports) (steps : List Step) → AllAnswersLawful old evidence ports steps → (e : Pending) (o : Outcome)
+lawful_of : (old : AbstractState) (evidence : Evidence) (ports : Ports) (steps : List Step) → AnswersAndWaitsLawful old evidence ports steps → (e : Pending) (o : Outcome)
     → Contains steps (Answer e o) → IsLawfulAnswer old evidence ports e o
 lawful_of old evidence ports steps l e o h =
     All-contains (λ step. (e : Pending) (o : Outcome) → step ≡ Answer e o → IsLawfulAnswer old evidence ports e o) steps (Answer e o) (all_lawful old evidence ports steps l) h e o refl
@@ -63,7 +63,7 @@ pub belongs_of : (ask : AbstractCall DeviceStep) (ports : Ports) (steps : List S
 belongs_of ask ports steps l step h = All-contains (λ step. IsByDevice step ⊎ IsByServer ask ports step) steps step (all_belong ask ports steps l) h
 
 -- a reset tells no fault
-no_fault : (ask : AbstractCall DeviceStep) (said : CallResult) (ports : Ports) (e : Pending) (status error : _) → IsEndedReset ask said → IsByServer ask ports (Answer e (outcome.DeviceError status error)) → ⊥
+no_fault : (ask : AbstractCall DeviceStep) (said : AbstractCallResult) (ports : Ports) (e : Pending) (status error : _) → IsEndedReset ask said → IsByServer ask ports (Answer e (outcome.DeviceError status error)) → ⊥
 no_fault Reset said ports e status error ends s = s
 no_fault (Submit r) said ports e status error ends s = ends
 no_fault (RevokeOf c n) said ports e status error ends s = ends
@@ -100,18 +100,18 @@ module _ (wanted : List Wanted) (old : JointState Device) (h : JointEvent Device
 
   -- a port of which Unplugged is told was lost
   pub lost_then : (e : Pending) → Contains h.event.steps (Answer e outcome.Unplugged) → IsLost e.request.port old h.event.ports h.device
-  lost_then e here = (t.is_evidenced.port e.request.port).lost (lawful e outcome.Unplugged here).0
+  lost_then e here = (t.is_evidenced.each_port_is_evidenced e.request.port).lost_only (lawful e outcome.Unplugged here).0
 
   module _ (shrink : RowsShrink) where
     rests : (e : Pending) (o : Outcome) → Contains h.event.steps (Answer e o) → IsLawfulAnswer old.abstract h.event.evidence h.event.ports e o → AnswerJustified old h t.accesses e o
     rests e outcome.Ok here l = l
     rests e (outcome.DeviceError status error) here l = (
-      t.is_evidenced.faults _ l.2,
+      t.is_evidenced.faults_are_told _ l.2,
       ⊎_elim
           (λ stops. stops)
-          (λ (ends : _ × _). absurd (⊎_elim (λ (d : ⊥). d) (λ s. no_fault h.event.ask h.event.said h.event.ports e status error ends.0 s)
-          (belongs_of h.event.ask h.event.ports h.event.steps x.steps_are_of_call (Answer e (outcome.DeviceError status error)) here)))
-          ((t.is_evidenced.port e.request.port).stopped_only l.3),
+          (λ (ends : _ × _). absurd (⊎_elim (λ (d : ⊥). d) (λ s. no_fault h.event.call h.event.result h.event.ports e status error ends.0 s)
+          (belongs_of h.event.call h.event.ports h.event.steps x.steps_are_of_call (Answer e (outcome.DeviceError status error)) here)))
+          ((t.is_evidenced.each_port_is_evidenced e.request.port).stopped_only l.3),
     )
     rests e outcome.Aborted here l = (l.1, l.2.0)
     rests e outcome.Unplugged here l = lost_then e here
@@ -124,7 +124,7 @@ module _ (wanted : List Wanted) (old : JointState Device) (h : JointEvent Device
       grant_gone shrink old.abstract.machine h.event.steps e x.steps_are_enabled here,
       ⊎_elim
           (λ waits. inl waits)
-          (λ again. inr (⊎_elim (λ stops. inl stops) (λ ends. inr ends.0) ((t.is_evidenced.port e.request.port).stopped_only again.1)))
+          (λ again. inr (⊎_elim (λ stops. inl stops) (λ ends. inr ends.0) ((t.is_evidenced.each_port_is_evidenced e.request.port).stopped_only again.1)))
           l,
     )
 

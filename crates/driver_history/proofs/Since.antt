@@ -6,11 +6,11 @@ use Rattle.adapter.specs.Device.{Device}
 use Rattle.adapter.specs.declared.tape.Entry.{Entry}
 use Rattle.adapter.specs.declared.tape.Entry.TheVariants as entry
 use Rattle.refinement.specs.Fragments.{TapeGrows}
-use Rattle.refinement.specs.Errors.{IsFatalOf}
+use Rattle.refinement.specs.Errors.{IsFatalErrorOf}
 use Rattle.refinement.specs.PortFacts.{IsDisturbance, IsFaultOf, Undisturbed}
-use Rattle.refinement.specs.Links.{IsPlugEvent, NoPlugEvents}
+use Rattle.refinement.specs.PreservedParts.{IsPlugEvent, NoPlugEvents}
 use Rattle.error_recovery.specs.Evidence.{GainsSinceStart}
-use Rattle.driver_history.specs.Laws.{Laws}
+use Rattle.driver_history.specs.Laws.{AccessLaws}
 
 -- an entry that the later part of a stretch gained, at its place in the whole
 pub gained_later : {X : Type 0} (old early before : List X) (e : X) (later last : List X) {mid end new : List X} → mid ≡ old ++ early → end ≡ mid ++ (before ++ e ∷ later) → new ≡ end ++ last
@@ -32,12 +32,12 @@ running_in_part Such port old start end new first last same g =
       before = first.0 ++ g.before;
       entry = g.entry;
       later = g.later ++ last.0;
-      tape = gained_later old.tape first.0 g.before g.entry g.later last.0 first.1 g.tape last.1;
+      tape_grows = gained_later old.tape first.0 g.before g.entry g.later last.0 first.1 g.tape_grows last.1;
       is_of_kind = g.is_of_kind;
       came_since_start = omega (arith, same, since, long, more);
     }
 
-module _ (laws : Laws) (port : ℕ) (old mid new : Device) (early : TapeGrows old mid) (late : TapeGrows mid new) (set : (new.port port).notes.st_set_at ≤ length mid.tape) where
+module _ (laws : AccessLaws) (port : ℕ) (old mid new : Device) (early : TapeGrows old mid) (late : TapeGrows mid new) (set : (new.port port).notes.st_set_at ≤ length mid.tape) where
   running : (Such : Entry → Type 0) (before : List Entry) (e : Entry) (later : List Entry) → new.tape ≡ mid.tape ++ (before ++ e ∷ later) → Such e → GainsSinceStart Such port old new
   running Such before e later tape is =
       let long = ap (λ (xs : List Entry). length xs) early.1 ∙ length-append old.tape early.0 in
@@ -46,16 +46,16 @@ module _ (laws : Laws) (port : ℕ) (old mid new : Device) (early : TapeGrows ol
         before = early.0 ++ before;
         entry = e;
         later = later;
-        tape = tape ∙ ap (λ (xs : List Entry). xs ++ (before ++ e ∷ later)) early.1 ∙ append_assoc old.tape early.0 (before ++ e ∷ later)
+        tape_grows = tape ∙ ap (λ (xs : List Entry). xs ++ (before ++ e ∷ later)) early.1 ∙ append_assoc old.tape early.0 (before ++ e ∷ later)
             ∙ ap (λ (xs : List Entry). old.tape ++ xs) (sym (append_assoc early.0 before (e ∷ later)));
         is_of_kind = is;
         came_since_start = omega (arith, set, long, more);
       }
 
-  module _ (unfailed : GainsSinceStart (IsFaultOf port) port old new → ⊥) (unbroken : GainsSinceStart (IsFatalOf port) port old new → ⊥) where
+  module _ (unfailed : GainsSinceStart (IsFaultOf port) port old new → ⊥) (unbroken : GainsSinceStart (IsFatalErrorOf port) port old new → ⊥) where
     one_calm : (before : List Entry) (e : Entry) (later : List Entry) → new.tape ≡ mid.tape ++ (before ++ e ∷ later) → (IsPlugEvent port e → ⊥) → IsDisturbance port e → ⊥
     one_calm before (entry.Fault fault) later tape none is = unfailed (running (IsFaultOf port) before (entry.Fault fault) later tape is)
-    one_calm before (entry.Fatal at) later tape none is = unbroken (running (IsFatalOf port) before (entry.Fatal at) later tape is)
+    one_calm before (entry.Fatal at) later tape none is = unbroken (running (IsFatalErrorOf port) before (entry.Fatal at) later tape is)
     one_calm before (entry.Unplug at) later tape none is = none is
     one_calm before (entry.Plug at name) later tape none is = none is
     one_calm before (entry.Move x) later tape none is = absurd is
@@ -68,7 +68,7 @@ module _ (laws : Laws) (port : ℕ) (old mid new : Device) (early : TapeGrows ol
         All-cons (λ e. IsDisturbance port e → ⊥) e later (one_calm before e later tape (All-head (λ e. IsPlugEvent port e → ⊥) e later none))
         (all_calm (before ++ e ∷ []) later (tape ∙ ap (λ (xs : List Entry). mid.tape ++ xs) (sym (append_assoc before (e ∷ []) later))) (All-tail (λ e. IsPlugEvent port e → ⊥) e later none))
 
-  pub calm_since : NoPlugEvents port old new → (GainsSinceStart (IsFaultOf port) port old new → ⊥) → (GainsSinceStart (IsFatalOf port) port old new → ⊥) → Undisturbed port mid new
+  pub calm_since : NoPlugEvents port old new → (GainsSinceStart (IsFaultOf port) port old new → ⊥) → (GainsSinceStart (IsFatalErrorOf port) port old new → ⊥) → Undisturbed port mid new
   calm_since none unfailed unbroken =
-      let after = (laws.tape.plugs_parts port old mid new early.0 late.0 early.1 late.1 none).1 in
+      let after = (laws.tape.no_plug_events_in_parts port old mid new early.0 late.0 early.1 late.1 none).1 in
       record { new_entries = after.new_entries; tape_is = after.tape_is; no_disturbance = all_calm unfailed unbroken [] after.new_entries after.tape_is after.no_such_entry }

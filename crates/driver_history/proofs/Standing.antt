@@ -17,16 +17,16 @@ use Rattle.adapter.specs.declared.access.DeviceStep.{DeviceStep}
 use Rattle.adapter.specs.declared.tape.Entry.{Entry}
 use Rattle.refinement.specs.Relation.{StateRelation, port_at}
 use Rattle.refinement.specs.PortFacts.{DeviceSparesFrame}
-use Rattle.refinement.specs.Links.{IsPlugEvent, NoPlugEvents}
+use Rattle.refinement.specs.PreservedParts.{IsPlugEvent, NoPlugEvents}
 use Rattle.refinement.specs.Slots.{ServesRequest, IsInSomeStage, SlotStates}
 use Rattle.block_machine.specs.Events.{AbstractCall, Service, abstract_after}
 use Rattle.block_machine.specs.Histories.{JointState, JointEvent, IsReachable, joint_state_after}
-use Rattle.block_machine.specs.Ports.{SameDisk}
+use Rattle.block_machine.specs.Ports.{SameSerialAndSize}
 use Rattle.block_machine.specs.State.{Accepted, Machine, Pending}
 use Rattle.block_machine.specs.Steps.{Answer}
 use Rattle.identify.specs.declared.wanted.Wanted.{Wanted}
 use Rattle.driver_history.specs.EvidenceHandling.{HandlesEvidenceAt}
-use Rattle.driver_history.specs.Evidence.{TapeGainsEntry, ShowsChange}
+use Rattle.driver_history.specs.Evidence.{TapeGainsEntry, ShowsLinkChange}
 use Rattle.driver_history.specs.Histories.{IsDriverHistory, CallCorresponds}
 use Rattle.driver_history.specs.Laws.{RunLaws}
 use Rattle.driver_history.proofs.Telling.{history_reached}
@@ -41,7 +41,7 @@ pub unlent_still : UnlentIsStill → RunLaws → (wanted : List Wanted) (first :
     → DRIVER_FRAMES ≤ frame.0 → (joint_state_after first past).abstract.machine.lent frame ≡ None → IsStable (DeviceSparesFrame frame) (joint_state_after first past).device
 unlent_still law runs wanted first past frame history low free =
     let h = holds_at wanted first past history in
-    law h.0.uses (joint_state_after first past).abstract.machine (joint_state_after first past).device frame (history_reached runs wanted first past history) h.1.driver_relation.state_relation free low
+    law h.0.slot_states (joint_state_after first past).abstract.machine (joint_state_after first past).device frame (history_reached runs wanted first past history) h.1.driver_relation.state_relation free low
 
 -- ---- what is seen
 
@@ -54,12 +54,12 @@ taken_bits false queued ci sact on i s a b = false≢true on
 ended_of : (memory : ℕ → ℕ) (p : DevicePort) (port slot : ℕ) (e : Pending) (c : Meaning) (places : List ℕ) → IsInSomeStage memory p port slot e c places → p.st ≡ true
     → p.ci slot ≡ false → p.sact slot ≡ false → e.ended ≡ true
 ended_of memory p port slot e c places (inl waits) st ci sact = absurd (false≢true (sym ci ∙ waits.issued))
-ended_of memory p port slot e c places (inr (inl taken)) st ci sact = absurd (taken_bits p.st (is_queued c.operation) (p.ci slot) (p.sact slot) st taken.issued taken.sact ci sact)
+ended_of memory p port slot e c places (inr (inl taken)) st ci sact = absurd (taken_bits p.st (is_queued c.operation) (p.ci slot) (p.sact slot) st taken.ci_is_set_while_plain taken.sact ci sact)
 ended_of memory p port slot e c places (inr (inr (inl ended))) st ci sact = ended.ended
-ended_of memory p port slot e c places (inr (inr (inr dropped))) st ci sact = absurd (false≢true (sym dropped.stopped ∙ st))
+ended_of memory p port slot e c places (inr (inr (inr dropped))) st ci sact = absurd (false≢true (sym dropped.st_is_clear ∙ st))
 
 pub seen_answered : (wanted : List Wanted) (first : JointState Device) (past : List (JointEvent Device DeviceStep)) (h : JointEvent Device DeviceStep) (port : Port) (slot : ℕ) (id : RequestId)
-    → IsDriverHistory wanted first (h ∷ past) → h.event.ask ≡ Service → (joint_state_after first past).abstract.ports.state port ≡ Ready
+    → IsDriverHistory wanted first (h ∷ past) → h.event.call ≡ Service → (joint_state_after first past).abstract.ports.state port ≡ Ready
     → ServesRequest (joint_state_after first past).abstract.machine (joint_state_after first past).device.memory ((joint_state_after first past).device.port port.0) port.0 slot id
     → ((joint_state_after first past).device.port port.0).ci slot ≡ false → ((joint_state_after first past).device.port port.0).sact slot ≡ false
     → (done : Pending) × (done.request.id ≡ id) × Contains h.event.steps (Answer done outcome.Ok)
@@ -70,7 +70,7 @@ seen_answered wanted first past h port slot id history asks asked serves ci sact
     let at = ready_at wanted old port (fit_at wanted first past history.0) holds.0 holds.1 asked in
     let same_port : serves.pending.request.port ≡ port = ap port_at serves.port_is in
     let booked : Contains old.abstract.machine.book serves.pending = ⊎_elim (λ b. b.0) (λ k. absurd (at.none_is_quarantined serves.pending k same_port)) serves.may_still_move in
-    let ended : serves.pending.ended ≡ true = ended_of old.device.memory (old.device.port port.0) port.0 slot serves.pending serves.command serves.places serves.stage at.engine_runs.st ci sact in
+    let ended : serves.pending.ended ≡ true = ended_of old.device.memory (old.device.port port.0) port.0 slot serves.pending serves.command serves.places serves.stage at.engine_runs.st_is_set ci sact in
     let Heeded : AbstractCall DeviceStep → Type 0 = λ ask. HandlesEvidenceAt port ask old.abstract h.event.evidence h.event.steps (abstract_after old.abstract h.event) in
     let served : Heeded Service = subst Heeded asks (t.ports_correspond port).handles_evidence in
     let answer = (served asked).answers_ended serves.pending booked same_port ended in
@@ -85,9 +85,9 @@ none_of port old new u g =
     All-contains (λ e. IsPlugEvent port e → ⊥) u.new_entries g.entry u.no_such_entry (subst (λ (xs : List Entry). Contains xs g.entry) same g.entry_is_new) g.entry_is_of_kind
 
 pub unplugged_refused : (wanted : List Wanted) (first : JointState Device) (past : List (JointEvent Device DeviceStep)) (h : JointEvent Device DeviceStep) (e : Pending)
-    → IsDriverHistory wanted first (h ∷ past) → (ShowsChange ((joint_state_after first past).device.port e.request.port.0) → ⊥) → ((joint_state_after first past).device.port e.request.port.0).ssts_det ≡ 3
+    → IsDriverHistory wanted first (h ∷ past) → (ShowsLinkChange ((joint_state_after first past).device.port e.request.port.0) → ⊥) → ((joint_state_after first past).device.port e.request.port.0).ssts_det ≡ 3
     → NoPlugEvents e.request.port.0 (joint_state_after first past).device h.device
-    → (h.event.ports.state e.request.port ≡ Dead) ⊎ ((h.event.ports.state e.request.port ≡ Ready) × SameDisk (joint_state_after first past).abstract.ports h.event.ports e.request.port)
+    → (h.event.ports.state e.request.port ≡ Dead) ⊎ ((h.event.ports.state e.request.port ≡ Ready) × SameSerialAndSize (joint_state_after first past).abstract.ports h.event.ports e.request.port)
     → Contains h.event.steps (Answer e outcome.Unplugged) → ⊥
 unplugged_refused wanted first past h e history quiet det none ends here =
     let lost = lost_then wanted (joint_state_after first past) h history.1 history.2 e here in

@@ -13,17 +13,17 @@ use Rattle.adapter.specs.Device.{Device, DevicePort}
 use Rattle.adapter.specs.Rules.{IsOn}
 use Rattle.adapter.specs.declared.tape.Entry.{Entry}
 use Rattle.refinement.specs.Fragments.{TapeGrows}
-use Rattle.refinement.specs.Errors.{ChangesByErrors, IsFatalOf, NoDiskComes, NoneFatal}
+use Rattle.refinement.specs.Errors.{ErrorBitsRiseByErrors, IsFatalErrorOf, NoDiskComes, NoFatalErrors}
 use Rattle.refinement.specs.PortFacts.{IsFaultOf}
-use Rattle.refinement.specs.Links.{ShowsDiskIfIn, IsPlugEvent, NoPlugEvents, DoesNotWrite}
+use Rattle.refinement.specs.PreservedParts.{ShowsDiskIfIn, IsPlugEvent, NoPlugEvents, DoesNotWrite}
 use Rattle.refinement.specs.Vacant.{HasFirstFisIfShown, IsVacant}
-use Rattle.block_machine.specs.Events.{AbstractState, CallResult, Service}
+use Rattle.block_machine.specs.Events.{AbstractState, AbstractCallResult, Service}
 use Rattle.block_machine.specs.Histories.{JointState}
 use Rattle.block_machine.specs.Ports.{Evidence, IsStoppedOrStuck, Ports, SamePort}
 use Rattle.error_recovery.specs.Evidence.{GainsSinceStart, ShowsFatal}
-use Rattle.driver_history.specs.Evidence.{TapeGainsEntry, ShowsChange, ShowsFailure}
-use Rattle.driver_history.specs.Histories.{BootsAnew, HasUnservedDisk, HasOnlyTaskFileError, HasSignatureOrNoDevice, LosesNoPortError, RunsWellAnew, IsPortAlive, ProbesDisk}
-use Rattle.driver_history.specs.Laws.{Laws}
+use Rattle.driver_history.specs.Evidence.{TapeGainsEntry, ShowsLinkChange, ShowsFailure}
+use Rattle.driver_history.specs.Histories.{BootsAnew, IsForeignOrUnfit, HasOnlyTaskFileError, HasFirstFisOrNoDevice, LosesNoPortError, RunsWellAnew, IsServedAndNotDead, ProbesDisk}
+use Rattle.driver_history.specs.Laws.{AccessLaws}
 use Rattle.driver_history.specs.PortTurn.{EndsNoLinkDue, HasTurnIn, IsOfOtherPort, EvidenceAgreesOn, call_accesses}
 use Rattle.driver_history.specs.AccessTrace.{ResetsLink}
 use Rattle.driver_history.proofs.Parting.{IsLeft, gains_within, grows_over, loss_then, others_leave, plugged_or_not}
@@ -41,13 +41,13 @@ gained_at Such old new before e later tape is = record {
   entry_is_of_kind = is;
 }
 
-fresh_or_gone : (p : DevicePort) → HasFirstFisIfShown p → HasSignatureOrNoDevice p
+fresh_or_gone : (p : DevicePort) → HasFirstFisIfShown p → HasFirstFisOrNoDevice p
 fresh_or_gone p fresh = ⊎_elim (λ (shows : p.ssts_det ≡ 3). inl (fresh shows)) (λ gone. inr gone) (cases_eq p.ssts_det 3)
 
-fresh_if_shown : (p : DevicePort) → HasSignatureOrNoDevice p → HasFirstFisIfShown p
+fresh_if_shown : (p : DevicePort) → HasFirstFisOrNoDevice p → HasFirstFisIfShown p
 fresh_if_shown p fresh shows = ⊎_elim (λ came. came) (λ gone. absurd (gone shows)) fresh
 
-module _ (laws : Laws) (port : Port) where
+module _ (laws : AccessLaws) (port : Port) where
   -- what each access leaves of the port where no disk of it comes, accesses one after another do
   stays_over : (P : DevicePort → Type 0) → ((access : Access) (old new : Device) → NoDiskComes port.0 old new → Does access old new → P (old.port port.0) → P (new.port port.0))
       → (accesses : List Access) (old new : Device) → DoesAll accesses old new → NoDiskComes port.0 old new → P (old.port port.0) → P (new.port port.0)
@@ -55,11 +55,11 @@ module _ (laws : Laws) (port : Port) where
   stays_over P one (access ∷ accesses) old new (mid, does, rest) none so =
       let early = laws.tape.access_grows access old mid does in
       let late = grows_over laws port accesses mid new rest in
-      let parts = laws.tape.comes_parts port.0 old mid new early.0 late.0 early.1 late.1 none in
+      let parts = laws.tape.no_disk_comes_in_parts port.0 old mid new early.0 late.0 early.1 late.1 none in
       stays_over P one accesses mid new rest parts.1 (one access old mid parts.0 does so)
 
   -- where none was shown, and none came, none is shown
-  no_fatal_then : (old new : Device) → ChangesByErrors port.0 old new → NoneFatal port.0 old new → (ShowsFatal (old.port port.0) → ⊥) → ShowsFatal (new.port port.0) → ⊥
+  no_fatal_then : (old new : Device) → ErrorBitsRiseByErrors port.0 old new → NoFatalErrors port.0 old new → (ShowsFatal (old.port port.0) → ⊥) → ShowsFatal (new.port port.0) → ⊥
   no_fatal_then old new rises none clear shown =
       let low = shown.from in
       let high = shown.to in
@@ -79,7 +79,7 @@ module _ (laws : Laws) (port : Port) where
     middle = grows_over laws port t.turn t.start t.end t.turn_leads_to_end
 
     since : TapeGrows t.start new
-    since = laws.tape.grows_more t.start t.end new middle last.grows
+    since = laws.tape.growth_is_transitive t.start t.end new middle last.grows
 
     abbrev began : JointState Device
     began = record { device = t.start; abstract = begun }
@@ -88,8 +88,8 @@ module _ (laws : Laws) (port : Port) where
 
     plug_parts : NoPlugEvents port.0 old.device new → NoPlugEvents port.0 old.device t.start × NoPlugEvents port.0 t.start t.end
     plug_parts none =
-        let a = laws.tape.plugs_parts port.0 old.device t.start new first.grows.0 since.0 first.grows.1 since.1 none in
-        (a.0, (laws.tape.plugs_parts port.0 t.start t.end new middle.0 last.grows.0 middle.1 last.grows.1 a.1).0)
+        let a = laws.tape.no_plug_events_in_parts port.0 old.device t.start new first.grows.0 since.0 first.grows.1 since.1 none in
+        (a.0, (laws.tape.no_plug_events_in_parts port.0 t.start t.end new middle.0 last.grows.0 middle.1 last.grows.1 a.1).0)
 
     -- ---- and what was done then was done in the whole
 
@@ -97,7 +97,7 @@ module _ (laws : Laws) (port : Port) where
       -- boots
 
       spares_other : (accesses : List Access) → All (IsOfOtherPort port) accesses → All (DoesNotWrite (Px port Sctl)) accesses
-      spares_other accesses of = All-weaker (IsOfOtherPort port) (DoesNotWrite (Px port Sctl)) (λ access x. laws.spares x.0 port Sctl x.1 access x.2) accesses of
+      spares_other accesses of = All-weaker (IsOfOtherPort port) (DoesNotWrite (Px port Sctl)) (λ access x. laws.one_port_spares_registers x.0 port Sctl x.1 access x.2) accesses of
 
       reset_in_call : ResetsLink port t.turn → ResetsLink port (call_accesses t)
       reset_in_call r = reset_within port t.before t.turn t.later (spares_other t.later t.later_are_of_others) r
@@ -105,7 +105,7 @@ module _ (laws : Laws) (port : Port) where
       reset_in_turn : ResetsLink port (call_accesses t) → ResetsLink port t.turn
       reset_in_turn r = reset_before port t.turn t.later (spares_other t.later t.later_are_of_others) (reset_after port t.before (t.turn ++ t.later) (spares_other t.before t.earlier_are_of_others) r)
 
-      pub boots_are_the_calls : (one other : CallResult) → (old.abstract.ports.state port ≡ Ready → (old.device.port port.0).link_due ≡ false) → SamePort old.abstract.ports begun.ports port → BootsAnew Service one t.turn began ended t.end port
+      pub boots_are_the_calls : (one other : AbstractCallResult) → (old.abstract.ports.state port ≡ Ready → (old.device.port port.0).link_due ≡ false) → SamePort old.abstract.ports begun.ports port → BootsAnew Service one t.turn began ended t.end port
           → BootsAnew Service other (call_accesses t) old ports new port
       boots_are_the_calls one other undue was its = (
         λ ready port_error. booted (its.0 (was.1 ∙ ready) (⊎_elim
@@ -133,11 +133,11 @@ module _ (laws : Laws) (port : Port) where
       -- no disk came in the parts
       comes : NoDiskComes port.0 old.device new → NoDiskComes port.0 old.device t.start × NoDiskComes port.0 t.start t.end × NoDiskComes port.0 t.end new
       comes none =
-          let a = laws.tape.comes_parts port.0 old.device t.start new first.grows.0 since.0 first.grows.1 since.1 none in
-          let b = laws.tape.comes_parts port.0 t.start t.end new middle.0 last.grows.0 middle.1 last.grows.1 a.1 in
+          let a = laws.tape.no_disk_comes_in_parts port.0 old.device t.start new first.grows.0 since.0 first.grows.1 since.1 none in
+          let b = laws.tape.no_disk_comes_in_parts port.0 t.start t.end new middle.0 last.grows.0 middle.1 last.grows.1 a.1 in
           (a.0, b.0, b.1)
 
-      bad_then : SamePort old.abstract.ports begun.ports port → HasUnservedDisk old.abstract.ports port → HasUnservedDisk begun.ports port
+      bad_then : SamePort old.abstract.ports begun.ports port → IsForeignOrUnfit old.abstract.ports port → IsForeignOrUnfit begun.ports port
       bad_then was bad = ⊎_elim (λ foreign. inl (was.1 ∙ foreign)) (λ unfit. inr (unfit.0, was.1 ∙ unfit.1)) bad
 
       -- X that was shown is shown still
@@ -153,28 +153,28 @@ module _ (laws : Laws) (port : Port) where
           (linked (bad_then was bad) (x_then x) parts.1)
 
       -- the disk's first FIS has come, or no device shows, at the call's end, where it has at the turn's
-      fresh_still : NoDiskComes port.0 t.end new → HasSignatureOrNoDevice (t.end.port port.0) → HasSignatureOrNoDevice (new.port port.0)
-      fresh_still none fresh = fresh_or_gone (new.port port.0) (stays_over HasFirstFisIfShown (laws.fresh port) t.later t.end new t.leads_to_new none (fresh_if_shown (t.end.port port.0) fresh))
+      fresh_still : NoDiskComes port.0 t.end new → HasFirstFisOrNoDevice (t.end.port port.0) → HasFirstFisOrNoDevice (new.port port.0)
+      fresh_still none fresh = fresh_or_gone (new.port port.0) (stays_over HasFirstFisIfShown (laws.first_fis_stays port) t.later t.end new t.leads_to_new none (fresh_if_shown (t.end.port port.0) fresh))
 
-      pub tries_are_the_calls : SamePort old.abstract.ports begun.ports port → (HasUnservedDisk old.abstract.ports port → ShowsDiskIfIn (old.device.port port.0)) → EndsNoLinkDue port began ended t.end
+      pub tries_are_the_calls : SamePort old.abstract.ports begun.ports port → (IsForeignOrUnfit old.abstract.ports port → ShowsDiskIfIn (old.device.port port.0)) → EndsNoLinkDue port began ended t.end
           → (NoDiskComes port.0 t.start t.end → ProbesDisk t.turn began ended t.end port) → NoDiskComes port.0 old.device new → ProbesDisk (call_accesses t) old ports new port
       tries_are_the_calls was there linked tried none = record {
-        shown = λ absent shows. ⊎_elim
-            (λ gained. inr (inr (gains_within (IsPlugEvent port.0) old.device old.device t.start new (laws.tape.grows_none old.device) since gained)))
+        absent_with_device_is_booted = λ absent shows. ⊎_elim
+            (λ gained. inr (inr (gains_within (IsPlugEvent port.0) old.device old.device t.start new (laws.tape.growth_is_reflexive old.device) since gained)))
             (λ still. ⊎_elim
             (λ dead. inl (stays.1 ∙ dead))
             (λ rest. inr (⊎_elim (λ r. inl (reset_in_call r)) (λ gained. inr (gains_within (IsPlugEvent port.0) old.device t.start t.end new first.grows last.grows gained)) rest))
-            (its.shown (was.1 ∙ absent) (first.shown still shows)))
+            (its.absent_with_device_is_booted (was.1 ∙ absent) (first.shown still shows)))
             (plugged_or_not port.0 old.device t.start first.grows);
-        absent = λ absent shows stale. ⊎_elim
+        absent_gets_first_fis = λ absent shows stale. ⊎_elim
             (λ (shows_then : (t.start.port port.0).ssts_det ≡ 3). ⊎_elim
             (λ (fresh : (t.start.port port.0).fresh ≡ true). inr (from_start (λ _. fresh)))
-            (λ (stale_then : (t.start.port port.0).fresh ≡ false). ⊎_elim (λ dead. inl (stays.1 ∙ dead)) (λ fresh. inr (fresh_still parts.2 fresh)) (its.absent (was.1 ∙ absent) shows_then stale_then))
+            (λ (stale_then : (t.start.port port.0).fresh ≡ false). ⊎_elim (λ dead. inl (stays.1 ∙ dead)) (λ fresh. inr (fresh_still parts.2 fresh)) (its.absent_gets_first_fis (was.1 ∙ absent) shows_then stale_then))
             (cases_Bool (t.start.port port.0).fresh))
             (λ (gone : (t.start.port port.0).ssts_det ≢ 3). inr (from_start (λ shows_then. absurd (gone shows_then))))
             (cases_eq (t.start.port port.0).ssts_det 3);
-        missing = λ bad out. ⊎_elim (λ absent. inl (stays.1 ∙ absent)) (λ dead. inr (stays.1 ∙ dead)) (its.missing (bad_then was bad) (vacant_then bad out).det);
-        changed = λ bad x. ⊎_elim
+        missing_disk_makes_absent = λ bad out. ⊎_elim (λ absent. inl (stays.1 ∙ absent)) (λ dead. inr (stays.1 ∙ dead)) (its.missing_disk_makes_absent (bad_then was bad) (vacant_then bad out).det_is_not_3);
+        changed_disk_is_booted = λ bad x. ⊎_elim
             (λ absent. inl (stays.1 ∙ absent))
             (λ rest. ⊎_elim
             (λ dead. inr (inl (stays.1 ∙ dead)))
@@ -182,11 +182,11 @@ module _ (laws : Laws) (port : Port) where
             (λ absent. inl (stays.1 ∙ absent))
             (λ more. inr (⊎_elim
             (λ dead. inl (stays.1 ∙ dead))
-            (λ undue. inr (reset_in_call anew.0, (last.disks undue).serr_x parts.2 anew.1, fresh_still parts.2 anew.2))
+            (λ undue. inr (reset_in_call anew.0, (last.disks undue).serr_x_rises_by_disk_coming parts.2 anew.1, fresh_still parts.2 anew.2))
             more))
             (linked (bad_then was bad) (x_then x) parts.1))
             rest)
-            (its.changed (bad_then was bad) (x_then x));
+            (its.changed_disk_is_booted (bad_then was bad) (x_then x));
       }
         where
           parts : NoDiskComes port.0 old.device t.start × NoDiskComes port.0 t.start t.end × NoDiskComes port.0 t.end new
@@ -196,14 +196,14 @@ module _ (laws : Laws) (port : Port) where
           its = tried parts.1
 
           -- what is so of the disk's first FIS when the turn begins is so at the call's end
-          from_start : HasFirstFisIfShown (t.start.port port.0) → HasSignatureOrNoDevice (new.port port.0)
+          from_start : HasFirstFisIfShown (t.start.port port.0) → HasFirstFisOrNoDevice (new.port port.0)
           from_start fresh = fresh_or_gone (new.port port.0)
-              (stays_over HasFirstFisIfShown (laws.fresh port) t.later t.end new t.leads_to_new parts.2 (stays_over HasFirstFisIfShown (laws.fresh port) t.turn t.start t.end t.turn_leads_to_end parts.1 fresh))
+              (stays_over HasFirstFisIfShown (laws.first_fis_stays port) t.later t.end new t.leads_to_new parts.2 (stays_over HasFirstFisIfShown (laws.first_fis_stays port) t.turn t.start t.end t.turn_leads_to_end parts.1 fresh))
 
           -- where no disk was in, none is when the turn begins
-          vacant_then : HasUnservedDisk old.abstract.ports port → (old.device.port port.0).ssts_det ≢ 3 → IsVacant (t.start.port port.0)
-          vacant_then bad out = stays_over IsVacant (laws.vacant port) t.before old.device t.start t.leads_to_start parts.0
-              (⊎_elim (λ (shows : (old.device.port port.0).ssts_det ≡ 3). absurd (out shows)) (λ gone. record { no_disk_is_in = gone; det = out }) (there bad))
+          vacant_then : IsForeignOrUnfit old.abstract.ports port → (old.device.port port.0).ssts_det ≢ 3 → IsVacant (t.start.port port.0)
+          vacant_then bad out = stays_over IsVacant (laws.vacant_port_stays_vacant port) t.before old.device t.start t.leads_to_start parts.0
+              (⊎_elim (λ (shows : (old.device.port port.0).ssts_det ≡ 3). absurd (out shows)) (λ gone. record { no_disk_is_in = gone; det_is_not_3 = out }) (there bad))
 
       module _ (turn call : Evidence) (alike : EvidenceAgreesOn port turn call) where
         named : IsStoppedOrStuck turn port → IsStoppedOrStuck call port
@@ -241,7 +241,7 @@ module _ (laws : Laws) (port : Port) where
               (parts_at first.grows.0 (middle.0 ++ last.grows.0) before later e (append_cancel_left old.device.tape (first.grows.0 ++ (middle.0 ++ last.grows.0)) (before ++ e ∷ later) (sym whole_tape ∙ tape)))
 
         module _ (was : SamePort old.abstract.ports begun.ports port) (set_since : ended.state port ≡ Ready → IsStoppedOrStuck turn port → length t.start.tape ≤ (t.end.port port.0).notes.st_set_at)
-            (stops : (begun.ports.state port ≡ Ready) ⊎ (ended.state port ≡ Ready) → ShowsFailure (t.start.port port.0) ⊎ ShowsChange (t.start.port port.0) → IsStoppedOrStuck turn port) (its : LosesNoPortError turn began ended t.end port) where
+            (stops : (begun.ports.state port ≡ Ready) ⊎ (ended.state port ≡ Ready) → ShowsFailure (t.start.port port.0) ⊎ ShowsLinkChange (t.start.port port.0) → IsStoppedOrStuck turn port) (its : LosesNoPortError turn began ended t.end port) where
           -- trouble that came before the turn stopped a ready port in it
           stopped : (begun.ports.state port ≡ Ready) ⊎ (ended.state port ≡ Ready) → (kind : TroubleKind) → TapeGainsEntry (IsOne kind port.0) old.device t.start → IsStoppedOrStuck turn port
           stopped ready kind early = stops ready (is_trouble kind (t.start.port port.0) (told kind (t.start.port port.0) ((first.trouble_shown kind).came early)))
@@ -268,30 +268,30 @@ module _ (laws : Laws) (port : Port) where
               let at : (new.port port.0).notes.st_set_at ≡ (t.end.port port.0).notes.st_set_at = ap (λ n. n.st_set_at) last.leaves.notes in
               let least = g.came_since_start in
               let is_ready : ended.state port ≡ Ready = sym stays.1 ∙ ready in
-              by_parts (IsOne kind port.0) (Shows kind (new.port port.0)) g.before g.entry g.later g.tape g.is_of_kind
+              by_parts (IsOne kind port.0) (Shows kind (new.port port.0)) g.before g.entry g.later g.tape_grows g.is_of_kind
               (λ early small. let set = set_since is_ready (stopped (inr is_ready) kind early) in absurd (omega (arith, at, least, set, small)))
               (λ ahead rest tape place.
-              (last.trouble_shown kind).still (its_own is_ready (record { before = ahead; entry = g.entry; later = rest; tape = tape; is_of_kind = g.is_of_kind; came_since_start = omega (arith, at, least, place) })))
+              (last.trouble_shown kind).still (its_own is_ready (record { before = ahead; entry = g.entry; later = rest; tape_grows = tape; is_of_kind = g.is_of_kind; came_since_start = omega (arith, at, least, place) })))
               (last.trouble_shown kind).came
 
           pub trouble_is_the_calls : LosesNoPortError call old ports new port
           trouble_is_the_calls = record {
-            errors = λ ready port_error. ⊎_elim
-                (λ shown. still faults (its.errors (was.1 ∙ ready) (inl (failure_still port.0 old.device t.start first.trouble_shown shown))))
+            errors_are_handled_or_shown = λ ready port_error. ⊎_elim
+                (λ shown. still faults (its.errors_are_handled_or_shown (was.1 ∙ ready) (inl (failure_still port.0 old.device t.start first.trouble_shown shown))))
                 (λ g. ⊎_elim
-                (came faults (λ it. its.errors (was.1 ∙ ready) (⊎_elim (λ tells. inl tells) (λ g. inr (inl g)) it)))
-                (came fatals (λ it. its.errors (was.1 ∙ ready) (⊎_elim (λ tells. inl tells) (λ g. inr (inr g)) it)))
+                (came faults (λ it. its.errors_are_handled_or_shown (was.1 ∙ ready) (⊎_elim (λ tells. inl tells) (λ g. inr (inl g)) it)))
+                (came fatals (λ it. its.errors_are_handled_or_shown (was.1 ∙ ready) (⊎_elim (λ tells. inl tells) (λ g. inr (inr g)) it)))
                 g)
                 port_error;
-            changes = λ tends port_error.
-                let tends_then : IsPortAlive begun.ports port = (was.0 ∙ tends.0, λ dead. tends.1 (sym was.1 ∙ dead)) in
+            changes_are_handled_or_shown = λ tends port_error.
+                let tends_then : IsServedAndNotDead begun.ports port = (was.0 ∙ tends.0, λ dead. tends.1 (sym was.1 ∙ dead)) in
                 ⊎_elim
-                (λ shown. still disks (its.changes tends_then (inl (change_still port.0 old.device t.start first.trouble_shown shown))))
-                (came disks (its.changes tends_then))
+                (λ shown. still disks (its.changes_are_handled_or_shown tends_then (inl (change_still port.0 old.device t.start first.trouble_shown shown))))
+                (came disks (its.changes_are_handled_or_shown tends_then))
                 port_error;
-            fault = came_since faults its.fault;
-            fatal = came_since fatals its.fatal;
-            disk = came_since disks its.disk;
+            new_fault_is_shown = came_since faults its.new_fault_is_shown;
+            new_fatal_is_shown = came_since fatals its.new_fatal_is_shown;
+            new_plug_event_is_shown = came_since disks its.new_plug_event_is_shown;
           }
 
         pub well_is_the_calls : (ended.state port ≡ Ready → ((old.device.port port.0).link_due ≡ false) ⊎ ResetsLink port t.turn) → (ended.state port ≡ Ready → (t.end.port port.0).notes.st_set_at ≤ length t.end.tape) → RunsWellAnew turn t.turn began ended t.end port
@@ -302,20 +302,20 @@ module _ (laws : Laws) (port : Port) where
             let small = known is_ready in
             let parts = plug_parts plugs in
             let up : ResetsLink port t.turn ⊎ ((t.start.port port.0).fresh ≡ true) = ⊎_elim (λ r. inl (reset_in_turn r)) (λ fresh. ⊎_elim (λ undue. inr (first.fresh undue parts.0 ∙ fresh)) (λ r. inl r) (linked is_ready)) how in
-            laws.well port.0 t.end new
-            (laws.runs port t.later t.end new on_then t.leads_to_new
-            (All-weaker (IsOfOtherPort port) (DoesNotWrite Ghc) (λ access x. laws.spares_host x.0 access x.2) t.later t.later_are_of_others)
+            laws.stays_well_if_undisturbed port.0 t.end new
+            (laws.runs_on_after_accesses port t.later t.end new on_then t.leads_to_new
+            (All-weaker (IsOfOtherPort port) (DoesNotWrite Ghc) (λ access x. laws.one_port_spares_ghc x.0 access x.2) t.later t.later_are_of_others)
             (spares_other t.later t.later_are_of_others)
-            (All-weaker (IsOfOtherPort port) (DoesNotWrite (Px port Cmd)) (λ access x. laws.spares x.0 port Cmd x.1 access x.2) t.later t.later_are_of_others))
-            (calm_since laws port.0 old.device t.end new (laws.tape.grows_more old.device t.start t.end first.grows middle) last.grows (omega (arith, same, small)) plugs unfailed unbroken)
+            (All-weaker (IsOfOtherPort port) (DoesNotWrite (Px port Cmd)) (λ access x. laws.one_port_spares_registers x.0 port Cmd x.1 access x.2) t.later t.later_are_of_others))
+            (calm_since laws port.0 old.device t.end new (laws.tape.growth_is_transitive old.device t.start t.end first.grows middle) last.grows (omega (arith, same, small)) plugs unfailed unbroken)
             (its (unnamed i) is_ready parts.1
             (λ g. unfailed (running_in_part (IsFaultOf port.0) port.0 old.device t.start t.end new first.grows last.grows same g))
-            (λ g. unbroken (running_in_part (IsFatalOf port.0) port.0 old.device t.start t.end new first.grows last.grows same g))
+            (λ g. unbroken (running_in_part (IsFatalErrorOf port.0) port.0 old.device t.start t.end new first.grows last.grows same g))
             up)
 
 -- ---- a plain request's fault
 
-module _ (laws : Laws) (port : Port) (old : JointState Device) (begun : AbstractState) (new : Device) (on : IsOn old.device) (undue : (old.device.port port.0).link_due ≡ false) (t : HasTurnIn port old.device new) (on_then : IsOn t.end)
+module _ (laws : AccessLaws) (port : Port) (old : JointState Device) (begun : AbstractState) (new : Device) (on : IsOn old.device) (undue : (old.device.port port.0).link_due ≡ false) (t : HasTurnIn port old.device new) (on_then : IsOn t.end)
     (ready_then : begun.ports.state port ≡ Ready) (alone : HasOnlyTaskFileError port old new) where
   first_left : IsLeft laws port old.device t.start
   first_left = others_leave laws port t.before old.device t.start on t.leads_to_start t.earlier_are_of_others
@@ -324,10 +324,10 @@ module _ (laws : Laws) (port : Port) (old : JointState Device) (begun : Abstract
   parts = plug_parts laws port old begun new on t on_then alone.no_plug_events
 
   -- no change of its link is shown when the turn begins, since none was
-  unchanged : ShowsChange (t.start.port port.0) → ⊥
+  unchanged : ShowsLinkChange (t.start.port port.0) → ⊥
   unchanged shown = alone.shows_only_tfes.no_change_is_shown (⊎_elim
-      (λ n. inl (⊎_elim (λ set. set) (λ clear. absurd (false≢true (sym ((first_left.disks undue).serr_n parts.0 clear) ∙ n))) (cases_Bool (old.device.port port.0).serr_n)))
-      (λ x. inr (⊎_elim (λ set. set) (λ clear. absurd (false≢true (sym ((first_left.disks undue).serr_x (laws.tape.plugs_come port.0 old.device t.start parts.0) clear) ∙ x))) (cases_Bool (old.device.port port.0).serr_x)))
+      (λ n. inl (⊎_elim (λ set. set) (λ clear. absurd (false≢true (sym ((first_left.disks undue).serr_n_rises_by_plug_events parts.0 clear) ∙ n))) (cases_Bool (old.device.port port.0).serr_n)))
+      (λ x. inr (⊎_elim (λ set. set) (λ clear. absurd (false≢true (sym ((first_left.disks undue).serr_x_rises_by_disk_coming (laws.tape.no_plug_event_no_disk port.0 old.device t.start parts.0) clear) ∙ x))) (cases_Bool (old.device.port port.0).serr_x)))
       shown)
 
   -- where TFES alone is shown, with no other trouble in the call, so it is in its turn
@@ -335,8 +335,8 @@ module _ (laws : Laws) (port : Port) (old : JointState Device) (begun : Abstract
   alone_then =
       let middle = grows_over laws port t.turn t.start t.end t.turn_leads_to_end in
       let last = grows_over laws port t.later t.end new t.leads_to_new in
-      let since = laws.tape.grows_more t.start t.end new middle last in
-      let a = laws.tape.fatal_parts port.0 old.device t.start new first_left.grows.0 since.0 first_left.grows.1 since.1 alone.none_is_fatal in
+      let since = laws.tape.growth_is_transitive t.start t.end new middle last in
+      let a = laws.tape.no_fatal_errors_in_parts port.0 old.device t.start new first_left.grows.0 since.0 first_left.grows.1 since.1 alone.none_is_fatal in
       record {
         ready = ready_then;
         shows_only_tfes = record {
@@ -345,6 +345,6 @@ module _ (laws : Laws) (port : Port) (old : JointState Device) (begun : Abstract
           no_change_is_shown = unchanged;
           device_is_shown = first_left.shows undue parts.0 ∙ alone.shows_only_tfes.device_is_shown;
         };
-        none_is_fatal = (laws.tape.fatal_parts port.0 t.start t.end new middle.0 last.0 middle.1 last.1 a.1).0;
+        none_is_fatal = (laws.tape.no_fatal_errors_in_parts port.0 t.start t.end new middle.0 last.0 middle.1 last.1 a.1).0;
         no_plug_events = parts.1;
       }

@@ -7,7 +7,7 @@ use Rattle.hba_regs.specs.declared.reg.PortReg.TheVariants.{Cmd, Sctl, Sact, Ci}
 use Rattle.adapter.specs.Access.{Access}
 use Rattle.adapter.specs.Access.Access.{Reading, Writing, Loading, Storing}
 use Rattle.refinement.specs.PortFacts.{ClearsNoTrouble}
-use Rattle.refinement.specs.Links.{DoesNotWrite}
+use Rattle.refinement.specs.PreservedParts.{DoesNotWrite}
 
 -- ---- what one access is
 
@@ -25,27 +25,27 @@ ClearsNoError port (Writing r v) = ClearsNoTrouble port r v
 ClearsNoError port access = Unit {0}
 
 -- The driver's own stores lie in its frames, and so does what it loads. Registers are left to the rules of the adapter.
-abbrev pub IsDriversOwn : Access → Type 0
-IsDriversOwn (Reading r v) = Unit {0}
-IsDriversOwn (Writing r v) = Unit {0}
-IsDriversOwn (Loading at bytes) = at + length bytes ≤ DRIVER_BYTES
-IsDriversOwn (Storing at bytes) = at + length bytes ≤ DRIVER_BYTES
+abbrev pub StaysInDriverFrames : Access → Type 0
+StaysInDriverFrames (Reading r v) = Unit {0}
+StaysInDriverFrames (Writing r v) = Unit {0}
+StaysInDriverFrames (Loading at bytes) = at + length bytes ≤ DRIVER_BYTES
+StaysInDriverFrames (Storing at bytes) = at + length bytes ≤ DRIVER_BYTES
 
 -- of ports' registers it uses those of such ports alone
-abbrev pub IsOfPorts : (Port → Type 0) → Access → Type 0
-IsOfPorts Such (Reading (Px port r) v) = Such port
-IsOfPorts Such (Writing (Px port r) v) = Such port
-IsOfPorts Such access = Unit {0}
+abbrev pub UsesPortRegistersOf : (Port → Type 0) → Access → Type 0
+UsesPortRegistersOf Such (Reading (Px port r) v) = Such port
+UsesPortRegistersOf Such (Writing (Px port r) v) = Such port
+UsesPortRegistersOf Such access = Unit {0}
 
 -- An access that serves such ports: it doesn't write GHC either, so it neither resets the adapter nor switches it off.
-abbrev pub IsAccessForPorts : (Port → Type 0) → Access → Type 0
-IsAccessForPorts Such access = IsDriversOwn access × DoesNotWrite Ghc access × IsOfPorts Such access
+abbrev pub UsesPortsAndNotGhc : (Port → Type 0) → Access → Type 0
+UsesPortsAndNotGhc Such access = StaysInDriverFrames access × DoesNotWrite Ghc access × UsesPortRegistersOf Such access
 
 -- ---- what the list shows
 
 -- PxCI was read, and right after it PxSACT, at a moment when PxCMD hadn't been written: what both show is of commands
 -- that were not given up.
-pub record ReadsCiAndSact (port : Port) (ci sact : ℕ) (accesses : List Access) : Type 0 where
+pub record ReadsMasksBeforeCmdWrite (port : Port) (ci sact : ℕ) (accesses : List Access) : Type 0 where
   pub before : List Access
   pub later : List Access
   pub accesses_are_split : accesses ≡ before ++ Reading (Px port Ci) ci ∷ Reading (Px port Sact) sact ∷ later
@@ -57,11 +57,11 @@ pub record ResetsLink (port : Port) (accesses : List Access) : Type 0 where
   pub before : List Access
   pub between : List Access
   pub later : List Access
-  pub sending : ℕ
-  pub ending : ℕ
+  pub comreset_value : ℕ
+  pub end_of_comreset_value : ℕ
   pub accesses_are_split : accesses ≡ before
-      ++ (Writing (Px port Sctl) sending ∷ (between ++ (Writing (Px port Sctl) ending ∷ later)))
-  pub sends_comreset : sending % 16 ≡ 1
-  pub ends_comreset : ending % 16 ≡ 0
+      ++ (Writing (Px port Sctl) comreset_value ∷ (between ++ (Writing (Px port Sctl) end_of_comreset_value ∷ later)))
+  pub sends_comreset : comreset_value % 16 ≡ 1
+  pub ends_comreset : end_of_comreset_value % 16 ≡ 0
   pub sctl_is_unwritten_between : All (DoesNotWrite (Px port Sctl)) between
   pub sctl_is_unwritten_later : All (DoesNotWrite (Px port Sctl)) later

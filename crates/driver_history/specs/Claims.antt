@@ -10,7 +10,7 @@ use Rattle.adapter.specs.Device.{Device}
 use Rattle.adapter.specs.Rules.{IsOn}
 use Rattle.adapter.specs.declared.access.DeviceStep.{DeviceStep}
 use Rattle.refinement.specs.PortFacts.{RunsWell}
-use Rattle.block_machine.specs.Events.{AbstractCall, Reset, RevokeOf, Service, Tick, AnswersEnded, HasTimedOut, NoneStaysIssued, WasIssued, abstract_after}
+use Rattle.block_machine.specs.Events.{AbstractCall, Reset, RevokeOf, Service, Tick, AnswersEnded, TimesOutAtTick, NoneStaysIssued, IsIssuedInBook, abstract_after}
 use Rattle.block_machine.specs.Histories.{JointState, JointEvent}
 use Rattle.block_machine.specs.Ports.{IsStoppedOrStuck, SamePort}
 use Rattle.block_machine.specs.State.{Pending}
@@ -34,7 +34,7 @@ pub record IsSpared (old : JointState Device) (h : JointEvent Device DeviceStep)
   pub port_is_same : SamePort old.abstract.ports h.event.ports port
   pub outcomes_are_fault_free : (e : Pending) (o : Outcome) → Contains h.event.steps (Answer e o) → e.request.port
       ≡ port
-      → IsFaultFreeOutcome h.event.ask o
+      → IsFaultFreeOutcome h.event.call o
   pub engine_is_left : All (LeavesEngine port) accesses
 
 -- What an answer of a call that made these accesses rests on, in the device's terms. Ok: the request was issued when
@@ -44,16 +44,16 @@ pub record IsSpared (old : JointState Device) (h : JointEvent Device DeviceStep)
 -- request wasn't issued, or the port was stopped.
 abbrev pub AnswerJustified : JointState Device → JointEvent Device DeviceStep → List Access → Pending → Outcome → Type 0
 AnswerJustified old h accesses e outcome.Ok =
-    WasIssued old.abstract.machine e.request.id × (e.issued ≡ true) × AllTouched e × (e.ended ≡ true)
+    IsIssuedInBook old.abstract.machine e.request.id × (e.issued ≡ true) × AllTouched e × (e.ended ≡ true)
 AnswerJustified old h accesses e (outcome.DeviceError status error) =
     IsFaultTold old h.device accesses (record { id = e.request.id; status = status; error = error })
     × Stops e.request.port accesses
-AnswerJustified old h accesses e outcome.Aborted = (e.issues ≡ 4) × (h.event.ports.state e.request.port ≡ Ready)
+AnswerJustified old h accesses e outcome.Aborted = (e.issue_count ≡ 4) × (h.event.ports.state e.request.port ≡ Ready)
 AnswerJustified old h accesses e outcome.Unplugged = IsLost e.request.port old h.event.ports h.device
 AnswerJustified old h accesses e outcome.PortDead = (h.event.ports.state e.request.port ≡ Dead)
     × (((h.device.port e.request.port.0).notes.engine_count ≡ MOST_READINGS) ⊎ (IsOn h.device → ⊥))
 AnswerJustified old h accesses e outcome.Revoked = (HasGrant (abstract_after old.abstract h.event).machine e → ⊥)
-    × ((e.issued ≡ false) ⊎ (Stops e.request.port accesses ⊎ IsEndedReset h.event.ask h.event.said))
+    × ((e.issued ≡ false) ⊎ (Stops e.request.port accesses ⊎ IsEndedReset h.event.call h.event.result))
 
 -- ---- healthy calls
 
@@ -62,18 +62,18 @@ AnswerJustified old h accesses e outcome.Revoked = (HasGrant (abstract_after old
 pub record IsHealthyFor (old : JointState Device) (h : JointEvent Device DeviceStep) (port : Port) : Type 0 where
   pub ready : old.abstract.ports.state port ≡ Ready
   pub stays_healthy : StaysHealthy port.0 old.device h.device
-  pub is_no_reset : h.event.ask ≢ Reset
-  pub has_not_timed_out : h.event.ask ≡ Tick → HasTimedOut old.abstract port → ⊥
+  pub is_no_reset : h.event.call ≢ Reset
+  pub has_not_timed_out : h.event.call ≡ Tick → TimesOutAtTick old.abstract port → ⊥
 
 -- Such a call goes well for it: the port is left alone, and runs well after it; a service has read the masks, and
 -- answered exactly what they show done; and what is due is issued.
 pub record GoesWellFor (old : JointState Device) (h : JointEvent Device DeviceStep) (port : Port) : Type 0 where
   pub accesses : List Access
-  pub accesses_are_explained : ExplainsAccesses old.abstract h.event.ask h.event.said accesses old.device h.device
+  pub accesses_are_explained : ExplainsAccesses old.abstract h.event.call h.event.result accesses old.device h.device
   pub is_spared : IsSpared old h accesses port
   pub port_runs_well : RunsWell (h.device.port port.0)
-  pub finds_done : FindsDoneInCall h.event.ask accesses old h.event.steps port
-  pub issues_all_due : IssuesAllDue h.event.ask h.event.steps (abstract_after old.abstract h.event).machine
+  pub finds_done : FindsDoneInCall h.event.call accesses old h.event.steps port
+  pub issues_all_due : IssuesAllDue h.event.call h.event.steps (abstract_after old.abstract h.event).machine
       h.event.ports port
 
 -- ---- failures

@@ -7,8 +7,8 @@ use Rattle.adapter.specs.declared.tape.Entry.{Entry}
 use Rattle.adapter.specs.declared.tape.Entry.TheVariants as entry
 use Rattle.adapter.specs.declared.tape.Move as tape_move
 use Rattle.adapter.specs.declared.tape.Clear as tape_clear
-use Rattle.refinement.specs.MemoryLayout.{scratch_of}
-use Rattle.refinement.specs.Slots.{op_of}
+use Rattle.refinement.specs.MemoryLayout.{scratch_frame_address}
+use Rattle.refinement.specs.Slots.{client_operation_of}
 use Rattle.refinement.specs.Tape.{MovesSector, ClearsSectors}
 use Rattle.block_machine.specs.Confinement.{IsConfined, WasAccepted}
 use Rattle.block_machine.specs.Expected.{after}
@@ -31,7 +31,7 @@ pub record IsConfinedMove (start : Machine) (earlier steps : List Step) (op : Op
 abbrev pub KeepsToItsFrames : Option Op → Machine → List Step → List Step → tape_move.Move → Type 0
 KeepsToItsFrames (Some Read) start earlier steps move = IsConfinedMove start earlier steps Read move
 KeepsToItsFrames (Some Write) start earlier steps move = IsConfinedMove start earlier steps Write move
-KeepsToItsFrames other start earlier steps move = move.address ≡ scratch_of move.port.0
+KeepsToItsFrames other start earlier steps move = move.address ≡ scratch_frame_address move.port.0
 
 -- Among a call's steps, which followed these earlier ones, the clear is of touches in a row. Before the first of them,
 -- its sectors are of a trim of its port that is issued or kept, within the trim's own range; and the trim was accepted,
@@ -50,6 +50,6 @@ pub record ConfinesCallMoves (start : Machine) (earlier steps : List Step) (old 
   pub new_entries : List Entry
   pub tape_is : new.tape ≡ old.tape ++ new_entries
   pub moves_keep_to_frames : (move : tape_move.Move) → Contains new_entries (entry.Move move)
-      → KeepsToItsFrames (op_of move.operation) start earlier steps move
+      → KeepsToItsFrames (client_operation_of move.operation) start earlier steps move
   pub clears_are_confined : (c : tape_clear.Clear) → Contains new_entries (entry.Clear c)
       → IsConfinedClear start earlier steps c

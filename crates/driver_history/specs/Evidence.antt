@@ -10,16 +10,16 @@ use Rattle.adapter.specs.Device.{DevicePort, Device}
 use Rattle.adapter.specs.declared.access.DeviceStep.{DeviceStep}
 use Rattle.adapter.specs.declared.tape.Entry.{Entry}
 use Rattle.adapter.specs.declared.tape.Fault as tape_fault
-use Rattle.refinement.specs.Errors.{IsFatalOf, NoDiskComes}
+use Rattle.refinement.specs.Errors.{IsFatalErrorOf, NoDiskComes}
 use Rattle.refinement.specs.PortFacts.{IsFaultOf, RunsWell, Undisturbed}
-use Rattle.refinement.specs.Links.{IsPlugEvent}
+use Rattle.refinement.specs.PreservedParts.{IsPlugEvent}
 use Rattle.refinement.specs.Slots.{ServesRequest}
-use Rattle.block_machine.specs.Events.{AbstractCall, Reset, CallResult, WasReset}
+use Rattle.block_machine.specs.Events.{AbstractCall, Reset, AbstractCallResult, WasReset}
 use Rattle.block_machine.specs.Histories.{JointState}
-use Rattle.block_machine.specs.Ports.{Ports, SameDisk, RequestFault, Evidence, IsStoppedOrStuck}
+use Rattle.block_machine.specs.Ports.{Ports, SameSerialAndSize, RequestFault, Evidence, IsStoppedOrStuck}
 use Rattle.block_machine.specs.State.{Pending}
 use Rattle.port_control.specs.Engines.{Stops, EngineSticks}
-use Rattle.identify.specs.Log.{TellsError}
+use Rattle.identify.specs.ErrorLog.{NamesQueuedCommand}
 use Rattle.error_recovery.specs.Evidence.{BringsLog, HasFailed, ShowsFatal}
 use Rattle.driver_history.specs.AccessTrace.{LeavesEngine}
 
@@ -39,8 +39,8 @@ pub record StaysHealthy (port : ℕ) (old new : Device) : Type 0 where
 -- ---- what a port shows
 
 -- N or X of PxSERR is set: the link has told of a change
-abbrev pub ShowsChange : DevicePort → Type 0
-ShowsChange p = (p.serr_n ≡ true) ⊎ (p.serr_x ≡ true)
+abbrev pub ShowsLinkChange : DevicePort → Type 0
+ShowsLinkChange p = (p.serr_n ≡ true) ⊎ (p.serr_x ≡ true)
 
 -- an error of the interface or of the host's bus is shown (IFS, HBDS or HBFS), or TFES is set
 abbrev pub ShowsFailure : DevicePort → Type 0
@@ -49,7 +49,7 @@ ShowsFailure p = ShowsFatal p ⊎ (p.is 30 ≡ true)
 -- ---- a fault that is told of a request
 
 -- A plain request is the one of its port that is issued, and status and error are those of such a fault of its slot.
-pub record FailsPlain (old : JointState Device) (new : Device) (accesses : List Access) (e : Pending) (slot : ℕ)
+pub record BacksPlainFault (old : JointState Device) (new : Device) (accesses : List Access) (e : Pending) (slot : ℕ)
     (told : RequestFault) : Type 0 where
   pub is_only_issued : (other : Pending) → Contains old.abstract.machine.book other → other.request.port
       ≡ e.request.port
@@ -61,13 +61,13 @@ pub record FailsPlain (old : JointState Device) (new : Device) (accesses : List 
   pub error_is : fault.error ≡ told.error
 
 -- Of a queued one, such a fault of the port stands there, and the log's page names the slot, with status and error.
-pub record FailsQueued (old : JointState Device) (new : Device) (accesses : List Access) (e : Pending) (slot : ℕ)
+pub record BacksQueuedFault (old : JointState Device) (new : Device) (accesses : List Access) (e : Pending) (slot : ℕ)
     (told : RequestFault) : Type 0 where
   pub fault : tape_fault.Fault
   pub failed : HasFailed e.request.port accesses old.device new fault
   pub page : List ℕ
-  pub brings : BringsLog e.request.port old.device new page
-  pub tells : TellsError page slot told.status told.error
+  pub brings_log : BringsLog e.request.port old.device new page
+  pub page_tells_error : NamesQueuedCommand page slot told.status told.error
 
 -- The fault is of a request that was issued when the call began, in the slot that served it then.
 pub record IsFaultTold (old : JointState Device) (new : Device) (accesses : List Access)
@@ -79,8 +79,10 @@ pub record IsFaultTold (old : JointState Device) (new : Device) (accesses : List
   pub slot : ℕ
   pub serves : ServesRequest old.abstract.machine old.device.memory (old.device.port pending.request.port.0)
       pending.request.port.0 slot told.id
-  pub plain : is_queued serves.command.operation ≡ false → FailsPlain old new accesses pending slot told
-  pub queued : is_queued serves.command.operation ≡ true → FailsQueued old new accesses pending slot told
+  pub backs_plain_fault : is_queued serves.command.operation ≡ false
+      → BacksPlainFault old new accesses pending slot told
+  pub backs_queued_fault : is_queued serves.command.operation ≡ true
+      → BacksQueuedFault old new accesses pending slot told
 
 -- ---- ports
 
@@ -88,66 +90,67 @@ pub record IsFaultTold (old : JointState Device) (new : Device) (accesses : List
 -- ends the call neither dead nor ready with serial and size as when it was last ready.
 abbrev pub IsLost : Port → JointState Device → Ports → Device → Type 0
 IsLost port old ports new =
-    ShowsChange (old.device.port port.0)
+    ShowsLinkChange (old.device.port port.0)
     ⊎ (((old.device.port port.0).ssts_det ≢ 3)
     ⊎ (TapeGainsEntry (IsPlugEvent port.0) old.device new
-    ⊎ ((ports.state port ≢ Dead) × (ports.state port ≡ Ready → SameDisk old.abstract.ports ports port → ⊥))))
+    ⊎ ((ports.state port ≢ Dead) × (ports.state port ≡ Ready → SameSerialAndSize old.abstract.ports ports port → ⊥))))
 
 -- It showed a change when the call began; or no device, and no disk came in the call.
 abbrev pub ShowsLoss : Port → Device → Device → Type 0
-ShowsLoss port old new = ShowsChange (old.port port.0) ⊎ (((old.port port.0).ssts_det ≢ 3) × NoDiskComes port.0 old new)
+ShowsLoss port old new = ShowsLinkChange (old.port port.0)
+    ⊎ (((old.port port.0).ssts_det ≢ 3) × NoDiskComes port.0 old new)
 
 -- It was ready, and showed that when the call began, or a disk went or came in it.
-abbrev pub IsGone : Port → JointState Device → Device → Type 0
-IsGone port old new = (old.abstract.ports.state port ≡ Ready)
-    × (ShowsChange (old.device.port port.0)
+abbrev pub ReadyPortHasLinkChange : Port → JointState Device → Device → Type 0
+ReadyPortHasLinkChange port old new = (old.abstract.ports.state port ≡ Ready)
+    × (ShowsLinkChange (old.device.port port.0)
     ⊎ (((old.device.port port.0).ssts_det ≢ 3)
     ⊎ TapeGainsEntry (IsPlugEvent port.0) old.device new))
 
 -- It was ready, and showed an error when the call began, or had one in it.
-abbrev pub HasErrors : Port → JointState Device → Device → Type 0
-HasErrors port old new = (old.abstract.ports.state port ≡ Ready)
+abbrev pub ReadyPortHasErrors : Port → JointState Device → Device → Type 0
+ReadyPortHasErrors port old new = (old.abstract.ports.state port ≡ Ready)
     × (ShowsFailure (old.device.port port.0)
-    ⊎ (TapeGainsEntry (IsFaultOf port.0) old.device new ⊎ TapeGainsEntry (IsFatalOf port.0) old.device new))
+    ⊎ (TapeGainsEntry (IsFaultOf port.0) old.device new ⊎ TapeGainsEntry (IsFatalErrorOf port.0) old.device new))
 
 -- It was ready, and showed a fatal error then, or had one in the call.
-abbrev pub HasFatalErrors : Port → JointState Device → Device → Type 0
-HasFatalErrors port old new = (old.abstract.ports.state port ≡ Ready)
-    × (ShowsFatal (old.device.port port.0) ⊎ TapeGainsEntry (IsFatalOf port.0) old.device new)
+abbrev pub ReadyPortHasFatalErrors : Port → JointState Device → Device → Type 0
+ReadyPortHasFatalErrors port old new = (old.abstract.ports.state port ≡ Ready)
+    × (ShowsFatal (old.device.port port.0) ⊎ TapeGainsEntry (IsFatalErrorOf port.0) old.device new)
 
 -- ---- resets
 
 -- the call is a reset that ended
-abbrev pub IsEndedReset : AbstractCall DeviceStep → CallResult → Type 0
+abbrev pub IsEndedReset : AbstractCall DeviceStep → AbstractCallResult → Type 0
 IsEndedReset Reset (WasReset (Some replies)) = Unit {0}
 IsEndedReset ask said = ⊥
 
 -- the call is a reset that the adapter didn't end
-abbrev pub IsStuckReset : AbstractCall DeviceStep → CallResult → Type 0
+abbrev pub IsStuckReset : AbstractCall DeviceStep → AbstractCallResult → Type 0
 IsStuckReset Reset (WasReset None) = Unit {0}
 IsStuckReset ask said = ⊥
 
 -- ---- the whole
 
--- What stands behind one port's items. `lost` and `stuck`: what is named is so. `gone`, `failed` and `fatal`: it is
--- named where it showed that when the call began, and only where it showed it then or had it in the call (what comes
--- after the driver's look is nobody's to heed in that call). `stopped`: it is named only where it was stopped; and
--- where PxCMD or PxSCTL was written at all, it is stopped or stuck.
-pub record IsEvidencedOf (ask : AbstractCall DeviceStep) (said : CallResult) (accesses : List Access)
+-- What stands behind one port's items. `lost` and `stuck`: what is named is so. `link_changed`, `showing_error` and
+-- `showing_fatal_error`: it is named where it showed that when the call began, and only where it showed it then or had
+-- it in the call (what comes after the driver's look is nobody's to heed in that call). `stopped`: it is named only
+-- where it was stopped; and where PxCMD or PxSCTL was written at all, it is stopped or stuck.
+pub record IsEvidencedOf (ask : AbstractCall DeviceStep) (said : AbstractCallResult) (accesses : List Access)
     (old : JointState Device)
     (ports : Ports) (new : Device)
     (evidence : Evidence) (port : Port) : Type 0 where
-  pub lost : Contains evidence.lost port → IsLost port old ports new
+  pub lost_only : Contains evidence.lost port → IsLost port old ports new
   pub link_changed_all : old.abstract.ports.state port ≡ Ready → ShowsLoss port old.device new
       → Contains evidence.link_changed port
-  pub link_changed_only : Contains evidence.link_changed port → IsGone port old new
-  pub failed_all : old.abstract.ports.state port ≡ Ready → ShowsFailure (old.device.port port.0)
-      → Contains evidence.failed port
-  pub failed_only : Contains evidence.failed port → HasErrors port old new
-  pub fatal_all : old.abstract.ports.state port ≡ Ready → ShowsFatal (old.device.port port.0)
-      → Contains evidence.fatal port
-  pub fatal_only : Contains evidence.fatal port → HasFatalErrors port old new
-  pub stopped_all : All (LeavesEngine port) accesses ⊎ IsStoppedOrStuck evidence port
+  pub link_changed_only : Contains evidence.link_changed port → ReadyPortHasLinkChange port old new
+  pub showing_error_all : old.abstract.ports.state port ≡ Ready → ShowsFailure (old.device.port port.0)
+      → Contains evidence.showing_error port
+  pub showing_error_only : Contains evidence.showing_error port → ReadyPortHasErrors port old new
+  pub showing_fatal_error_all : old.abstract.ports.state port ≡ Ready → ShowsFatal (old.device.port port.0)
+      → Contains evidence.showing_fatal_error port
+  pub showing_fatal_error_only : Contains evidence.showing_fatal_error port → ReadyPortHasFatalErrors port old new
+  pub engine_is_left_or_stopped : All (LeavesEngine port) accesses ⊎ IsStoppedOrStuck evidence port
   pub stopped_only : Contains evidence.stopped port → Stops port accesses
       ⊎ (IsEndedReset ask said × (old.abstract.ports.served port ≡ true))
   pub stuck_only : Contains evidence.stuck port
@@ -155,9 +158,9 @@ pub record IsEvidencedOf (ask : AbstractCall DeviceStep) (said : CallResult) (ac
       ⊎ (IsStuckReset ask said × (old.abstract.ports.served port ≡ true))
 
 -- Each fault that is named was told by the device, and so it is with each port.
-pub record IsEvidenced (ask : AbstractCall DeviceStep) (said : CallResult) (accesses : List Access)
+pub record IsEvidenced (ask : AbstractCall DeviceStep) (said : AbstractCallResult) (accesses : List Access)
     (old : JointState Device)
     (ports : Ports) (new : Device)
     (evidence : Evidence) : Type 0 where
-  pub faults : (told : RequestFault) → Contains evidence.faults told → IsFaultTold old new accesses told
-  pub port : (port : Port) → IsEvidencedOf ask said accesses old ports new evidence port
+  pub faults_are_told : (told : RequestFault) → Contains evidence.faults told → IsFaultTold old new accesses told
+  pub each_port_is_evidenced : (port : Port) → IsEvidencedOf ask said accesses old ports new evidence port

@@ -11,21 +11,23 @@ use Rattle.block_machine.specs.State.{Pending}
 use Rattle.block_machine.specs.Steps.{Step, WaitAgain, Answer}
 
 -- requests wait again, are aborted, are told Revoked, or have a fault told of them, on ports that failed
-abbrev pub OnlyFailedPortsRequeue : Evidence → List Step → Type 0
-OnlyFailedPortsRequeue evidence [] = Unit {0}
-OnlyFailedPortsRequeue evidence (WaitAgain e ∷ before) = OnlyFailedPortsRequeue evidence before
-    × Contains evidence.failed e.request.port
-OnlyFailedPortsRequeue evidence (Answer e outcome.Aborted ∷ before) = OnlyFailedPortsRequeue evidence before
-    × Contains evidence.failed e.request.port
-OnlyFailedPortsRequeue evidence (Answer e outcome.Revoked ∷ before) = OnlyFailedPortsRequeue evidence before
-    × Contains evidence.failed e.request.port
-OnlyFailedPortsRequeue evidence (Answer e (outcome.DeviceError status error) ∷ before) =
-    OnlyFailedPortsRequeue evidence before × Contains evidence.failed e.request.port
-OnlyFailedPortsRequeue evidence (step ∷ before) = OnlyFailedPortsRequeue evidence before
+abbrev pub OnlyFailedPortsRequeueOrFault : Evidence → List Step → Type 0
+OnlyFailedPortsRequeueOrFault evidence [] = Unit {0}
+OnlyFailedPortsRequeueOrFault evidence (WaitAgain e ∷ before) = OnlyFailedPortsRequeueOrFault evidence before
+    × Contains evidence.showing_error e.request.port
+OnlyFailedPortsRequeueOrFault evidence (Answer e outcome.Aborted ∷ before) = OnlyFailedPortsRequeueOrFault evidence
+    before
+    × Contains evidence.showing_error e.request.port
+OnlyFailedPortsRequeueOrFault evidence (Answer e outcome.Revoked ∷ before) = OnlyFailedPortsRequeueOrFault evidence
+    before
+    × Contains evidence.showing_error e.request.port
+OnlyFailedPortsRequeueOrFault evidence (Answer e (outcome.DeviceError status error) ∷ before) =
+    OnlyFailedPortsRequeueOrFault evidence before × Contains evidence.showing_error e.request.port
+OnlyFailedPortsRequeueOrFault evidence (step ∷ before) = OnlyFailedPortsRequeueOrFault evidence before
 
 -- so they are in a service
 abbrev pub OnlyFailedPortsRequeueIn : {D : Type 0} → AbstractCall D → Evidence → List Step → Type 0
-OnlyFailedPortsRequeueIn Service evidence steps = OnlyFailedPortsRequeue evidence steps
+OnlyFailedPortsRequeueIn Service evidence steps = OnlyFailedPortsRequeueOrFault evidence steps
 OnlyFailedPortsRequeueIn ask evidence steps = Unit {0}
 
 -- each answer to a request of the port is Ok, or this one
@@ -35,7 +37,7 @@ ToldOkOr told steps port = (e : Pending) (o : Outcome) → Contains steps (Answe
 
 -- the port failed, or its link had told of a change when the call began, or a disk goes or comes in it
 abbrev pub IsDisturbed : Evidence → List Step → Port → Type 0
-IsDisturbed evidence steps port = Contains evidence.failed port ⊎ Contains evidence.link_changed port
+IsDisturbed evidence steps port = Contains evidence.showing_error port ⊎ Contains evidence.link_changed port
     ⊎ (list_any (changes_disk port) steps ≡ true)
 
 -- the step tells a fault of a request of the port
@@ -59,16 +61,16 @@ pub record IsLeftAlone (old : Ports) (evidence : Evidence) (steps : List Step) (
 pub record ServicesReadyPort (old : AbstractState) (evidence : Evidence) (steps : List Step) (new : AbstractState)
     (port : Port) : Type 0 where
   pub answers_ended : AnswersEnded old.machine steps port
-  pub none_is_left : Contains evidence.link_changed port → (e : Pending) → Contains new.machine.book e
+  pub link_change_leaves_none : Contains evidence.link_changed port → (e : Pending) → Contains new.machine.book e
       → e.request.port ≢ port
-  pub others_are_told_alike : Contains evidence.link_changed port → ToldOkOr outcome.Unplugged steps port
+  pub link_change_tells_alike : Contains evidence.link_changed port → ToldOkOr outcome.Unplugged steps port
       ⊎ ToldOkOr outcome.PortDead steps port
-  pub is_interrupted : Contains evidence.failed port ⊎ Contains evidence.link_changed port
+  pub trouble_interrupts : Contains evidence.showing_error port ⊎ Contains evidence.link_changed port
       → IsStoppedOrStuck evidence port
-  pub none_stays_issued : Contains evidence.failed port ⊎ Contains evidence.stopped port
+  pub trouble_leaves_none_issued : Contains evidence.showing_error port ⊎ Contains evidence.stopped port
       → NoneStaysIssued steps new.machine port
   pub one_fault_at_most : count_by (tells_fault port) steps ≤ 1
-  pub fatal_tells_no_fault : Contains evidence.fatal port → Contains evidence.failed port
+  pub fatal_tells_no_fault : Contains evidence.showing_fatal_error port → Contains evidence.showing_error port
       × (count_by (tells_fault port) steps ≡ 0)
   pub shown_disk_was_in_or_came : ShownDiskWasInOrCame old steps new port
   pub is_left_alone_if_calm : IsDisturbed evidence steps port ⊎ IsLeftAlone old.ports evidence steps new.ports port

@@ -11,19 +11,19 @@ use Rattle.hba_regs.specs.declared.reg.Reg.TheVariants.{Px}
 use Rattle.hba_regs.specs.declared.reg.PortReg.TheVariants.{Sact, Ci}
 use Rattle.adapter.specs.Access.{Access, DoesAll}
 use Rattle.adapter.specs.Access.Access.{Writing, Loading, Storing}
-use Rattle.adapter.specs.ToldSteps.{DoesOrFailsStep}
+use Rattle.adapter.specs.AskedSteps.{DoesOrFailsStep}
 use Rattle.adapter.specs.Commands.{is_queued}
 use Rattle.adapter.specs.Device.{DevicePort, Device}
 use Rattle.adapter.specs.Rules.{IsOn}
 use Rattle.adapter.specs.declared.access.DeviceStep.{DeviceStep}
-use Rattle.refinement.specs.Driver.{IsBacked}
-use Rattle.refinement.specs.Errors.{IsFatalOf, NoDiskComes, NoneFatal}
+use Rattle.refinement.specs.Driver.{TapeBacksSteps}
+use Rattle.refinement.specs.Errors.{IsFatalErrorOf, NoDiskComes, NoFatalErrors}
 use Rattle.refinement.specs.PortFacts.{RunsWell, IsFaultOf}
-use Rattle.refinement.specs.Links.{IsPlugEvent, NoPlugEvents}
+use Rattle.refinement.specs.PreservedParts.{IsPlugEvent, NoPlugEvents}
 use Rattle.refinement.specs.Slots.{ServesRequest}
-use Rattle.block_machine.specs.Events.{AbstractCall, Submit, StoreAt, LoadAt, Service, Tick, Reset, RevokeOf, Device as Told, CallResult, Submitted, Stored, Loaded, Served, WasReset, WasRevoked, Stepped, AbstractState, HasTimedOut, IsIssuedIn, issues_id, abstract_after}
+use Rattle.block_machine.specs.Events.{AbstractCall, Submit, StoreAt, LoadAt, Service, Tick, Reset, RevokeOf, StepDevice as Told, AbstractCallResult, Submitted, Stored, Loaded, Replied, WasReset, WasRevoked, Stepped, AbstractState, TimesOutAtTick, IsIssuedIn, issues_id, abstract_after}
 use Rattle.block_machine.specs.DueRequests.{IsDue}
-use Rattle.block_machine.specs.Histories.{JointState, JointEvent}
+use Rattle.block_machine.specs.Histories.{JointState, JointEvent, joint_state_after}
 use Rattle.block_machine.specs.Histories as histories
 use Rattle.block_machine.specs.Ports.{Ports, SamePort, Evidence, IsStoppedOrStuck}
 use Rattle.block_machine.specs.Rules.{HasRow, IsNamed}
@@ -34,10 +34,10 @@ use Rattle.block_machine.specs.declared.due.Unanswered.{Unanswered}
 use Rattle.identify.specs.declared.wanted.Wanted.{Wanted}
 use Rattle.host_boot.specs.Resets.{AwaitsResetInVain, BeginsReset}
 use Rattle.error_recovery.specs.Evidence.{GainsSinceStart, ShowsFatal}
-use Rattle.driver_history.specs.Evidence.{TapeGainsEntry, ShowsChange, ShowsFailure, ShowsLoss, IsEvidenced}
+use Rattle.driver_history.specs.Evidence.{TapeGainsEntry, ShowsLinkChange, ShowsFailure, ShowsLoss, IsEvidenced}
 use Rattle.driver_history.specs.EvidenceHandling.{HandlesEvidenceAt, OnlyFailedPortsRequeueIn}
 use Rattle.driver_history.specs.PortInvariants.{DriverInvariant}
-use Rattle.driver_history.specs.AccessTrace.{ReadsCiAndSact, ResetsLink, IsAccessForPorts, IsDriversOwn, IsOfPorts}
+use Rattle.driver_history.specs.AccessTrace.{ReadsMasksBeforeCmdWrite, ResetsLink, UsesPortsAndNotGhc, StaysInDriverFrames, UsesPortRegistersOf}
 
 -- ---- how a call came from the one device to the other
 
@@ -55,8 +55,8 @@ abbrev pub IsPortServed : Ports → Port → Type 0
 IsPortServed ports port = ports.served port ≡ true
 
 -- and it isn't dead
-abbrev pub IsPortAlive : Ports → Port → Type 0
-IsPortAlive ports port = IsPortServed ports port × (ports.state port ≢ Dead)
+abbrev pub IsServedAndNotDead : Ports → Port → Type 0
+IsServedAndNotDead ports port = IsPortServed ports port × (ports.state port ≢ Dead)
 
 -- The adapter is on, and tells of its causes (AHCI 1.3.1, 3.1.2: AE and IE).
 abbrev pub HasAeAndIe : Device → Type 0
@@ -69,7 +69,8 @@ HasAeAndIe d = IsOn d × (d.ie ≡ true)
 -- alone, a service of those that aren't dead, and a tick of those that are hung. Neither a service nor a tick writes
 -- GHC. A reset that ends leaves the adapter on; of one that doesn't, no more is seen than that (how often HR was read
 -- is the server's own contract). Each other call makes none, a refused one among them.
-abbrev pub ExplainsAccesses : AbstractState → AbstractCall DeviceStep → CallResult → List Access → Device → Device
+abbrev pub ExplainsAccesses : AbstractState → AbstractCall DeviceStep → AbstractCallResult → List Access → Device
+    → Device
     → Type 0
 ExplainsAccesses now (Told step) (Stepped true) accesses old new = (accesses ≡ []) × DoesOrFailsStep step old new
 ExplainsAccesses now (Submit r) (Submitted (Ok id)) accesses old new =
@@ -82,12 +83,13 @@ ExplainsAccesses now (StoreAt client frame offset bytes) (Stored None) accesses 
     DoesAll accesses old new × (accesses ≡ Storing (FRAME_BYTES * frame.0 + offset) bytes ∷ [])
 ExplainsAccesses now (LoadAt client frame offset count) (Loaded (Ok bytes)) accesses old new =
     DoesAll accesses old new × (accesses ≡ Loading (FRAME_BYTES * frame.0 + offset) bytes ∷ [])
-ExplainsAccesses now Service (Served replies) accesses old new = DoesAll accesses old new
-    × All (IsAccessForPorts (IsPortAlive now.ports)) accesses
-ExplainsAccesses now Tick (Served replies) accesses old new = DoesAll accesses old new
-    × All (IsAccessForPorts (HasTimedOut now)) accesses
+ExplainsAccesses now Service (Replied replies) accesses old new = DoesAll accesses old new
+    × All (UsesPortsAndNotGhc (IsServedAndNotDead now.ports)) accesses
+ExplainsAccesses now Tick (Replied replies) accesses old new = DoesAll accesses old new
+    × All (UsesPortsAndNotGhc (TimesOutAtTick now)) accesses
 ExplainsAccesses now Reset (WasReset (Some replies)) accesses old new =
-    DoesAll accesses old new × All IsDriversOwn accesses × All (IsOfPorts (IsPortServed now.ports)) accesses
+    DoesAll accesses old new × All StaysInDriverFrames accesses
+    × All (UsesPortRegistersOf (IsPortServed now.ports)) accesses
     × BeginsReset accesses
     × HasAeAndIe new
 ExplainsAccesses now Reset (WasReset None) accesses old new = DoesAll accesses old new × AwaitsResetInVain accesses
@@ -133,8 +135,8 @@ pub record IsIssuedOn (port : Port) (m : Machine) (e : Pending) : Type 0 where
 pub record FindsDone (port : Port) (accesses : List Access) (old : JointState Device) (steps : List Step) : Type 0 where
   pub ci : ℕ
   pub sact : ℕ
-  pub reads : ReadsCiAndSact port ci sact accesses
-  pub exact : (e : Pending) (slot : ℕ) → IsIssuedOn port old.abstract.machine e
+  pub reads : ReadsMasksBeforeCmdWrite port ci sact accesses
+  pub answered_iff_done : (e : Pending) (slot : ℕ) → IsIssuedOn port old.abstract.machine e
       → ServesRequest old.abstract.machine old.device.memory (old.device.port port.0) port.0 slot e.request.id
       → IsAnsweredOk e steps ↔ ((bit ci slot ≡ false) × (bit sact slot ≡ false))
 
@@ -143,7 +145,7 @@ abbrev pub FindsDoneInCall : AbstractCall DeviceStep → List Access → JointSt
 FindsDoneInCall Service accesses old steps port =
     old.abstract.ports.state port ≡ Ready → (e : Pending) → IsIssuedOn port old.abstract.machine e
     → FindsDone port accesses old steps
-FindsDoneInCall Tick accesses old steps port = HasTimedOut old.abstract port → FindsDone port accesses old steps
+FindsDoneInCall Tick accesses old steps port = TimesOutAtTick old.abstract port → FindsDone port accesses old steps
 FindsDoneInCall ask accesses old steps port = Unit {0}
 
 -- ---- a plain request's fault
@@ -152,14 +154,14 @@ FindsDoneInCall ask accesses old steps port = Unit {0}
 pub record ShowsOnlyTaskFileError (p : DevicePort) : Type 0 where
   pub tfes_is_set : p.is 30 ≡ true
   pub no_fatal_is_shown : ShowsFatal p → ⊥
-  pub no_change_is_shown : ShowsChange p → ⊥
+  pub no_change_is_shown : ShowsLinkChange p → ⊥
   pub device_is_shown : p.ssts_det ≡ 3
 
 -- so it was of a ready port when the call began, and no fatal error came in it, nor a disk, nor went one
 pub record HasOnlyTaskFileError (port : Port) (old : JointState Device) (new : Device) : Type 0 where
   pub ready : old.abstract.ports.state port ≡ Ready
   pub shows_only_tfes : ShowsOnlyTaskFileError (old.device.port port.0)
-  pub none_is_fatal : NoneFatal port.0 old.device new
+  pub none_is_fatal : NoFatalErrors port.0 old.device new
   pub no_plug_events : NoPlugEvents port.0 old.device new
 
 -- the request is answered with a fault
@@ -178,12 +180,12 @@ TellsPlainFaults ask old ports new steps port = Unit {0}
 -- ---- disks that are there are probed
 
 -- its first FIS has come, or no device shows
-abbrev pub HasSignatureOrNoDevice : DevicePort → Type 0
-HasSignatureOrNoDevice p = (p.fresh ≡ true) ⊎ (p.ssts_det ≢ 3)
+abbrev pub HasFirstFisOrNoDevice : DevicePort → Type 0
+HasFirstFisOrNoDevice p = (p.fresh ≡ true) ⊎ (p.ssts_det ≢ 3)
 
 -- a service finds the port unfit or foreign
-abbrev pub HasUnservedDisk : Ports → Port → Type 0
-HasUnservedDisk ports port = (ports.state port ≡ Foreign) ⊎ ((cause : ℕ) × (ports.state port ≡ Unfit cause))
+abbrev pub IsForeignOrUnfit : Ports → Port → Type 0
+IsForeignOrUnfit ports port = (ports.state port ≡ Foreign) ⊎ ((cause : ℕ) × (ports.state port ≡ Unfit cause))
 
 -- A service in which no disk of a served port comes boots what is there, unless the port ends dead: an absent port that
 -- shows a device, unless a disk of it goes in the call; and an unfit or foreign one with X set, unless it ends absent.
@@ -191,15 +193,15 @@ HasUnservedDisk ports port = (ports.state port ≡ Foreign) ⊎ ((cause : ℕ) �
 -- the call ends, or no device shows.
 pub record ProbesDisk (accesses : List Access) (old : JointState Device) (ports : Ports) (new : Device)
     (port : Port) : Type 0 where
-  pub shown : old.abstract.ports.state port ≡ Absent → (old.device.port port.0).ssts_det ≡ 3
+  pub absent_with_device_is_booted : old.abstract.ports.state port ≡ Absent → (old.device.port port.0).ssts_det ≡ 3
       → (ports.state port ≡ Dead) ⊎ (ResetsLink port accesses ⊎ TapeGainsEntry (IsPlugEvent port.0) old.device new)
-  pub absent : old.abstract.ports.state port ≡ Absent → (old.device.port port.0).ssts_det ≡ 3
-      → (old.device.port port.0).fresh ≡ false → (ports.state port ≡ Dead) ⊎ HasSignatureOrNoDevice (new.port port.0)
-  pub missing : HasUnservedDisk old.abstract.ports port → (old.device.port port.0).ssts_det ≢ 3
+  pub absent_gets_first_fis : old.abstract.ports.state port ≡ Absent → (old.device.port port.0).ssts_det ≡ 3
+      → (old.device.port port.0).fresh ≡ false → (ports.state port ≡ Dead) ⊎ HasFirstFisOrNoDevice (new.port port.0)
+  pub missing_disk_makes_absent : IsForeignOrUnfit old.abstract.ports port → (old.device.port port.0).ssts_det ≢ 3
       → (ports.state port ≡ Absent) ⊎ (ports.state port ≡ Dead)
-  pub changed : HasUnservedDisk old.abstract.ports port → (old.device.port port.0).serr_x ≡ true
+  pub changed_disk_is_booted : IsForeignOrUnfit old.abstract.ports port → (old.device.port port.0).serr_x ≡ true
       → (ports.state port ≡ Absent) ⊎ ((ports.state port ≡ Dead)
-      ⊎ (ResetsLink port accesses × ((new.port port.0).serr_x ≡ false) × HasSignatureOrNoDevice (new.port port.0)))
+      ⊎ (ResetsLink port accesses × ((new.port port.0).serr_x ≡ false) × HasFirstFisOrNoDevice (new.port port.0)))
 
 abbrev pub ProbesInCall : AbstractCall DeviceStep → List Access → JointState Device → Ports → Device → Port → Type 0
 ProbesInCall Service accesses old ports new port =
@@ -211,12 +213,13 @@ ProbesInCall ask accesses old ports new port = Unit {0}
 -- A reset that ends boots each served port, unless that gets stuck; so does a tick with each that is hung; and a
 -- service with each ready one that showed a fatal error when the call began or has lost its disk, and with each that it
 -- shows anew, but as absent or dead.
-abbrev pub BootsAnew : AbstractCall DeviceStep → CallResult → List Access → JointState Device → Ports → Device → Port
+abbrev pub BootsAnew : AbstractCall DeviceStep → AbstractCallResult → List Access → JointState Device → Ports → Device
+    → Port
     → Type 0
 BootsAnew Reset (WasReset (Some replies)) accesses old ports new port =
     old.abstract.ports.served port ≡ true → (ports.state port ≡ Dead) ⊎ ResetsLink port accesses
 BootsAnew Tick said accesses old ports new port =
-    HasTimedOut old.abstract port → (ports.state port ≡ Dead) ⊎ ResetsLink port accesses
+    TimesOutAtTick old.abstract port → (ports.state port ≡ Dead) ⊎ ResetsLink port accesses
 BootsAnew Service said accesses old ports new port =
     (old.abstract.ports.state port ≡ Ready → ShowsFatal (old.device.port port.0) ⊎ ShowsLoss port old.device new
     → (ports.state port ≡ Dead) ⊎ ((ports.state port ≡ Absent) ⊎ ResetsLink port accesses))
@@ -232,18 +235,19 @@ BootsAnew ask said accesses old ports new port = Unit {0}
 -- came.
 pub record LosesNoPortError (evidence : Evidence) (old : JointState Device) (ports : Ports) (new : Device)
     (port : Port) : Type 0 where
-  pub errors : old.abstract.ports.state port ≡ Ready
+  pub errors_are_handled_or_shown : old.abstract.ports.state port ≡ Ready
       → ShowsFailure (old.device.port port.0)
-      ⊎ (TapeGainsEntry (IsFaultOf port.0) old.device new ⊎ TapeGainsEntry (IsFatalOf port.0) old.device new)
+      ⊎ (TapeGainsEntry (IsFaultOf port.0) old.device new ⊎ TapeGainsEntry (IsFatalErrorOf port.0) old.device new)
       → IsStoppedOrStuck evidence port ⊎ ShowsFailure (new.port port.0)
-  pub changes : IsPortAlive old.abstract.ports port → ShowsChange (old.device.port port.0)
+  pub changes_are_handled_or_shown : IsServedAndNotDead old.abstract.ports port
+      → ShowsLinkChange (old.device.port port.0)
       ⊎ TapeGainsEntry (IsPlugEvent port.0) old.device new
-      → IsStoppedOrStuck evidence port ⊎ ShowsChange (new.port port.0)
-  pub fault : ports.state port ≡ Ready → GainsSinceStart (IsFaultOf port.0) port.0 old.device new
+      → IsStoppedOrStuck evidence port ⊎ ShowsLinkChange (new.port port.0)
+  pub new_fault_is_shown : ports.state port ≡ Ready → GainsSinceStart (IsFaultOf port.0) port.0 old.device new
       → (new.port port.0).is 30 ≡ true
-  pub fatal : ports.state port ≡ Ready → GainsSinceStart (IsFatalOf port.0) port.0 old.device new
+  pub new_fatal_is_shown : ports.state port ≡ Ready → GainsSinceStart (IsFatalErrorOf port.0) port.0 old.device new
       → ShowsFatal (new.port port.0)
-  pub disk : ports.state port ≡ Ready → GainsSinceStart (IsPlugEvent port.0) port.0 old.device new
+  pub new_plug_event_is_shown : ports.state port ≡ Ready → GainsSinceStart (IsPlugEvent port.0) port.0 old.device new
       → (new.port port.0).serr_n ≡ true
 
 -- Where a port was stopped and is ready after the call, its boot or its recovery has taken the trouble away, what came
@@ -253,7 +257,7 @@ abbrev pub RunsWellAnew : Evidence → List Access → JointState Device → Por
 RunsWellAnew evidence accesses old ports new port =
     IsStoppedOrStuck evidence port → ports.state port ≡ Ready → NoPlugEvents port.0 old.device new
     → (GainsSinceStart (IsFaultOf port.0) port.0 old.device new → ⊥)
-    → (GainsSinceStart (IsFatalOf port.0) port.0 old.device new → ⊥) → ResetsLink port accesses
+    → (GainsSinceStart (IsFatalErrorOf port.0) port.0 old.device new → ⊥) → ResetsLink port accesses
     ⊎ ((old.device.port port.0).fresh ≡ true) → RunsWell (new.port port.0)
 
 -- ---- one port's part in a call, and the whole
@@ -262,13 +266,13 @@ RunsWellAnew evidence accesses old ports new port =
 -- trouble; and it heeds what the evidence names of the port.
 pub record PortCorresponds (old : JointState Device) (h : JointEvent Device DeviceStep) (accesses : List Access)
     (port : Port) : Type 0 where
-  pub finds_done : FindsDoneInCall h.event.ask accesses old h.event.steps port
-  pub plain_faults_are_told : TellsPlainFaults h.event.ask old h.event.ports h.device h.event.steps port
-  pub probes_disk : ProbesInCall h.event.ask accesses old h.event.ports h.device port
-  pub boots_anew : BootsAnew h.event.ask h.event.said accesses old h.event.ports h.device port
+  pub finds_done : FindsDoneInCall h.event.call accesses old h.event.steps port
+  pub plain_faults_are_told : TellsPlainFaults h.event.call old h.event.ports h.device h.event.steps port
+  pub probes_disk : ProbesInCall h.event.call accesses old h.event.ports h.device port
+  pub boots_anew : BootsAnew h.event.call h.event.result accesses old h.event.ports h.device port
   pub loses_no_error : LosesNoPortError h.event.evidence old h.event.ports h.device port
   pub runs_well_anew : RunsWellAnew h.event.evidence accesses old h.event.ports h.device port
-  pub handles_evidence : HandlesEvidenceAt port h.event.ask old.abstract h.event.evidence h.event.steps
+  pub handles_evidence : HandlesEvidenceAt port h.event.call old.abstract h.event.evidence h.event.steps
       (abstract_after old.abstract h.event)
 
 -- The device's part in a call. Its accesses led there, and the tape backs the machine's steps. What stands behind the
@@ -277,12 +281,12 @@ pub record PortCorresponds (old : JointState Device) (h : JointEvent Device Devi
 pub record CallCorresponds (wanted : List Wanted) (old : JointState Device)
     (h : JointEvent Device DeviceStep) : Type 0 where
   pub accesses : List Access
-  pub accesses_are_explained : ExplainsAccesses old.abstract h.event.ask h.event.said accesses old.device h.device
-  pub is_backed : IsBacked old.device h.device old.abstract.machine h.event.steps
-  pub is_evidenced : IsEvidenced h.event.ask h.event.said accesses old h.event.ports h.device h.event.evidence
-  pub only_failed_requeue : OnlyFailedPortsRequeueIn h.event.ask h.event.evidence h.event.steps
+  pub accesses_are_explained : ExplainsAccesses old.abstract h.event.call h.event.result accesses old.device h.device
+  pub is_backed : TapeBacksSteps old.device h.device old.abstract.machine h.event.steps
+  pub is_evidenced : IsEvidenced h.event.call h.event.result accesses old h.event.ports h.device h.event.evidence
+  pub only_failed_requeue : OnlyFailedPortsRequeueIn h.event.call h.event.evidence h.event.steps
   pub issues_all_due : (port : Port)
-      → IssuesAllDue h.event.ask h.event.steps (abstract_after old.abstract h.event).machine h.event.ports
+      → IssuesAllDue h.event.call h.event.steps (abstract_after old.abstract h.event).machine h.event.ports
       port
   pub ports_correspond : (port : Port) → PortCorresponds old h accesses port
   pub invariant_holds : DriverInvariant wanted (record {
@@ -298,3 +302,11 @@ IsFirstInstant wanted first = DriverInvariant wanted first × HasAeAndIe first.d
 -- calls one after another, from what a new server left
 abbrev pub IsDriverHistory : List Wanted → JointState Device → List (JointEvent Device DeviceStep) → Type 0
 IsDriverHistory wanted first past = histories.IsHistory (IsFirstInstant wanted) (CallCorresponds wanted) first past
+
+-- Of each call of a history and each port it holds of these four: the state before the call, the call, the state after
+-- it, and the port.
+abbrev pub OfPortsInCalls : (JointState Device → JointEvent Device DeviceStep → JointState Device → Port → Type 0) →
+    Type 0
+OfPortsInCalls P = (wanted : List Wanted) (first : JointState Device) (past : List (JointEvent Device DeviceStep))
+    (h : JointEvent Device DeviceStep) (port : Port) → IsDriverHistory wanted first (h ∷ past)
+    → P (joint_state_after first past) h (joint_state_after first (h ∷ past)) port

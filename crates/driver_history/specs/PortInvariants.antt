@@ -10,23 +10,23 @@ use Rattle.adapter.specs.Commands.{Meaning, is_queued}
 use Rattle.adapter.specs.Device.{Device}
 use Rattle.adapter.specs.Idle.{IsIdlePort}
 use Rattle.adapter.specs.Rules.{IsOn}
-use Rattle.refinement.specs.Acts.{DriverSlots, driver_state}
+use Rattle.refinement.specs.Acts.{DriverSlots, driver_state_of_slots}
 use Rattle.refinement.specs.Driver.{AllFree, DriverRelation}
 use Rattle.refinement.specs.PortFacts.{RecordsFaults}
-use Rattle.refinement.specs.Links.{ShowsDiskIfIn}
+use Rattle.refinement.specs.PreservedParts.{ShowsDiskIfIn}
 use Rattle.refinement.specs.Slots.{SlotState, Free, Serves, SlotDecodesTo}
 use Rattle.block_machine.specs.DueRequests.{is_plain}
 use Rattle.block_machine.specs.Histories.{JointState}
 use Rattle.block_machine.specs.Ports.{Ports}
 use Rattle.block_machine.specs.State.{Pending, Machine}
-use Rattle.block_machine.specs.Steps.{NoneQuarantined}
+use Rattle.block_machine.specs.Steps.{NoneKept}
 use Rattle.block_machine.specs.declared.due.QueueMode.{QueueMode}
-use Rattle.host_boot.specs.TakeOver.{wanted_of, FoundBadDisk, IsServed}
+use Rattle.host_boot.specs.TakeOver.{wanted_of, FoundUnusableDevice, IsServed}
 use Rattle.identify.specs.Wanted.{serial_of}
 use Rattle.identify.specs.declared.DiskInfo.{DiskInfo}
 use Rattle.identify.specs.declared.wanted.Wanted.{Wanted}
-use Rattle.port_boot.specs.States.{BacksState, HasFitDisk}
-use Rattle.port_control.specs.Ports.{programmed}
+use Rattle.port_boot.specs.States.{BacksState, HasFitDiskAndInterrupts}
+use Rattle.port_control.specs.Ports.{programmed_bases}
 
 -- ---- a ready port
 
@@ -34,25 +34,25 @@ use Rattle.port_control.specs.Ports.{programmed}
 -- adapter, disk and the tag's 32 values allow; else one at a time (CAP: AHCI 1.3.1, 3.1.1).
 abbrev pub mode_of_disk : ℕ → DiskInfo → QueueMode
 mode_of_disk cap info =
-    if bit cap 30 && info.ncq then record { queued = true; usable = min (cap / 256 % 32 + 1) (min info.depth 32) }
-    else record { queued = false; usable = 1 }
+    if bit cap 30 && info.ncq then record { queued = true; usable_slots = min (cap / 256 % 32 + 1) (min info.depth 32) }
+    else record { queued = false; usable_slots = 1 }
 
 -- what the port is to clients is what its disk's page says
 pub record ShowsDiskInfo (ports : Ports) (port : Port) (cap : ℕ) (info : DiskInfo) : Type 0 where
   pub serial : ports.serial port ≡ info.serial
   pub sectors : ports.sectors port ≡ info.sectors
-  pub trims : ports.trims port ≡ info.trim
+  pub zeroes_after_trim_is : ports.zeroes_after_trim port ≡ info.trim
   pub mode : ports.mode port ≡ mode_of_disk cap info
 
 -- The engine of a port runs, with its command list and its received FIS area in their places; a device was seen since
 -- PxSCTL was written (the count of PxSSTS stays at 64 from then on, whatever is read later); the record of its faults
 -- since ST was set is kept; and no link is due. (Whether the device goes well, or is there still, is no part of it.)
 pub record EngineRuns (port : ℕ) (d : Device) : Type 0 where
-  pub st : (d.port port).st ≡ true
-  pub cr : (d.port port).cr ≡ true
-  pub fre : (d.port port).fre ≡ true
-  pub bases : (d.port port).bases ≡ programmed port
-  pub device_was_seen : (d.port port).notes.link_count ≡ MOST_READINGS
+  pub st_is_set : (d.port port).st ≡ true
+  pub cr_is_set : (d.port port).cr ≡ true
+  pub fre_is_set : (d.port port).fre ≡ true
+  pub bases_are_programmed : (d.port port).bases ≡ programmed_bases port
+  pub device_was_seen : (d.port port).notes.link_wait_count ≡ MOST_READINGS
   pub faults_are_recorded : RecordsFaults d.tape (d.port port) port
 
 -- the slot is free, or serves a client's request
@@ -63,31 +63,31 @@ IsFreeOrServes u = (u ≡ Free) ⊎ ((id : RequestId) × (u ≡ Serves id))
 pub record SlotServesUnanswered (s : DriverSlots) (i : JointState Device) (port : Port) (slot : ℕ) (e : Pending) : Type
     0 where
   pub is_in_book : Contains i.abstract.machine.book e
-  pub serves : s.uses port.0 slot ≡ Serves e.request.id
+  pub serves : s.slot_states port.0 slot ≡ Serves e.request.id
 
 -- the command that header and table of the slot say is queued exactly if the request isn't plain
 pub record IsQueuedAsAsked (mode : QueueMode) (d : Device) (port slot : ℕ) (e : Pending) : Type 0 where
   pub command : Meaning
   pub places : List ℕ
   pub slot_decodes_to : SlotDecodesTo d.memory (d.port port).bases.clb port slot command places
-  pub kind : is_queued command.operation ≡ not (is_plain mode e.request.asked.op)
+  pub is_queued_if_not_plain : is_queued command.operation ≡ not (is_plain mode e.request.asked.op)
 
 -- What the driver has in the slots of a port that runs: clients' requests alone, in usable slots, by commands of their
 -- kind (of one that has ended nobody asks); a plain one is in slot 0, and alone. No request is parked.
 pub record ReadySlotsInvariant (s : DriverSlots) (i : JointState Device) (port : Port) (mode : QueueMode) : Type 0 where
-  pub slots_serve_clients : (slot : ℕ) → IsFreeOrServes (s.uses port.0 slot)
-  pub unusable_are_free : (slot : ℕ) → mode.usable ≤ slot → s.uses port.0 slot ≡ Free
-  pub none_is_parked : s.parked port.0 ≡ []
+  pub slots_serve_clients : (slot : ℕ) → IsFreeOrServes (s.slot_states port.0 slot)
+  pub unusable_are_free : (slot : ℕ) → mode.usable_slots ≤ slot → s.slot_states port.0 slot ≡ Free
+  pub none_is_parked : s.awaiting_disposition port.0 ≡ []
   pub commands_are_as_asked : (slot : ℕ) (e : Pending) → SlotServesUnanswered s i port slot e → e.ended ≡ false
       → IsQueuedAsAsked mode i.device port.0 slot e
   pub plain_is_alone : (slot : ℕ) (e : Pending) → SlotServesUnanswered s i port slot e
       → is_plain mode e.request.asked.op ≡ true
-      → (slot ≡ 0) × ((other : ℕ) → other ≢ 0 → s.uses port.0 other ≡ Free)
+      → (slot ≡ 0) × ((other : ℕ) → other ≢ 0 → s.slot_states port.0 other ≡ Free)
 
 -- nothing is in the slots of a port, and nothing is parked
 pub record HasNothingInSlots (s : DriverSlots) (port : ℕ) : Type 0 where
-  pub all_are_free : AllFree s.uses port
-  pub none_is_parked : s.parked port ≡ []
+  pub all_are_free : AllFree s.slot_states port
+  pub none_is_parked : s.awaiting_disposition port ≡ []
 
 -- no request of the port is unanswered
 abbrev pub HasNoUnanswered : Machine → Port → Type 0
@@ -99,10 +99,10 @@ pub record IsReadyAt (wanted : Wanted) (s : DriverSlots) (i : JointState Device)
   pub adapter_is_on : IsOn i.device
   pub engine_runs : EngineRuns port.0 i.device
   pub info : DiskInfo
-  pub has_fit_disk : HasFitDisk (serial_of wanted) port.0 i.device info
+  pub has_fit_disk : HasFitDiskAndInterrupts (serial_of wanted) port.0 i.device info
   pub shows_disk_info : ShowsDiskInfo i.abstract.ports port i.device.cap info
   pub slots_invariant : ReadySlotsInvariant s i port (i.abstract.ports.mode port)
-  pub none_is_quarantined : NoneQuarantined i.abstract.machine port
+  pub none_is_quarantined : NoneKept i.abstract.machine port
 
 -- ---- the other states
 
@@ -112,10 +112,10 @@ pub record IsStoppedAt (wanted : Wanted) (s : DriverSlots) (i : JointState Devic
     (state : PortState) : Type 0 where
   pub adapter_is_on : IsOn i.device
   pub backs_state : BacksState (serial_of wanted) state port.0 i.device
-  pub shows_disk_if_in : FoundBadDisk state → ShowsDiskIfIn (i.device.port port.0)
+  pub shows_disk_if_in : FoundUnusableDevice state → ShowsDiskIfIn (i.device.port port.0)
   pub has_nothing_in_slots : HasNothingInSlots s port.0
   pub has_no_unanswered : HasNoUnanswered i.abstract.machine port
-  pub none_is_quarantined : NoneQuarantined i.abstract.machine port
+  pub none_is_quarantined : NoneKept i.abstract.machine port
 
 -- A dead port: its engine was awaited in vain; or the adapter isn't on, since its last reset wasn't seen to end. Nobody
 -- waits for it, but between such a reset and the service that tells it.
@@ -129,7 +129,7 @@ pub record IsUnservedAt (s : DriverSlots) (i : JointState Device) (port : Port) 
   pub port_is_idle : IsIdlePort (i.device.port port.0)
   pub has_nothing_in_slots : HasNothingInSlots s port.0
   pub has_no_unanswered : HasNoUnanswered i.abstract.machine port
-  pub none_is_quarantined : NoneQuarantined i.abstract.machine port
+  pub none_is_quarantined : NoneKept i.abstract.machine port
 
 -- what holds of a port, whether it is served, and in which state
 abbrev pub PortStateInvariant : Wanted → DriverSlots → JointState Device → Port → Bool → PortState → Type 0
@@ -145,10 +145,10 @@ PortStateInvariant wanted s i port true (Unfit cause) = IsStoppedAt wanted s i p
 -- What holds at each instant of a history, of the device, the ports as clients see them, the machine, and what the
 -- driver has in its slots. (A server has ports 0 to 3.)
 pub record DriverInvariantWith (wanted : List Wanted) (s : DriverSlots) (i : JointState Device) : Type 0 where
-  pub driver_relation : DriverRelation i.abstract.machine (driver_state s i.device)
-  pub served : (port : Port) → port.0 < 4 → (i.abstract.ports.served port ≡ true)
+  pub driver_relation : DriverRelation i.abstract.machine (driver_state_of_slots s i.device)
+  pub served_iff_wanted_and_there : (port : Port) → port.0 < 4 → (i.abstract.ports.served port ≡ true)
       ↔ IsServed (wanted_of wanted port.0) port.0 i.device
-  pub adapter_is_on : IsOn i.device ⊎ ((port : Port) → i.abstract.ports.served port ≡ true
+  pub is_on_or_served_are_dead : IsOn i.device ⊎ ((port : Port) → i.abstract.ports.served port ≡ true
       → i.abstract.ports.state port ≡ Dead)
   pub ports_hold : (port : Port) → port.0 < 4
       → PortStateInvariant (wanted_of wanted port.0) s i port (i.abstract.ports.served port)

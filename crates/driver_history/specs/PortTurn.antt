@@ -8,7 +8,7 @@ use Rattle.refinement.specs.Fragments.{SparesOtherPorts}
 use Rattle.refinement.specs.Errors.{NoDiskComes}
 use Rattle.block_machine.specs.Histories.{JointState}
 use Rattle.block_machine.specs.Ports.{Evidence, Ports}
-use Rattle.driver_history.specs.Histories.{HasUnservedDisk}
+use Rattle.driver_history.specs.Histories.{IsForeignOrUnfit}
 
 -- the access is of another port: of ports' registers it touches that one's alone, and of IS that one's bit
 abbrev pub IsOfOtherPort : Port → Access → Type 0
@@ -36,14 +36,14 @@ call_accesses t = t.before ++ (t.turn ++ t.later)
 pub record EvidenceAgreesOn (port : Port) (one other : Evidence) : Type 0 where
   pub lost : Contains one.lost port ↔ Contains other.lost port
   pub link_changed : Contains one.link_changed port ↔ Contains other.link_changed port
-  pub failed : Contains one.failed port ↔ Contains other.failed port
-  pub fatal : Contains one.fatal port ↔ Contains other.fatal port
+  pub showing_error : Contains one.showing_error port ↔ Contains other.showing_error port
+  pub showing_fatal_error : Contains one.showing_fatal_error port ↔ Contains other.showing_fatal_error port
   pub stopped : Contains one.stopped port ↔ Contains other.stopped port
   pub stuck : Contains one.stuck port ↔ Contains other.stuck port
 
 -- Where a port with a disk that isn't served showed X, and no disk of it came since, no link of it is due any more,
 -- unless it is absent or dead. (While one is due, X rises when it comes up, and the tape tells of no disk.)
 abbrev pub EndsNoLinkDue : Port → JointState Device → Ports → Device → Type 0
-EndsNoLinkDue port old ports new = HasUnservedDisk old.abstract.ports port → (old.device.port port.0).serr_x ≡ true
+EndsNoLinkDue port old ports new = IsForeignOrUnfit old.abstract.ports port → (old.device.port port.0).serr_x ≡ true
     → NoDiskComes port.0 old.device new → (ports.state port ≡ Absent)
     ⊎ ((ports.state port ≡ Dead) ⊎ ((new.port port.0).link_due ≡ false))

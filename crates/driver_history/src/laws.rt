@@ -1,44 +1,23 @@
 // Laws of the definitions, for callers: the clause is the theorem. These functions do nothing.
 ghost use Rattle.std.specs.Prelude.{ℕ, true, false, ◌≡◌, ◌≢◌, ◌⊎◌, ◌<◌, ◌≤◌, None, List, ◌∷◌, Contains};
-ghost use Rattle.ata_types.specs.declared.Port.{Port};
-ghost use Rattle.ata_types.specs.declared.PortState.TheVariants.{Ready, Dead};
-ghost use Rattle.ata_types.specs.declared.memory.TheConstants.{DRIVER_FRAMES};
-ghost use Rattle.ata_types.specs.declared.request.Frame.{Frame};
-ghost use Rattle.ata_types.specs.declared.request.Outcome.{Outcome};
-ghost use Rattle.ata_types.specs.declared.request.Outcome.TheVariants as outcome;
-ghost use Rattle.ata_types.specs.declared.request.RequestId.{RequestId};
-ghost use Rattle.adapter.specs.Device.{Device};
-ghost use Rattle.adapter.specs.Rules.{IsOn, IsStable};
-ghost use Rattle.adapter.specs.declared.access.DeviceStep.{DeviceStep};
-ghost use Rattle.adapter.specs.declared.command.Operation.TheVariants.{ReadLog};
-ghost use Rattle.adapter.specs.declared.tape.Fault.{Fault};
-ghost use Rattle.refinement.specs.Fragments.{GainsNoMove};
-ghost use Rattle.refinement.specs.PortFacts.{DeviceSparesFrame, RunsWell};
-ghost use Rattle.refinement.specs.Links.{NoPlugEvents};
-ghost use Rattle.refinement.specs.Slots.{ServesRequest};
-ghost use Rattle.block_machine.specs.Events.{AbstractCall, AbstractState, CallResult, steps_of, Service, Tick, Reset, HasTimedOut, IsRun, EveryReadHolds, NoneStaysIssued};
-ghost use Rattle.block_machine.specs.Histories.{JointState, JointEvent, IsReachable, events_of, joint_state_after};
-ghost use Rattle.block_machine.specs.Ports.{PortsWellFormed, Evidence, Ports, SameDisk, SamePort};
-ghost use Rattle.block_machine.specs.State.{Pending};
-ghost use Rattle.block_machine.specs.Steps.{Answer};
+ghost use Rattle.ata_types.specs.{declared.Port.{Port}, declared.PortState.TheVariants.{Ready, Dead}, declared.memory.TheConstants.{DRIVER_FRAMES}, declared.request.Frame.{Frame}, declared.request.Outcome.{Outcome}, declared.request.RequestId.{RequestId}};
+ghost use Rattle.adapter.specs.{Device.{Device}, Rules.{IsOn, IsStable}, declared.access.DeviceStep.{DeviceStep}, declared.command.Operation.TheVariants.{ReadLog}, declared.tape.Fault.{Fault}};
+ghost use Rattle.refinement.specs.{Fragments.{GainsNoMove}, PortFacts.{DeviceSparesFrame, RunsWell}, PreservedParts.{NoPlugEvents}, Slots.{ServesRequest}};
+ghost use Rattle.block_machine.specs.{Events.{AbstractCall, AbstractState, AbstractCallResult, steps_of, Service, Tick, Reset, TimesOutAtTick, IsRun, EveryReadHoldsExpected, NoneStaysIssued}, Histories.{JointState, JointEvent, IsReachable, events_of, joint_state_after}, Ports.{PortsWellFormed, Evidence, Ports, SameSerialAndSize, SamePort}, State.{Pending}, Steps.{Answer}};
 ghost use Rattle.identify.specs.declared.wanted.Wanted.{Wanted};
 ghost use Rattle.durability.specs.Durable.{EveryPlugFindsFlushed};
-ghost use Rattle.driver_history.specs.Claims.{AnswerJustified, GoesWellFor, IsHealthyFor, IsSpared};
-ghost use Rattle.driver_history.specs.Evidence.{HasErrors, HasFatalErrors, IsEvidencedOf, IsGone, ShowsChange, StaysHealthy};
+ghost use Rattle.driver_history.specs.{Claims.{AnswerJustified, GoesWellFor, IsHealthyFor, IsSpared}, Evidence.{ReadyPortHasErrors, ReadyPortHasFatalErrors, IsEvidencedOf, ReadyPortHasLinkChange, ShowsLinkChange, StaysHealthy}, Histories.{IsDriverHistory, IssuesAllDue, LosesNoPortError, OfPortsInCalls}, PortInvariants.{DriverInvariant}, ConfinedMoves.{ConfinesCallMoves}, PortTurn.{HasTurnIn, EvidenceAgreesOn, call_accesses}};
 ghost use Rattle.error_recovery.specs.Evidence.{BringsLog, HasFailed};
-ghost use Rattle.driver_history.specs.Histories.{IsDriverHistory, IssuesAllDue, LosesNoPortError};
-ghost use Rattle.driver_history.specs.PortInvariants.{DriverInvariant};
-ghost use Rattle.driver_history.specs.ConfinedMoves.{ConfinesCallMoves};
-ghost use Rattle.driver_history.specs.PortTurn.{HasTurnIn, EvidenceAgreesOn, call_accesses};
+ghost use Rattle.ata_types.specs.declared.request.Outcome.TheVariants as outcome;
 
 use super::prerequisites::{law_prerequisites, law_run_prerequisites};
 use adapter::DeviceStep;
-use adapter::laws::law_told_steps_are_transitions;
+use adapter::laws::law_asked_steps_are_transitions;
 use block_machine::laws::law_rows_shrink_and_owners_stay;
 use durability::laws::law_flushed_writes_survive_replug;
 use port_boot::laws::law_a_port_runs_on;
 use refinement::laws::law_disks_are_told;
-use refinement::port_facts::{law_device_spares_frames, law_healthy_stays};
+use refinement::port_facts::{law_device_spares_frames, law_running_well_stays};
 
 /// The calls of a history are a run of the block machine. So its laws on runs hold of them: each request that is issued
 /// was accepted and broke no rule, each touch is of an accepted request's own sector at a frame that is lent to it, and
@@ -58,10 +37,10 @@ pub fn law_histories_reach_their_machines()
 
 /// Where the adapter's disks tell their sectors, each read of a history that was answered Ok has, at the end of the
 /// call that answered it, what was left.
-pub fn law_reads_hold()
+pub fn law_reads_hold_if_disks_tell()
     ensures { (wanted : List Wanted) (first : JointState Device) (past : List (JointEvent Device DeviceStep))
         → IsDriverHistory wanted first past → first.device.telling ≡ true
-        → EveryReadHolds first.abstract (events_of past) }
+        → EveryReadHoldsExpected first.abstract (events_of past) }
 {
     law_run_prerequisites();
 }
@@ -94,7 +73,8 @@ pub fn law_moves_keep_to_their_places()
 /// At each instant of a history there holds what holds between two calls; and the ports are fit: at most four are
 /// served.
 pub fn law_driver_invariant_holds()
-    ensures holds { (wanted : List Wanted) (first : JointState Device) (past : List (JointEvent Device DeviceStep))
+    ensures invariant_holds { (wanted : List Wanted) (first : JointState Device)
+        (past : List (JointEvent Device DeviceStep))
         → IsDriverHistory wanted first past → DriverInvariant wanted (joint_state_after first past) }
     ensures ports_are_well_formed { (wanted : List Wanted) (first : JointState Device)
         (past : List (JointEvent Device DeviceStep))
@@ -109,7 +89,7 @@ pub fn law_issued_requests_have_their_slots()
         (e : Pending)
         → IsDriverHistory wanted first past → (joint_state_after first past).abstract.ports.state e.request.port ≡ Ready
         → Contains (joint_state_after first past).abstract.machine.book e → e.issued ≡ true
-        → (slot : ℕ) × (slot < ((joint_state_after first past).abstract.ports.mode e.request.port).usable)
+        → (slot : ℕ) × (slot < ((joint_state_after first past).abstract.ports.mode e.request.port).usable_slots)
         × ServesRequest (joint_state_after first past).abstract.machine (joint_state_after first past).device.memory
         ((joint_state_after first past).device.port e.request.port.0)
         e.request.port.0 slot e.request.id
@@ -121,7 +101,7 @@ pub fn law_issued_requests_have_their_slots()
 pub fn law_healthy_ports_are_left_alone()
     ensures { (wanted : List Wanted) (first : JointState Device) (past : List (JointEvent Device DeviceStep))
         (h : JointEvent Device DeviceStep)
-        (port : Port) → (history : IsDriverHistory wanted first (h ∷ past)) → h.event.ask ≡ Service
+        (port : Port) → (history : IsDriverHistory wanted first (h ∷ past)) → h.event.call ≡ Service
         → (joint_state_after first past).abstract.ports.state port ≡ Ready
         → StaysHealthy port.0 (joint_state_after first past).device h.device
         → IsSpared (joint_state_after first past) h history.2.accesses port }
@@ -132,17 +112,13 @@ pub fn law_healthy_ports_are_left_alone()
 /// A port that is ready and stays healthy in a call runs well after it, unless the call is a reset, or a tick that
 /// brings a request of the port to its age of three.
 pub fn law_calls_leave_ports_well()
-    ensures { (wanted : List Wanted) (first : JointState Device) (past : List (JointEvent Device DeviceStep))
-        (h : JointEvent Device DeviceStep)
-        (port : Port) → IsDriverHistory wanted first (h ∷ past)
-        → (joint_state_after first past).abstract.ports.state port ≡ Ready
-        → h.event.ask ≢ Reset
-        → (h.event.ask ≡ Tick → HasTimedOut (joint_state_after first past).abstract port → ⊥)
-        → StaysHealthy port.0 (joint_state_after first past).device h.device → RunsWell (h.device.port port.0) }
+    ensures { OfPortsInCalls (λ old h new port. old.abstract.ports.state port ≡ Ready → h.event.call ≢ Reset
+        → (h.event.call ≡ Tick → TimesOutAtTick old.abstract port → ⊥)
+        → StaysHealthy port.0 old.device h.device → RunsWell (h.device.port port.0)) }
 {
     law_disks_are_told();
-    law_told_steps_are_transitions();
-    law_healthy_stays();
+    law_asked_steps_are_transitions();
+    law_running_well_stays();
     law_a_port_runs_on();
 }
 
@@ -176,13 +152,13 @@ pub fn law_unplugged_needs_loss()
     ensures { (wanted : List Wanted) (first : JointState Device) (past : List (JointEvent Device DeviceStep))
         (h : JointEvent Device DeviceStep)
         (e : Pending) → IsDriverHistory wanted first (h ∷ past)
-        → (ShowsChange ((joint_state_after first past).device.port e.request.port.0)
+        → (ShowsLinkChange ((joint_state_after first past).device.port e.request.port.0)
         → ⊥)
         → ((joint_state_after first past).device.port e.request.port.0).ssts_det ≡ 3
         → NoPlugEvents e.request.port.0 (joint_state_after first past).device h.device
         → (h.event.ports.state e.request.port ≡ Dead)
         ⊎ ((h.event.ports.state e.request.port ≡ Ready)
-        × SameDisk (joint_state_after first past).abstract.ports h.event.ports e.request.port)
+        × SameSerialAndSize (joint_state_after first past).abstract.ports h.event.ports e.request.port)
         → Contains h.event.steps (Answer e outcome.Unplugged) → ⊥ }
 {}
 
@@ -191,7 +167,7 @@ pub fn law_unplugged_needs_loss()
 pub fn law_clear_bits_are_answered()
     ensures { (wanted : List Wanted) (first : JointState Device) (past : List (JointEvent Device DeviceStep))
         (h : JointEvent Device DeviceStep)
-        (port : Port) (slot : ℕ) (id : RequestId) → IsDriverHistory wanted first (h ∷ past) → h.event.ask ≡ Service
+        (port : Port) (slot : ℕ) (id : RequestId) → IsDriverHistory wanted first (h ∷ past) → h.event.call ≡ Service
         → (joint_state_after first past).abstract.ports.state port ≡ Ready
         → ServesRequest (joint_state_after first past).abstract.machine (joint_state_after first past).device.memory
         ((joint_state_after first past).device.port port.0) port.0 slot id
@@ -203,11 +179,8 @@ pub fn law_clear_bits_are_answered()
 
 /// A tick that brings a request of a port to its age of three leaves no unanswered request of the port its issue.
 pub fn law_timeouts_undo_issues()
-    ensures { (wanted : List Wanted) (first : JointState Device) (past : List (JointEvent Device DeviceStep))
-        (h : JointEvent Device DeviceStep)
-        (port : Port) → IsDriverHistory wanted first (h ∷ past) → h.event.ask ≡ Tick
-        → HasTimedOut (joint_state_after first past).abstract port
-        → NoneStaysIssued h.event.steps (joint_state_after first (h ∷ past)).abstract.machine port }
+    ensures { OfPortsInCalls (λ old h new port. h.event.call ≡ Tick → TimesOutAtTick old.abstract port
+        → NoneStaysIssued h.event.steps new.abstract.machine port) }
 {}
 
 /// Composition on healthy ports: each call of a history that is healthy for a port goes well for it, whatever was
@@ -215,25 +188,19 @@ pub fn law_timeouts_undo_issues()
 /// service answers exactly the issued requests whose bits are clear in the masks that it read; and a call issues
 /// exactly what is due.
 pub fn law_healthy_calls_go_well()
-    ensures { (wanted : List Wanted) (first : JointState Device) (past : List (JointEvent Device DeviceStep))
-        (h : JointEvent Device DeviceStep)
-        (port : Port) → IsDriverHistory wanted first (h ∷ past) → IsHealthyFor (joint_state_after first past) h port
-        → GoesWellFor (joint_state_after first past) h port }
+    ensures { OfPortsInCalls (λ old h new port. IsHealthyFor old h port → GoesWellFor old h port) }
 {
     law_disks_are_told();
-    law_told_steps_are_transitions();
-    law_healthy_stays();
+    law_asked_steps_are_transitions();
+    law_running_well_stays();
     law_a_port_runs_on();
 }
 
 /// On a port that is ready at the end of a submit, a service, a tick, a reset or a revocation, exactly what is due was
 /// issued.
 pub fn law_due_are_issued()
-    ensures { (wanted : List Wanted) (first : JointState Device) (past : List (JointEvent Device DeviceStep))
-        (h : JointEvent Device DeviceStep)
-        (port : Port) → IsDriverHistory wanted first (h ∷ past)
-        → IssuesAllDue h.event.ask h.event.steps (joint_state_after first (h ∷ past)).abstract.machine h.event.ports
-        port }
+    ensures { OfPortsInCalls (λ old h new port. IssuesAllDue h.event.call h.event.steps new.abstract.machine
+        h.event.ports port) }
 {}
 
 /// What stands behind a port's evidence in its own turn of a call stands behind it in the whole call, where the turn's
@@ -245,16 +212,18 @@ pub fn law_a_turns_evidence_is_the_calls()
     ensures evidence { (port : Port) (old : JointState Device) (begun : AbstractState) (ended ports : Ports)
         (new : Device)
         (turn call : Evidence)
-        (ask : AbstractCall DeviceStep) (said : CallResult) → IsOn old.device
+        (ask : AbstractCall DeviceStep) (said : AbstractCallResult) → IsOn old.device
         → ((old.abstract.ports.state port ≡ Ready) ⊎ Contains turn.lost port → (old.device.port port.0).link_due
         ≡ false)
         → (t : HasTurnIn port old.device new) → IsOn t.end → SamePort old.abstract.ports begun.ports port
         → SamePort ended ports port → EvidenceAgreesOn port turn call
         → IsEvidencedOf ask said t.turn (record { device = t.start; abstract = begun }) ended t.end turn port
         → IsEvidencedOf ask said (call_accesses t) old ports new call port }
-    ensures failed { (port : Port) (old new : Device) (fault : Fault) → IsOn old → (t : HasTurnIn port old new)
+    ensures turn_failure_is_calls { (port : Port) (old new : Device) (fault : Fault) → IsOn old
+        → (t : HasTurnIn port old new)
         → HasFailed port t.turn t.start t.end fault → HasFailed port (call_accesses t) old new fault }
-    ensures brings { (port : Port) (old new : Device) (page : List ℕ) → IsOn old → (t : HasTurnIn port old new)
+    ensures turn_log_page_is_calls { (port : Port) (old new : Device) (page : List ℕ) → IsOn old
+        → (t : HasTurnIn port old new)
         → GainsNoMove port.0 ReadLog t.end new → BringsLog port t.start t.end page → BringsLog port old new page }
 {
     law_prerequisites();
@@ -265,11 +234,13 @@ pub fn law_a_turns_evidence_is_the_calls()
 pub fn law_healthy_ports_have_no_error()
     ensures link_is_unchanged { (port : Port) (old : JointState Device) (new : Device)
         → StaysHealthy port.0 old.device new
-        → IsGone port old new → ⊥ }
-    ensures errors { (port : Port) (old : JointState Device) (new : Device) → StaysHealthy port.0 old.device new
-        → HasErrors port old new → ⊥ }
-    ensures fatal { (port : Port) (old : JointState Device) (new : Device) → StaysHealthy port.0 old.device new
-        → HasFatalErrors port old new → ⊥ }
-    ensures port_error { (evidence : Evidence) (old : JointState Device) (ports : Ports) (new : Device) (port : Port)
+        → ReadyPortHasLinkChange port old new → ⊥ }
+    ensures has_no_errors { (port : Port) (old : JointState Device) (new : Device) → StaysHealthy port.0 old.device new
+        → ReadyPortHasErrors port old new → ⊥ }
+    ensures has_no_fatal_errors { (port : Port) (old : JointState Device) (new : Device)
+        → StaysHealthy port.0 old.device new
+        → ReadyPortHasFatalErrors port old new → ⊥ }
+    ensures loses_no_error { (evidence : Evidence) (old : JointState Device) (ports : Ports) (new : Device)
+        (port : Port)
         → StaysHealthy port.0 old.device new → LosesNoPortError evidence old ports new port }
 {}

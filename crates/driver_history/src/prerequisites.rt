@@ -1,27 +1,27 @@
 // What laws of the crates below say of accesses, for this crate's proofs. Nothing comes of calling it.
-ghost use Rattle.driver_history.specs.Laws.{Laws, RunLaws};
+ghost use Rattle.driver_history.specs.Laws.{AccessLaws, RunLaws};
 
 use adapter::DeviceStep;
 use adapter::laws::{
     law_accesses_compose, law_port_register_accesses, law_step_lists_keep_what_steps_keep,
 };
 use block_machine::laws::{
-    law_every_read_holds, law_frame_holder_was_accepted, law_runs_are_legal,
+    law_answered_reads_hold_expected, law_frame_holder_was_accepted, law_runs_are_legal,
 };
 use error_recovery::laws::law_fatal_errors_show_unless_clear;
 use port_boot::laws::law_a_port_runs_on;
 use port_control::laws::law_what_is_told_of_engines_stays;
-use refinement::disks::law_no_disk_comes_in;
-use refinement::fragments::{law_other_ports_are_left, law_tape_prerequisites};
+use refinement::disks::law_where_no_disk_comes;
+use refinement::fragments::{law_other_ports_are_untouched, law_tape_prerequisites};
 use refinement::laws::law_histories_compose;
 use refinement::port_facts::{
     law_adapter_stays, law_cleared_stays, law_controls_are_set, law_controls_stay,
-    law_errors_are_kept, law_errors_are_shown, law_link_stays, law_plugging_is_found,
+    law_errors_are_kept, law_errors_are_shown, law_link_stays, law_plug_events_are_found,
 };
 
 /// The laws that the proofs on parts of calls rest on.
 pub fn law_prerequisites()
-    ensures { Laws }
+    ensures { AccessLaws }
 {
     law_accesses_compose();
     law_step_lists_keep_what_steps_keep();
@@ -34,10 +34,10 @@ pub fn law_prerequisites()
     law_errors_are_shown();
     law_fatal_errors_show_unless_clear();
     law_link_stays();
-    law_plugging_is_found();
-    law_other_ports_are_left();
+    law_plug_events_are_found();
+    law_other_ports_are_untouched();
     law_tape_prerequisites();
-    law_no_disk_comes_in();
+    law_where_no_disk_comes();
     law_a_port_runs_on();
     law_what_is_told_of_engines_stays();
 }
@@ -47,7 +47,7 @@ pub fn law_run_prerequisites()
     ensures { RunLaws }
 {
     law_runs_are_legal::<DeviceStep>();
-    law_every_read_holds::<DeviceStep>();
+    law_answered_reads_hold_expected::<DeviceStep>();
     law_histories_compose();
     law_frame_holder_was_accepted();
 }

@@ -1,27 +1,13 @@
 // Laws of what a call owes a port on which a command fails, that meets a fatal error, or whose disk goes or comes, for
 // callers: the clause is the theorem. These functions do nothing.
 ghost use Rattle.std.specs.Prelude.{ℕ, true, false, ◌≡◌, ◌⊎◌, ◌≤◌, List, ◌∷◌, All, length};
-ghost use Rattle.ata_types.specs.declared.Port.{Port};
-ghost use Rattle.ata_types.specs.declared.PortState.TheVariants.{Ready};
+ghost use Rattle.ata_types.specs.{declared.Port.{Port}, declared.PortState.TheVariants.{Ready}};
 ghost use Rattle.hba_regs.specs.declared.reg.Reg.TheVariants.{Ghc};
-ghost use Rattle.adapter.specs.Access.{Access, DoesAll};
-ghost use Rattle.adapter.specs.Device.{Device};
-ghost use Rattle.adapter.specs.Rules.{IsOn};
-ghost use Rattle.adapter.specs.Steps.{Steps};
-ghost use Rattle.adapter.specs.declared.access.DeviceStep.{DeviceStep};
-ghost use Rattle.refinement.specs.Fragments.{TapeGrows};
-ghost use Rattle.refinement.specs.Errors.{IsFatalOf, NoDiskComes};
-ghost use Rattle.refinement.specs.PortFacts.{IsFaultOf, Undisturbed};
-ghost use Rattle.refinement.specs.Links.{ShowsDiskIfIn, NoPlugEvents, DoesNotWrite};
-ghost use Rattle.block_machine.specs.Events.{AbstractState, CallResult, Service};
-ghost use Rattle.block_machine.specs.Histories.{JointEvent, JointState, joint_state_after};
-ghost use Rattle.block_machine.specs.Ports.{Evidence, IsStoppedOrStuck, Ports, SamePort};
+ghost use Rattle.adapter.specs.{Access.{Access, DoesAll}, Device.{Device}, Rules.{IsOn}, Steps.{Steps}, declared.access.DeviceStep.{DeviceStep}};
+ghost use Rattle.refinement.specs.{Fragments.{TapeGrows}, Errors.{IsFatalErrorOf, NoDiskComes}, PortFacts.{IsFaultOf, Undisturbed}, PreservedParts.{ShowsDiskIfIn, NoPlugEvents, DoesNotWrite}};
+ghost use Rattle.block_machine.specs.{Events.{AbstractState, AbstractCallResult, Service}, Histories.{JointEvent, JointState, joint_state_after}, Ports.{Evidence, IsStoppedOrStuck, Ports, SamePort}};
 ghost use Rattle.error_recovery.specs.Evidence.{GainsSinceStart};
-ghost use Rattle.driver_history.specs.Claims.{HandlesShownFailure, HandlesShownLoss};
-ghost use Rattle.driver_history.specs.Evidence.{ShowsChange, ShowsFailure, ShowsLoss};
-ghost use Rattle.driver_history.specs.Histories.{BootsAnew, HasUnservedDisk, HasOnlyTaskFileError, IsDriverHistory, LosesNoPortError, RunsWellAnew, ProbesDisk};
-ghost use Rattle.driver_history.specs.PortTurn.{EndsNoLinkDue, HasTurnIn, EvidenceAgreesOn, call_accesses};
-ghost use Rattle.driver_history.specs.AccessTrace.{ClearsNoError, ResetsLink};
+ghost use Rattle.driver_history.specs.{Claims.{HandlesShownFailure, HandlesShownLoss}, Evidence.{ShowsLinkChange, ShowsFailure, ShowsLoss}, Histories.{BootsAnew, IsForeignOrUnfit, HasOnlyTaskFileError, LosesNoPortError, OfPortsInCalls, RunsWellAnew, ProbesDisk}, PortTurn.{EndsNoLinkDue, HasTurnIn, EvidenceAgreesOn, call_accesses}, AccessTrace.{ClearsNoError, ResetsLink}};
 ghost use Rattle.identify.specs.declared.wanted.Wanted.{Wanted};
 ghost use Rattle.port_control.specs.Engines.{Stops};
 
@@ -31,25 +17,17 @@ use super::prerequisites::law_prerequisites;
 /// showed: what had ended is answered, the port was stopped, who waits keeps no issue, and one request is told a fault
 /// at most. With a fatal error nobody is told one; with TFES alone, and in the call no fatal error, and no disk that
 /// goes or comes, a plain request always is.
-pub fn law_shown_faults_are_heeded()
-    ensures { (wanted : List Wanted) (first : JointState Device) (past : List (JointEvent Device DeviceStep))
-        (h : JointEvent Device DeviceStep)
-        (port : Port) → IsDriverHistory wanted first (h ∷ past) → h.event.ask ≡ Service
-        → (joint_state_after first past).abstract.ports.state port ≡ Ready
-        → ShowsFailure ((joint_state_after first past).device.port port.0)
-        → HandlesShownFailure port (joint_state_after first past) h }
+pub fn law_shown_failures_are_heeded()
+    ensures { OfPortsInCalls (λ old h new port. h.event.call ≡ Service → old.abstract.ports.state port ≡ Ready
+        → ShowsFailure (old.device.port port.0) → HandlesShownFailure port old h) }
 {}
 
 /// A service heeds that a ready port showed a change of its link when it began, or no device, with no disk that comes
 /// meanwhile, whatever else it showed: what had ended is answered, all other requests of the port are told that the
 /// disk is gone, or that the port is dead, and the port was stopped.
 pub fn law_shown_losses_are_heeded()
-    ensures { (wanted : List Wanted) (first : JointState Device) (past : List (JointEvent Device DeviceStep))
-        (h : JointEvent Device DeviceStep)
-        (port : Port) → IsDriverHistory wanted first (h ∷ past) → h.event.ask ≡ Service
-        → (joint_state_after first past).abstract.ports.state port ≡ Ready
-        → ShowsLoss port (joint_state_after first past).device h.device
-        → HandlesShownLoss port (joint_state_after first past) h }
+    ensures { OfPortsInCalls (λ old h new port. h.event.call ≡ Service → old.abstract.ports.state port ≡ Ready
+        → ShowsLoss port old.device h.device → HandlesShownLoss port old h) }
 {}
 
 /// Accesses that leave the adapter on, and clear no bit that tells of a port's trouble, lose none of it; nor does the
@@ -83,7 +61,7 @@ pub fn law_a_fault_alone_in_a_call_is_alone_in_a_turn()
 /// where no link of a ready port is due when the call begins; and with a port that runs well anew, where ST of one that
 /// is left ready was set by the turn's end, and no link of it was due when the call began, or the turn reset it.
 pub fn law_a_turns_errors_are_the_calls()
-    ensures port_error { (port : Port) (old : JointState Device) (begun : AbstractState) (ended ports : Ports)
+    ensures loses_no_error { (port : Port) (old : JointState Device) (begun : AbstractState) (ended ports : Ports)
         (new : Device)
         (turn call : Evidence) → IsOn old.device
         → (t : HasTurnIn port old.device new) → IsOn t.end → SamePort ended ports port → EvidenceAgreesOn port turn call
@@ -91,18 +69,20 @@ pub fn law_a_turns_errors_are_the_calls()
         → (ended.state port ≡ Ready → IsStoppedOrStuck turn port
         → length t.start.tape ≤ (t.end.port port.0).notes.st_set_at)
         → ((begun.ports.state port ≡ Ready) ⊎ (ended.state port ≡ Ready) → ShowsFailure (t.start.port port.0)
-        ⊎ ShowsChange (t.start.port port.0)
+        ⊎ ShowsLinkChange (t.start.port port.0)
         → IsStoppedOrStuck turn port)
         → LosesNoPortError turn (record { device = t.start; abstract = begun }) ended t.end port
         → LosesNoPortError call old ports new port }
-    ensures boots { (port : Port) (old : JointState Device) (begun : AbstractState) (ended ports : Ports) (new : Device)
-        (one other : CallResult) → IsOn old.device
+    ensures boots_anew { (port : Port) (old : JointState Device) (begun : AbstractState) (ended ports : Ports)
+        (new : Device)
+        (one other : AbstractCallResult) → IsOn old.device
         → (old.abstract.ports.state port ≡ Ready → (old.device.port port.0).link_due ≡ false)
         → (t : HasTurnIn port old.device new) → IsOn t.end → SamePort ended ports port
         → SamePort old.abstract.ports begun.ports port
         → BootsAnew Service one t.turn (record { device = t.start; abstract = begun }) ended t.end port
         → BootsAnew Service other (call_accesses t) old ports new port }
-    ensures well { (port : Port) (old : JointState Device) (begun : AbstractState) (ended ports : Ports) (new : Device)
+    ensures runs_well_anew { (port : Port) (old : JointState Device) (begun : AbstractState) (ended ports : Ports)
+        (new : Device)
         (turn call : Evidence) → IsOn old.device
         → (t : HasTurnIn port old.device new) → IsOn t.end
         → (ended.state port ≡ Ready → ((old.device.port port.0).link_due ≡ false) ⊎ ResetsLink port t.turn)
@@ -122,13 +102,13 @@ pub fn law_a_turn_that_probes_a_disk_is_the_calls()
         (new : Device)
         → IsOn old.device → (t : HasTurnIn port old.device new) → IsOn t.end → SamePort ended ports port
         → SamePort old.abstract.ports begun.ports port
-        → (HasUnservedDisk old.abstract.ports port → ShowsDiskIfIn (old.device.port port.0))
+        → (IsForeignOrUnfit old.abstract.ports port → ShowsDiskIfIn (old.device.port port.0))
         → EndsNoLinkDue port (record { device = t.start; abstract = begun }) ended t.end
         → (NoDiskComes port.0 t.start t.end
         → ProbesDisk t.turn (record { device = t.start; abstract = begun }) ended t.end
         port)
         → NoDiskComes port.0 old.device new → ProbesDisk (call_accesses t) old ports new port }
-    ensures linked { (port : Port) (old : JointState Device) (begun : AbstractState) (ended ports : Ports)
+    ensures ends_no_link_due { (port : Port) (old : JointState Device) (begun : AbstractState) (ended ports : Ports)
         (new : Device)
         → IsOn old.device → (t : HasTurnIn port old.device new) → IsOn t.end → SamePort ended ports port
         → SamePort old.abstract.ports begun.ports port
@@ -145,7 +125,7 @@ pub fn law_what_is_untroubled_since_st_was_set_is_calm()
         → (new.port port).notes.st_set_at
         ≤ length mid.tape
         → NoPlugEvents port old new → (GainsSinceStart (IsFaultOf port) port old new → ⊥)
-        → (GainsSinceStart (IsFatalOf port) port old new → ⊥) → Undisturbed port mid new }
+        → (GainsSinceStart (IsFatalErrorOf port) port old new → ⊥) → Undisturbed port mid new }
 {
     law_prerequisites();
 }
@@ -155,7 +135,7 @@ pub fn law_what_is_untroubled_since_st_was_set_is_calm()
 pub fn law_a_fatal_error_of_a_part_is_of_the_whole()
     ensures { (port : ℕ) (old start end new : Device) → TapeGrows old start → TapeGrows end new
         → (new.port port).notes.st_set_at ≡ (end.port port).notes.st_set_at
-        → GainsSinceStart (IsFatalOf port) port start end → GainsSinceStart (IsFatalOf port) port old new }
+        → GainsSinceStart (IsFatalErrorOf port) port start end → GainsSinceStart (IsFatalErrorOf port) port old new }
 {}
 
 /// Where accesses that leave the adapter on stopped a port, and its ST is one after them, it was set since they began.

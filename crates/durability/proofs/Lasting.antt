@@ -10,7 +10,7 @@ use Rattle.block_machine.specs.State.{Block, DiskBytes, Accepted, Pending, Machi
 use Rattle.block_machine.specs.DueRequests.{is_flush, changes_sectors}
 use Rattle.block_machine.specs.Steps.{Step, Accept, Issue, Touch, End, Age, WaitAgain, Answer, Release, Revoke, Unplug, Replace, Store, Load, IsEnabled, MayStillMove, after_step, update_pending, newly_issued, touch, mark_ended, requeued, aged_pending, newly_accepted, put_sector, SameBytes, HoldsOrHeldSinceFlush}
 use Rattle.block_machine.specs.Expected.{after, IsLegal, IsInitial, IsAccept, IsTouch, HasTouched, plug_count}
-use Rattle.durability.specs.Durable.{AnswersOk, takes_out, plugs_other_disk, WriteAccepted, WriteAnswered, FlushAccepted, FlushAnswered, IsWrittenSince, FindsFlushed, EveryPlugFindsFlushed}
+use Rattle.durability.specs.Durable.{AnswersOk, takes_out, plugs_other_disk, WriteAcceptedOnDisk, WriteOkOnSameDisk, FlushAcceptedAfterWrite, FlushOkAfterWrite, IsWrittenByOrAfter, PlugFindsFlushed, EveryPlugFindsFlushed}
 use Rattle.block_machine.proofs.Members.{map_in, at_cases, without_in, append_in}
 use Rattle.block_machine.proofs.Sound.{Sound}
 use Rattle.block_machine.proofs.Keeps.{older_keeps, older_touched}
@@ -31,7 +31,7 @@ starts_lasting old port _ = false
 abbrev pub HeldSince : Machine → Port → ℕ → Block → List Step → Type 0
 HeldSince start port k block [] = HoldsOrHeldSinceFlush start port k block
 HeldSince start port k block (step ∷ past) =
-    SameBytes block ((after start (step ∷ past)).disks port k)
+    SameBytes block ((after start (step ∷ past)).disk_bytes port k)
     ⊎ ((starts_lasting (after start past) port step ≡ false) × HeldSince start port k block past)
 
 -- the same disk comes back with each sector as it was at some such moment
@@ -59,7 +59,7 @@ record IsWritten (m : Machine) (step : Step) (port : Port) (k : ℕ) : Type 0 wh
   touched : IsTouch step entry.request k
   from : entry.request.asked.first.0 ≤ k
   to : k < entry.request.asked.first.0 + entry.request.asked.count
-  is : (after_step m step).disks port k ≡ block_written entry.request.asked.op entry.request.held_blocks (k - entry.request.asked.first.0)
+  is : (after_step m step).disk_bytes port k ≡ block_written entry.request.asked.op entry.request.blocks_at_acceptance (k - entry.request.asked.first.0)
 
 record IsReplaced (m : Machine) (step : Step) (port : Port) : Type 0 where
   id : ℕ
@@ -67,10 +67,10 @@ record IsReplaced (m : Machine) (step : Step) (port : Port) : Type 0 where
   disk : DiskBytes
   absent : m.present port ≡ false
   step_is : IsReplace step port id size disk
-  is : (after_step m step).disks port ≡ disk
+  is : (after_step m step).disk_bytes port ≡ disk
 
 record IsIdle (m : Machine) (step : Step) (port : Port) (k : ℕ) : Type 0 where
-  same : (after_step m step).disks port k ≡ m.disks port k
+  same : (after_step m step).disk_bytes port k ≡ m.disk_bytes port k
   quiet : (w : Accepted) → changes_sectors w.asked.op ≡ true → w.port ≡ port → IsTouch step w k → ⊥
 
 abbrev Effect : Machine → Step → Port → ℕ → Type 0
@@ -79,7 +79,7 @@ Effect m step port k = IsIdle m step port k ⊎ (IsWritten m step port k ⊎ IsR
 effect_touch : (m : Machine) (e : Pending) (i : ℕ) (block : Block) (port : Port) (k : ℕ) → MayStillMove m e → i < e.request.asked.count → Effect m (Touch e i block) port k
 effect_touch m e i block port k r lt = by_op (changes_sectors e.request.asked.op) refl
   where
-    by_place : changes_sectors e.request.asked.op ≡ true → (after_step m (Touch e i block)).disks port k ≡ put_sector e.request.port (e.request.asked.first.0 + i) (block_written e.request.asked.op e.request.held_blocks i) m.disks port k
+    by_place : changes_sectors e.request.asked.op ≡ true → (after_step m (Touch e i block)).disk_bytes port k ≡ put_sector e.request.port (e.request.asked.first.0 + i) (block_written e.request.asked.op e.request.blocks_at_acceptance i) m.disk_bytes port k
         → (b : Bool) → ((port.0 == e.request.port.0) && (k == e.request.asked.first.0 + i)) ≡ b → Effect m (Touch e i block) port k
     by_place w joint_state_after true t =
         let p = and_parts (port.0 == e.request.port.0) (k == e.request.asked.first.0 + i) t in
@@ -93,10 +93,10 @@ effect_touch m e i block port k r lt = by_op (changes_sectors e.request.asked.op
           touched = (refl, sector);
           from = omega (arith, sector);
           to = omega (arith, sector, lt);
-          is = joint_state_after ∙ cond-true ((port.0 == e.request.port.0) && (k == e.request.asked.first.0 + i)) (block_written e.request.asked.op e.request.held_blocks i) (m.disks port k) t ∙ ap (λ (x : ℕ). block_written e.request.asked.op e.request.held_blocks x) (sym nth);
+          is = joint_state_after ∙ cond-true ((port.0 == e.request.port.0) && (k == e.request.asked.first.0 + i)) (block_written e.request.asked.op e.request.blocks_at_acceptance i) (m.disk_bytes port k) t ∙ ap (λ (x : ℕ). block_written e.request.asked.op e.request.blocks_at_acceptance x) (sym nth);
         }))
     by_place w joint_state_after false t = inl (record {
-      same = joint_state_after ∙ cond-false ((port.0 == e.request.port.0) && (k == e.request.asked.first.0 + i)) (block_written e.request.asked.op e.request.held_blocks i) (m.disks port k) t;
+      same = joint_state_after ∙ cond-false ((port.0 == e.request.port.0) && (k == e.request.asked.first.0 + i)) (block_written e.request.asked.op e.request.blocks_at_acceptance i) (m.disk_bytes port k) t;
       quiet = λ x _ here touch.
           let port_same : port ≡ e.request.port = sym here ∙ ap (λ (j : Accepted). j.port) (sym touch.0) in
           let k_same : k ≡ e.request.asked.first.0 + i = sym touch.1 ∙ ap (λ (j : Accepted). sector_of j i) (sym touch.0) in
@@ -104,9 +104,9 @@ effect_touch m e i block port k r lt = by_op (changes_sectors e.request.asked.op
     })
 
     by_op : (b : Bool) → changes_sectors e.request.asked.op ≡ b → Effect m (Touch e i block) port k
-    by_op true w = by_place w (ap (λ (d : Port → DiskBytes). d port k) (cond-true (changes_sectors e.request.asked.op) (put_sector e.request.port (e.request.asked.first.0 + i) (block_written e.request.asked.op e.request.held_blocks i) m.disks) m.disks w)) _ refl
+    by_op true w = by_place w (ap (λ (d : Port → DiskBytes). d port k) (cond-true (changes_sectors e.request.asked.op) (put_sector e.request.port (e.request.asked.first.0 + i) (block_written e.request.asked.op e.request.blocks_at_acceptance i) m.disk_bytes) m.disk_bytes w)) _ refl
     by_op false w = inl (record {
-      same = ap (λ (d : Port → DiskBytes). d port k) (cond-false (changes_sectors e.request.asked.op) (put_sector e.request.port (e.request.asked.first.0 + i) (block_written e.request.asked.op e.request.held_blocks i) m.disks) m.disks w);
+      same = ap (λ (d : Port → DiskBytes). d port k) (cond-false (changes_sectors e.request.asked.op) (put_sector e.request.port (e.request.asked.first.0 + i) (block_written e.request.asked.op e.request.blocks_at_acceptance i) m.disk_bytes) m.disk_bytes w);
       quiet = λ x writes _ touch. both_ways _ w (subst (λ (j : Accepted). changes_sectors j.asked.op ≡ true) (sym touch.0) writes);
     })
 
@@ -118,9 +118,9 @@ effect_replace m p id size disk port k gone = ⊎_elim
       disk = disk;
       absent = ap m.present (ap (λ (n : ℕ). record { 0 = n }) e) ∙ gone;
       step_is = (sym (ap (λ (n : ℕ). record { 0 = n }) e), refl, refl, refl);
-      is = cond-true (port.0 == p.0) disk (m.disks port) (eq-eqb port.0 p.0 e);
+      is = cond-true (port.0 == p.0) disk (m.disk_bytes port) (eq-eqb port.0 p.0 e);
     })))
-    (λ (ne : port.0 ≡ p.0 → ⊥). inl (record { same = ap (λ (d : DiskBytes). d k) (cond-false (port.0 == p.0) disk (m.disks port) (ne_eqb port.0 p.0 ne)); quiet = λ w _ _ t. t }))
+    (λ (ne : port.0 ≡ p.0 → ⊥). inl (record { same = ap (λ (d : DiskBytes). d k) (cond-false (port.0 == p.0) disk (m.disk_bytes port) (ne_eqb port.0 p.0 ne)); quiet = λ w _ _ t. t }))
     (cases_eq port.0 p.0)
 
 effect : (m : Machine) (step : Step) (port : Port) (k : ℕ) → IsEnabled m step → Effect m step port k
@@ -154,17 +154,17 @@ stays_in m Release port may out here = here
 stays_in m (Store client frame offset bytes) port may out here = here
 stays_in m (Load client frame offset bytes) port may out here = here
 
-since_more : (w : Accepted) (k : ℕ) (step : Step) (h : List Step) (block : Block) → IsWrittenSince w k h block → IsWrittenSince w k (step ∷ h) block
-since_more w k step h block s = record { writer = s.writer; op_changes_sectors = s.op_changes_sectors; port_is = s.port_is; accepted_later = s.accepted_later; disk = s.disk; touched = inr s.touched; block_is = s.block_is }
+since_more : (w : Accepted) (k : ℕ) (step : Step) (h : List Step) (block : Block) → IsWrittenByOrAfter w k h block → IsWrittenByOrAfter w k (step ∷ h) block
+since_more w k step h block s = record { writer = s.writer; op_changes_sectors = s.op_changes_sectors; port_is = s.port_is; accepted_later = s.accepted_later; disk_number = s.disk_number; touched = inr s.touched; block_is = s.block_is }
 
-since_bytes : (w : Accepted) (k : ℕ) (h : List Step) (a b : Block) → SameBytes a b → IsWrittenSince w k h b → IsWrittenSince w k h a
-since_bytes w k h a b e s = record { writer = s.writer; op_changes_sectors = s.op_changes_sectors; port_is = s.port_is; accepted_later = s.accepted_later; disk = s.disk; touched = s.touched; block_is = λ x lt. e x lt ∙ s.block_is x lt }
+since_bytes : (w : Accepted) (k : ℕ) (h : List Step) (a b : Block) → SameBytes a b → IsWrittenByOrAfter w k h b → IsWrittenByOrAfter w k h a
+since_bytes w k h a b e s = record { writer = s.writer; op_changes_sectors = s.op_changes_sectors; port_is = s.port_is; accepted_later = s.accepted_later; disk_number = s.disk_number; touched = s.touched; block_is = λ x lt. e x lt ∙ s.block_is x lt }
 
-since_same : (w : Accepted) (k : ℕ) (h : List Step) (a b : Block) → a ≡ b → IsWrittenSince w k h b → IsWrittenSince w k h a
+since_same : (w : Accepted) (k : ℕ) (h : List Step) (a b : Block) → a ≡ b → IsWrittenByOrAfter w k h b → IsWrittenByOrAfter w k h a
 since_same w k h a b e s = since_bytes w k h a b (λ x lt. ap (λ (c : Block). c x) e) s
 
 -- a writer's touch after w's is of w or a later request
-since_written : (m : Machine) (step : Step) (h : List Step) (w : Accepted) (k : ℕ) → Seen m w k → changes_sectors w.asked.op ≡ true → (t : IsWritten m step w.port k) → IsWrittenSince w k (step ∷ h) ((after_step m step).disks w.port k)
+since_written : (m : Machine) (step : Step) (h : List Step) (w : Accepted) (k : ℕ) → Seen m w k → changes_sectors w.asked.op ≡ true → (t : IsWritten m step w.port k) → IsWrittenByOrAfter w k (step ∷ h) ((after_step m step).disk_bytes w.port k)
 since_written m step h w k seen writes t = record {
   writer = t.entry.request;
   op_changes_sectors = t.writes;
@@ -173,7 +173,7 @@ since_written m step h w k seen writes t = record {
       (λ (less : t.entry.request.id.0 < w.id.0). absurd (seen.order t.entry (runs_lives m t.entry t.runs) less
       (conflict_at t.entry.request w k t.here (or_left _ _ t.writes) t.from t.to seen.from seen.to)))
       (λ (le : w.id.0 ≤ t.entry.request.id.0). le) (cases_lt t.entry.request.id.0 w.id.0);
-  disk = plug_count t.entry.request.port h;
+  disk_number = plug_count t.entry.request.port h;
   touched = inl (t.touched, refl);
   block_is = λ x lt. ap (λ (c : Block). c x) t.is;
 }
@@ -184,7 +184,7 @@ record Stage (start : Machine) (h : List Step) (w : Accepted) (k : ℕ) : Type 0
   inside : k < (after start h).sizes w.port
   disk : ℕ
   touched : HasTouched w k disk h
-  since : IsWrittenSince w k h ((after start h).disks w.port k)
+  since : IsWrittenByOrAfter w k h ((after start h).disk_bytes w.port k)
 
 -- the disk keeps its size, unless another comes
 sizes_stay : (m : Machine) (step : Step) (port : Port) → IsEnabled m step → plugs_other_disk m port step ≡ false → (after_step m step).sizes port ≡ m.sizes port
@@ -329,12 +329,12 @@ new_entry m step w may s t x hx same =
     let e = accept_of step w t in
     let new : IsEnabled m (Accept w) = subst (λ (y : Step). IsEnabled m y) e may in
     ⊎_elim
-    (λ (i : Contains m.book x). let b = s.below x (inl i) in let q : x.request.id.0 ≡ w.id.0 = ap (λ (j : Accepted). j.id.0) same in let n = new.id in absurd (omega (arith, b, q, n)))
+    (λ (i : Contains m.book x). let b = s.below x (inl i) in let q : x.request.id.0 ≡ w.id.0 = ap (λ (j : Accepted). j.id.0) same in let n = new.id_is_next in absurd (omega (arith, b, q, n)))
     (λ (p : x ≡ newly_accepted w). p)
     (append_in m.book (newly_accepted w) x (subst (λ (y : Step). Contains (after_step m y).book x) e hx))
 
 -- Each sector that an accepted writer touched is at its stage, while no disk was taken out.
-accepted_stage : (start : Machine) (h : List Step) (w : Accepted) → IsInitial start → IsLegal start h → changes_sectors w.asked.op ≡ true → WriteAccepted w h
+accepted_stage : (start : Machine) (h : List Step) (w : Accepted) → IsInitial start → IsLegal start h → changes_sectors w.asked.op ≡ true → WriteAcceptedOnDisk w h
     → (x : Pending) → Contains (after start h).book x → x.request ≡ w → (i : ℕ) → x.touched i ≡ true → Stage start h w (w.asked.first.0 + i)
 accepted_stage start [] w s legal writes a x hx same i t = absurd a
 accepted_stage start (step ∷ past) w s legal writes (inl a) x hx same i t =
@@ -346,7 +346,7 @@ accepted_stage start (step ∷ past) w s legal writes (inr a) x hx same i t = �
     (λ (q : IsTouchAt step x.request i). stage_now start step past w i s legal writes a.0 (subst (λ (j : Accepted). IsTouchAt step j i) same q))
     (came (after start past) step legal.1 (traced start past s legal.0).sound x i hx t)
 
-stored_stage : (start : Machine) (h : List Step) (w : Accepted) → IsInitial start → IsLegal start h → AllWhole h → changes_sectors w.asked.op ≡ true → WriteAnswered w h → (i : ℕ) → i < w.asked.count → Stage start h w (w.asked.first.0 + i)
+stored_stage : (start : Machine) (h : List Step) (w : Accepted) → IsInitial start → IsLegal start h → AllWhole h → changes_sectors w.asked.op ≡ true → WriteOkOnSameDisk w h → (i : ℕ) → i < w.asked.count → Stage start h w (w.asked.first.0 + i)
 stored_stage start [] w s legal whole writes a i lt = absurd a
 stored_stage start (step ∷ past) w s legal whole writes (inl a) i lt =
     let e = ok_entry (after start past) step w legal.1 whole.1 a.0 in
@@ -354,7 +354,7 @@ stored_stage start (step ∷ past) w s legal whole writes (inl a) i lt =
     (accepted_stage start past w s legal.0 writes a.1 e.0 e.1 e.2 i (e.3 i lt))
 stored_stage start (step ∷ past) w s legal whole writes (inr a) i lt = stage_step start step past w (w.asked.first.0 + i) s legal writes a.0 (stored_stage start past w s legal.0 whole.0 writes a.1 i lt)
 
-asked_stage : (start : Machine) (h : List Step) (w flush : Accepted) → IsInitial start → IsLegal start h → AllWhole h → changes_sectors w.asked.op ≡ true → FlushAccepted w flush h → (i : ℕ) → i < w.asked.count → Stage start h w (w.asked.first.0 + i)
+asked_stage : (start : Machine) (h : List Step) (w flush : Accepted) → IsInitial start → IsLegal start h → AllWhole h → changes_sectors w.asked.op ≡ true → FlushAcceptedAfterWrite w flush h → (i : ℕ) → i < w.asked.count → Stage start h w (w.asked.first.0 + i)
 asked_stage start [] w flush s legal whole writes a i lt = absurd a
 asked_stage start (step ∷ past) w flush s legal whole writes (inl a) i lt = stage_step start step past w (w.asked.first.0 + i) s legal writes (accept_out w.port step flush a.0) (stored_stage start past w s legal.0 whole.0 writes a.1 i lt)
 asked_stage start (step ∷ past) w flush s legal whole writes (inr a) i lt = stage_step start step past w (w.asked.first.0 + i) s legal writes a.0 (asked_stage start past w flush s legal.0 whole.0 writes a.1 i lt)
@@ -364,9 +364,9 @@ record Lasts (start : Machine) (h : List Step) (w : Accepted) (k : ℕ) : Type 0
   inside : k < (after start h).sizes w.port
   disk : ℕ
   touched : HasTouched w k disk h
-  since : (block : Block) → HeldSince start w.port k block h → IsWrittenSince w k h block
+  since : (block : Block) → HeldSince start w.port k block h → IsWrittenByOrAfter w k h block
 
-pub held_now : (start : Machine) (port : Port) (k : ℕ) (h : List Step) → HeldSince start port k ((after start h).disks port k) h
+pub held_now : (start : Machine) (port : Port) (k : ℕ) (h : List Step) → HeldSince start port k ((after start h).disk_bytes port k) h
 held_now start port k [] = inl (λ b lt. refl)
 held_now start port k (step ∷ past) = inl (λ b lt. refl)
 
@@ -390,12 +390,12 @@ lasts_step start step past w k s legal writes back other g = record {
   disk = g.disk;
   touched = inr g.touched;
   since = λ block held. ⊎_elim
-      (λ (now : SameBytes block ((after start (step ∷ past)).disks w.port k)). since_bytes w k (step ∷ past) block _ now current)
+      (λ (now : SameBytes block ((after start (step ∷ past)).disk_bytes w.port k)). since_bytes w k (step ∷ past) block _ now current)
       (λ (before : (starts_lasting (after start past) w.port step ≡ false) × HeldSince start w.port k block past). since_more w k step past block (g.since block before.1))
       held;
 }
   where
-    current : IsWrittenSince w k (step ∷ past) ((after start (step ∷ past)).disks w.port k)
+    current : IsWrittenByOrAfter w k (step ∷ past) ((after start (step ∷ past)).disk_bytes w.port k)
     current = ⊎_elim
         (λ (idle : IsIdle (after start past) step w.port k). since_same w k (step ∷ past) _ _ idle.same (since_more w k step past _ (g.since _ (held_now start w.port k past))))
         (λ (x : IsWritten (after start past) step w.port k ⊎ IsReplaced (after start past) step w.port). ⊎_elim
@@ -455,7 +455,7 @@ lasts_end start (End e) past w flush k port op t g = record {
   disk = g.disk;
   touched = g.touched;
   since = λ block held. ⊎_elim
-      (λ (now : SameBytes block ((after start (End e ∷ past)).disks w.port k)). since_bytes w k (End e ∷ past) block _ now g.since)
+      (λ (now : SameBytes block ((after start (End e ∷ past)).disk_bytes w.port k)). since_bytes w k (End e ∷ past) block _ now g.since)
       (λ (before : (starts_lasting (after start past) w.port (End e) ≡ false) × HeldSince start w.port k block past). absurd (both_ways _ before.0
       (and_from _ _ (eq-eqb e.request.port.0 w.port.0 (ap (λ (q : Port). q.0) (ap (λ (j : Accepted). j.port) t ∙ port))) (ap is_flush (ap (λ (j : Accepted). j.asked.op) t ∙ op)))))
       held;
@@ -463,7 +463,7 @@ lasts_end start (End e) past w flush k port op t g = record {
 lasts_end start _ past w flush k port op t g = absurd t
 
 asked_lasts : (start : Machine) (h : List Step) (w flush : Accepted) → IsInitial start → IsLegal start h → AllWhole h → IsVolatile start h → changes_sectors w.asked.op ≡ true → flush.port ≡ w.port → flush.asked.op ≡ Flush
-    → FlushAccepted w flush h → (x : Pending) → Contains (after start h).book x → x.request ≡ flush → x.ended ≡ true → (i : ℕ) → i < w.asked.count → Lasts start h w (w.asked.first.0 + i)
+    → FlushAcceptedAfterWrite w flush h → (x : Pending) → Contains (after start h).book x → x.request ≡ flush → x.ended ≡ true → (i : ℕ) → i < w.asked.count → Lasts start h w (w.asked.first.0 + i)
 asked_lasts start [] w flush s legal whole back writes port op a x hx same t i lt = absurd a
 asked_lasts start (step ∷ past) w flush s legal whole back writes port op (inl a) x hx same t i lt =
     let p = new_entry (after start past) step flush legal.1 (traced start past s legal.0).sound a.0 x hx same in
@@ -481,7 +481,7 @@ ok_other : (m : Machine) (port : Port) (step : Step) (w : Accepted) → AnswersO
 ok_other m port step w ok = let r = answer_ok step w ok in ap (plugs_other_disk m port) r.1
 
 flushed_lasts : (start : Machine) (h : List Step) (w flush : Accepted) → IsInitial start → IsLegal start h → AllWhole h → IsVolatile start h → changes_sectors w.asked.op ≡ true → flush.port ≡ w.port → flush.asked.op ≡ Flush
-    → FlushAnswered start w flush h → (i : ℕ) → i < w.asked.count → Lasts start h w (w.asked.first.0 + i)
+    → FlushOkAfterWrite start w flush h → (i : ℕ) → i < w.asked.count → Lasts start h w (w.asked.first.0 + i)
 flushed_lasts start [] w flush s legal whole back writes port op a i lt = absurd a
 flushed_lasts start (step ∷ past) w flush s legal whole back writes port op (inl a) i lt =
     let e = ok_entry (after start past) step flush legal.1 whole.1 a.0 in
@@ -491,9 +491,9 @@ flushed_lasts start (step ∷ past) w flush s legal whole back writes port op (i
     lasts_step start step past w (w.asked.first.0 + i) s legal writes back.1 a.0 (flushed_lasts start past w flush s legal.0 whole.0 back.0 writes port op a.1 i lt)
 
 -- a disk that comes back has the writes that were flushed
-finds : (start : Machine) (past : List Step) (step : Step) → IsInitial start → IsLegal start (step ∷ past) → AllWhole past → IsVolatile start (step ∷ past) → FindsFlushed start past step
+finds : (start : Machine) (past : List Step) (step : Step) → IsInitial start → IsLegal start (step ∷ past) → AllWhole past → IsVolatile start (step ∷ past) → PlugFindsFlushed start past step
 finds start past (Replace port id size disk) s legal whole back = λ same w flush here f i lt.
-    let lasts = flushed_lasts start past w flush s legal.0 whole back.0 f.op_changes_sectors f.flush_port_is f.flush_is f.answered i lt in
+    let lasts = flushed_lasts start past w flush s legal.0 whole back.0 f.op_changes_sectors f.flush_port_is f.flush_is f.flush_is_ok_after_write i lt in
     let inside : sector_of w i < (after start past).sizes port = subst (λ (p : Port). sector_of w i < (after start past).sizes p) here lasts.inside in
     let large = legal.1.1 same in
     lasts.since (disk (sector_of w i)) (subst (λ (p : Port). HeldSince start p (sector_of w i) (disk (sector_of w i)) past) (sym here) (back.1 same (sector_of w i) (omega (arith, inside, large))))

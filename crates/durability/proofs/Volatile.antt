@@ -14,50 +14,50 @@ use Rattle.durability.proofs.Lasting.{starts_lasting, HeldSince, ComesBack, IsVo
 
 -- what is put aside after a step was so before, or is what the sector held before; and the step doesn't make it lasting
 abbrev Aside : Machine → Step → Port → ℕ → Block → Type 0
-Aside m step port k old = (starts_lasting m port step ≡ false) × ((old ≡ m.disks port k) ⊎ Contains (m.blocks_since_flush port k) old)
+Aside m step port k old = (starts_lasting m port step ≡ false) × ((old ≡ m.disk_bytes port k) ⊎ Contains (m.overwritten_since_flush port k) old)
 
-aside_touch : (m : Machine) (e : Pending) (i : ℕ) (block : Block) (port : Port) (k : ℕ) (old : Block) → Contains ((after_step m (Touch e i block)).blocks_since_flush port k) old → Aside m (Touch e i block) port k old
+aside_touch : (m : Machine) (e : Pending) (i : ℕ) (block : Block) (port : Port) (k : ℕ) (old : Block) → Contains ((after_step m (Touch e i block)).overwritten_since_flush port k) old → Aside m (Touch e i block) port k old
 aside_touch m e i block port k old h = (refl, go (changes_sectors e.request.asked.op && ((port.0 == e.request.port.0) && (k == sector_of e.request i))) h)
   where
-    go : (b : Bool) → Contains (cond b (m.disks port k ∷ m.blocks_since_flush port k) (m.blocks_since_flush port k)) old → (old ≡ m.disks port k) ⊎ Contains (m.blocks_since_flush port k) old
-    go true c = contains_cases (m.disks port k) (m.blocks_since_flush port k) old c
+    go : (b : Bool) → Contains (cond b (m.disk_bytes port k ∷ m.overwritten_since_flush port k) (m.overwritten_since_flush port k)) old → (old ≡ m.disk_bytes port k) ⊎ Contains (m.overwritten_since_flush port k) old
+    go true c = contains_cases (m.disk_bytes port k) (m.overwritten_since_flush port k) old c
     go false c = inr c
 
-aside_end : (m : Machine) (e : Pending) (port : Port) (k : ℕ) (old : Block) → Contains ((after_step m (End e)).blocks_since_flush port k) old → Aside m (End e) port k old
+aside_end : (m : Machine) (e : Pending) (port : Port) (k : ℕ) (old : Block) → Contains ((after_step m (End e)).overwritten_since_flush port k) old → Aside m (End e) port k old
 aside_end m e port k old h = go ((e.request.port.0 == port.0) && is_flush e.request.asked.op) refl h
   where
-    go : (b : Bool) → ((e.request.port.0 == port.0) && is_flush e.request.asked.op) ≡ b → Contains (cond b [] (m.blocks_since_flush port k)) old → Aside m (End e) port k old
+    go : (b : Bool) → ((e.request.port.0 == port.0) && is_flush e.request.asked.op) ≡ b → Contains (cond b [] (m.overwritten_since_flush port k)) old → Aside m (End e) port k old
     go true t c = absurd (contains_none old c)
     go false t c = (t, inr c)
 
-aside_replace : (m : Machine) (p : Port) (id size : ℕ) (disk : DiskBytes) (port : Port) (k : ℕ) (old : Block) → Contains ((after_step m (Replace p id size disk)).blocks_since_flush port k) old → Aside m (Replace p id size disk) port k old
+aside_replace : (m : Machine) (p : Port) (id size : ℕ) (disk : DiskBytes) (port : Port) (k : ℕ) (old : Block) → Contains ((after_step m (Replace p id size disk)).overwritten_since_flush port k) old → Aside m (Replace p id size disk) port k old
 aside_replace m p id size disk port k old h = go (port.0 == p.0) (id == m.disk_ids port) refl refl h
   where
     other : (b : Bool) → (port.0 == p.0) ≡ b → (p.0 == port.0) ≡ b
     other true t = eq-eqb p.0 port.0 (sym (eqb-true port.0 p.0 t))
     other false t = ne_eqb p.0 port.0 (λ e. eqb-false port.0 p.0 t (sym e))
 
-    go : (here same : Bool) → (port.0 == p.0) ≡ here → (id == m.disk_ids port) ≡ same → Contains (cond here (cond same (m.disks port k ∷ m.blocks_since_flush port k) []) (m.blocks_since_flush port k)) old → Aside m (Replace p id size disk) port k old
-    go true true t u c = (ap (λ (b : Bool). b && not (id == m.disk_ids port)) (other true t) ∙ ap not u, contains_cases (m.disks port k) (m.blocks_since_flush port k) old c)
+    go : (here same : Bool) → (port.0 == p.0) ≡ here → (id == m.disk_ids port) ≡ same → Contains (cond here (cond same (m.disk_bytes port k ∷ m.overwritten_since_flush port k) []) (m.overwritten_since_flush port k)) old → Aside m (Replace p id size disk) port k old
+    go true true t u c = (ap (λ (b : Bool). b && not (id == m.disk_ids port)) (other true t) ∙ ap not u, contains_cases (m.disk_bytes port k) (m.overwritten_since_flush port k) old c)
     go true false t u c = absurd (contains_none old c)
     go false same t u c = (ap (λ (b : Bool). b && not (id == m.disk_ids port)) (other false t), inr c)
 
-aside : (m : Machine) (step : Step) (port : Port) (k : ℕ) (old : Block) → Contains ((after_step m step).blocks_since_flush port k) old → Aside m step port k old
+aside : (m : Machine) (step : Step) (port : Port) (k : ℕ) (old : Block) → Contains ((after_step m step).overwritten_since_flush port k) old → Aside m step port k old
 aside m (Touch e i block) port k old h = aside_touch m e i block port k old h
 aside m (End e) port k old h = aside_end m e port k old h
 aside m (Replace p id size disk) port k old h = aside_replace m p id size disk port k old h
 aside m _ port k old h = (refl, inr h)
 
 -- of what is put aside each was held since a flush was last ended
-aside_held : (start : Machine) (h : List Step) → (port : Port) (k : ℕ) (old : Block) → Contains ((after start h).blocks_since_flush port k) old → HeldSince start port k old h
+aside_held : (start : Machine) (h : List Step) → (port : Port) (k : ℕ) (old : Block) → Contains ((after start h).overwritten_since_flush port k) old → HeldSince start port k old h
 aside_held start [] port k old c = inr (old, c, λ b lt. refl)
 aside_held start (step ∷ past) port k old c =
     let a = aside (after start past) step port k old c in
     inr (
       a.0,
       ⊎_elim
-          (λ (p : old ≡ (after start past).disks port k). subst (λ (b : Block). HeldSince start port k b past) (sym p) (held_now start port k past))
-          (λ (i : Contains ((after start past).blocks_since_flush port k) old). aside_held start past port k old i)
+          (λ (p : old ≡ (after start past).disk_bytes port k). subst (λ (b : Block). HeldSince start port k b past) (sym p) (held_now start port k past))
+          (λ (i : Contains ((after start past).overwritten_since_flush port k) old). aside_held start past port k old i)
           a.1,
     )
 
@@ -69,8 +69,8 @@ held_bytes start port k (step ∷ past) one other same (inr (kept, before)) = in
 
 comes_back : (start : Machine) (past : List Step) (step : Step) → StepIsFaithful (after start past) step → ComesBack start past step
 comes_back start past (Replace port id size disk) told = λ same k lt. ⊎_elim
-    (λ now. held_bytes start port k past (disk k) ((after start past).disks port k) now (held_now start port k past))
-    (λ (a : (old : Block) × Contains ((after start past).blocks_since_flush port k) old × SameBytes (disk k) old). held_bytes start port k past (disk k) a.0 a.2 (aside_held start past port k a.0 a.1))
+    (λ now. held_bytes start port k past (disk k) ((after start past).disk_bytes port k) now (held_now start port k past))
+    (λ (a : (old : Block) × Contains ((after start past).overwritten_since_flush port k) old × SameBytes (disk k) old). held_bytes start port k past (disk k) a.0 a.2 (aside_held start past port k a.0 a.1))
     (told same k lt)
 comes_back start past _ told = tt
 

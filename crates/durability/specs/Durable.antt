@@ -24,28 +24,29 @@ plugs_other_disk old port (Replace p id size disk) = p.0 == port.0 && not (id ==
 plugs_other_disk old port _ = false
 
 -- the write or trim was accepted, and no disk of its port was taken out since
-abbrev pub WriteAccepted : Accepted → List Step → Type 0
-WriteAccepted w [] = ⊥
-WriteAccepted w (step ∷ past) = IsAccept step w ⊎ ((takes_out w.port step ≡ false) × WriteAccepted w past)
+abbrev pub WriteAcceptedOnDisk : Accepted → List Step → Type 0
+WriteAcceptedOnDisk w [] = ⊥
+WriteAcceptedOnDisk w (step ∷ past) = IsAccept step w ⊎ ((takes_out w.port step ≡ false) × WriteAcceptedOnDisk w past)
 
 -- and then it was answered Ok
-abbrev pub WriteAnswered : Accepted → List Step → Type 0
-WriteAnswered w [] = ⊥
-WriteAnswered w (step ∷ past) = (AnswersOk step w × WriteAccepted w past)
-    ⊎ ((takes_out w.port step ≡ false) × WriteAnswered w past)
+abbrev pub WriteOkOnSameDisk : Accepted → List Step → Type 0
+WriteOkOnSameDisk w [] = ⊥
+WriteOkOnSameDisk w (step ∷ past) = (AnswersOk step w × WriteAcceptedOnDisk w past)
+    ⊎ ((takes_out w.port step ≡ false) × WriteOkOnSameDisk w past)
 
 -- and then this flush was accepted
-abbrev pub FlushAccepted : Accepted → Accepted → List Step → Type 0
-FlushAccepted w flush [] = ⊥
-FlushAccepted w flush (step ∷ past) =
-    (IsAccept step flush × WriteAnswered w past) ⊎ ((takes_out w.port step ≡ false) × FlushAccepted w flush past)
+abbrev pub FlushAcceptedAfterWrite : Accepted → Accepted → List Step → Type 0
+FlushAcceptedAfterWrite w flush [] = ⊥
+FlushAcceptedAfterWrite w flush (step ∷ past) =
+    (IsAccept step flush × WriteOkOnSameDisk w past)
+    ⊎ ((takes_out w.port step ≡ false) × FlushAcceptedAfterWrite w flush past)
 
 -- and then it was answered Ok, and no other disk was put in since
-abbrev pub FlushAnswered : Machine → Accepted → Accepted → List Step → Type 0
-FlushAnswered start w flush [] = ⊥
-FlushAnswered start w flush (step ∷ past) =
-    (AnswersOk step flush × FlushAccepted w flush past)
-    ⊎ ((plugs_other_disk (after start past) w.port step ≡ false) × FlushAnswered start w flush past)
+abbrev pub FlushOkAfterWrite : Machine → Accepted → Accepted → List Step → Type 0
+FlushOkAfterWrite start w flush [] = ⊥
+FlushOkAfterWrite start w flush (step ∷ past) =
+    (AnswersOk step flush × FlushAcceptedAfterWrite w flush past)
+    ⊎ ((plugs_other_disk (after start past) w.port step ≡ false) × FlushOkAfterWrite start w flush past)
 
 -- the write or trim was answered Ok before the flush of its port was accepted, and the flush was answered Ok, all on
 -- one disk
@@ -53,32 +54,32 @@ pub record IsFlushed (start : Machine) (w flush : Accepted) (history : List Step
   pub op_changes_sectors : changes_sectors w.asked.op ≡ true
   pub flush_is : flush.asked.op ≡ Flush
   pub flush_port_is : flush.port ≡ w.port
-  pub answered : FlushAnswered start w flush history
+  pub flush_is_ok_after_write : FlushOkAfterWrite start w flush history
 
 -- The block is what w, or a write or trim of its port accepted later, put on sector k of the disk that was in,
 -- whichever it was. (The law is on flushed writes and trims. Since such a one was accepted one disk alone was in at its
 -- port, maybe several times.)
-pub record IsWrittenSince (w : Accepted) (k : ℕ) (history : List Step) (block : Block) : Type 0 where
+pub record IsWrittenByOrAfter (w : Accepted) (k : ℕ) (history : List Step) (block : Block) : Type 0 where
   pub writer : Accepted
   pub op_changes_sectors : changes_sectors writer.asked.op ≡ true
   pub port_is : writer.port ≡ w.port
   pub accepted_later : w.id.0 ≤ writer.id.0
-  pub disk : ℕ
-  pub touched : HasTouched writer k disk history
-  pub block_is : SameBytes block (block_written writer.asked.op writer.held_blocks (k - writer.asked.first.0))
+  pub disk_number : ℕ
+  pub touched : HasTouched writer k disk_number history
+  pub block_is : SameBytes block (block_written writer.asked.op writer.blocks_at_acceptance (k - writer.asked.first.0))
 
 -- each sector of the write or trim has, on this disk, what it put there, or what one accepted later did
 abbrev pub HoldsWrite : Accepted → List Step → DiskBytes → Type 0
 HoldsWrite w history disk = (i : ℕ) → i < w.asked.count
-    → IsWrittenSince w (sector_of w i) history (disk (sector_of w i))
+    → IsWrittenByOrAfter w (sector_of w i) history (disk (sector_of w i))
 
 -- a disk that comes back with this step has the writes and trims that were flushed
-abbrev pub FindsFlushed : Machine → List Step → Step → Type 0
-FindsFlushed start past (Replace port id size disk) = id ≡ (after start past).disk_ids port
+abbrev pub PlugFindsFlushed : Machine → List Step → Step → Type 0
+PlugFindsFlushed start past (Replace port id size disk) = id ≡ (after start past).disk_ids port
     → (w flush : Accepted) → w.port ≡ port → IsFlushed start w flush past → HoldsWrite w past disk
-FindsFlushed start past _ = Unit {0}
+PlugFindsFlushed start past _ = Unit {0}
 
 -- so it is with each step of the history
 abbrev pub EveryPlugFindsFlushed : Machine → List Step → Type 0
 EveryPlugFindsFlushed start [] = Unit {0}
-EveryPlugFindsFlushed start (step ∷ past) = EveryPlugFindsFlushed start past × FindsFlushed start past step
+EveryPlugFindsFlushed start (step ∷ past) = EveryPlugFindsFlushed start past × PlugFindsFlushed start past step

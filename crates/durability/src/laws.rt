@@ -2,8 +2,7 @@
 //! the law holds for any device.
 
 ghost use Rattle.std.specs.Prelude.{List};
-ghost use Rattle.block_machine.specs.Expected.{AllStepsFaithful};
-ghost use Rattle.block_machine.specs.Events.{AbstractState, CallRecord, IsRun, steps_of};
+ghost use Rattle.block_machine.specs.{Expected.{AllStepsFaithful}, Events.{AbstractState, CallRecord, IsRun, steps_of}};
 ghost use Rattle.durability.specs.Durable.{EveryPlugFindsFlushed};
 
 /// Over every run of calls on disks that tell what they hold: where a write or trim was answered Ok before a flush of

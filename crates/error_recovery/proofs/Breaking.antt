@@ -7,7 +7,7 @@ use Rattle.ata_types.specs.declared.Port.{Port}
 use Rattle.hba_regs.specs.Bits.{bit}
 use Rattle.hba_regs.specs.declared.reg.PortReg.TheVariants.{Cmd, Ssts}
 use Rattle.hba_regs.specs.declared.reg.Reg.TheVariants.{Px}
-use Rattle.adapter.specs.Access.{Access, Reads, Writes, noted, written}
+use Rattle.adapter.specs.Access.{Access, Reads, Writes, device_after_reading, device_after_write}
 use Rattle.adapter.specs.Access.Access.{Reading, Writing}
 use Rattle.adapter.specs.Device.{Device}
 use Rattle.adapter.specs.FirstRead.{first_read_device}
@@ -16,17 +16,17 @@ use Rattle.adapter.specs.Rules.{HasPort, IsOn, MayWrite, IsStable}
 use Rattle.adapter.specs.Steps.{device_after}
 use Rattle.adapter.specs.Steps.DeviceTransition.{Fatal, Fall}
 use Rattle.refinement.specs.Relation.{port_at}
-use Rattle.refinement.specs.Fragments.{AnyUse, IsRelated, IsPortAccessWriting, IsSimulatedAlong}
+use Rattle.refinement.specs.Fragments.{AnySlotStates, SomeMachineAgrees, ReadsPortOrWrites, IsSimulatedAlong}
 use Rattle.refinement.specs.Driver.{IsSafeCmdWrite, KeepsOtherCmdBits}
-use Rattle.refinement.specs.Links.{DoesNotWrite}
+use Rattle.refinement.specs.PreservedParts.{DoesNotWrite}
 use Rattle.refinement.specs.Slots.{Free, Serves, SlotState, SlotStates, set_slot_state}
-use Rattle.refinement.specs.ReadWitness.{FirstReadWitness, first_id, first_uses}
+use Rattle.refinement.specs.ReadWitness.{FirstReadWitness, first_id, first_slot_states}
 use Rattle.port_control.specs.Engines.{Stops}
 use Rattle.port_control.specs.Ports.{PortStops, IsStopped, IsCommandRegister}
 use Rattle.error_recovery.specs.Evidence.{ShowsFatal}
 use Rattle.error_recovery.specs.Laws.{Laws, AccessPurpose}
 use Rattle.error_recovery.specs.Laws.SlotCondition.{AnyUses}
-use Rattle.error_recovery.specs.Laws.RegisterSet.{Commanding}
+use Rattle.error_recovery.specs.Laws.RegisterSet.{CommandRegister}
 use Rattle.error_recovery.specs.Laws.AccessPurpose.{Controlling}
 use Rattle.error_recovery.specs.Witness.{StopWitness}
 use Rattle.error_recovery.proofs.GivingUp.{gives_up_stopped}
@@ -38,37 +38,37 @@ abbrev broken : Device
 broken = device_after (Fatal 0 27) first_read_device
 
 abbrev seen : Device
-seen = noted (Px (port_at 0) Ssts) 3 broken
+seen = device_after_reading (Px (port_at 0) Ssts) 3 broken
 
 abbrev commanded : Device
-commanded = noted (Px (port_at 0) Cmd) 0xc011 seen
+commanded = device_after_reading (Px (port_at 0) Cmd) 0xc011 seen
 
 abbrev stopping : Device
-stopping = written (Px (port_at 0) Cmd) 0xc010 commanded
+stopping = device_after_write (Px (port_at 0) Cmd) 0xc010 commanded
 
 abbrev fallen : Device
 fallen = device_after (Fall 0) stopping
 
 abbrev stopped : Device
-stopped = noted (Px (port_at 0) Cmd) 0x4010 fallen
+stopped = device_after_reading (Px (port_at 0) Cmd) 0x4010 fallen
 
 sees : Reads (Px (port_at 0) Ssts) 3 first_read_device seen
 unfolding changed
-sees = record { mid = broken; steps = record { steps = Fatal 0 27 ∷ []; lead = ((refl, inl refl), refl) }; shows = refl; effect = refl }
+sees = record { at_access = broken; steps = record { steps = Fatal 0 27 ∷ []; lead = ((refl, inl refl), refl) }; shows = refl; effect = refl }
 
 finds : Reads (Px (port_at 0) Cmd) 0xc011 seen commanded
 unfolding changed
-finds = record { mid = seen; steps = record { steps = []; lead = refl }; shows = (refl, refl, refl, refl); effect = refl }
+finds = record { at_access = seen; steps = record { steps = []; lead = refl }; shows = (refl, refl, refl, refl); effect = refl }
 
 stops : Writes (Px (port_at 0) Cmd) 0xc010 commanded stopping
-stops = record { mid = commanded; steps = record { steps = []; lead = refl }; effect = refl }
+stops = record { at_access = commanded; steps = record { steps = []; lead = refl }; effect = refl }
 
 falls : Reads (Px (port_at 0) Cmd) 0x4010 stopping stopped
 unfolding changed
-falls = record { mid = fallen; steps = record { steps = Fall 0 ∷ []; lead = ((refl, refl), refl) }; shows = (refl, refl, refl, refl); effect = refl }
+falls = record { at_access = fallen; steps = record { steps = Fall 0 ∷ []; lead = ((refl, refl), refl) }; shows = (refl, refl, refl, refl); effect = refl }
 
 is_on : IsOn commanded
-is_on = record { ae = refl; no_reset = refl }
+is_on = record { ae_is_set = refl; no_reset = refl }
 
 -- ---- what is written
 
@@ -90,7 +90,7 @@ noted_so = (refl, refl)
 
 stands : IsStopped (stopped.port 0)
 unfolding changed
-stands = record { halted = record { st = refl; cr = refl; ci = λ slot. refl; taken = λ slot. refl }; sact = λ slot. refl }
+stands = record { engine_is_stopped = record { st_is_clear = refl; cr_is_clear = refl; no_command_is_issued = λ slot. refl; no_command_is_taken = λ slot. refl }; sact_is_clear = λ slot. refl }
 
 errs : ShowsFatal (seen.port 0)
 unfolding changed
@@ -112,10 +112,10 @@ module _ (laws : Laws)
     may_stop = permits (port_at 0) 0xc011 0xc010 commanded is_on (omega arith, refl) noted_so.0 (subst (λ (fre : Bool). KeepsOtherCmdBits false fre 0xc011 0xc010) (sym noted_so.1) written_back)
 
     abbrev Commands : List Access → Device → Device → Type 0
-    Commands accesses old new = IsSimulatedAlong (λ made. made ≡ accesses) (IsPortAccessWriting IsCommandRegister (port_at 0)) AnyUse old new
+    Commands accesses old new = IsSimulatedAlong (λ made. made ≡ accesses) (ReadsPortOrWrites IsCommandRegister (port_at 0)) AnySlotStates old new
 
     abbrev kind : AccessPurpose
-    kind = Controlling Commanding AnyUses (port_at 0)
+    kind = Controlling CommandRegister AnyUses (port_at 0)
 
     found : Commands (Reading (Px (port_at 0) Cmd) 0xc011 ∷ []) seen commanded
     found = laws.fragments.reads kind (Px (port_at 0) Cmd) 0xc011 seen commanded refl finds
@@ -134,9 +134,9 @@ module _ (laws : Laws)
     tells_stop : (early late : List Access) → early ≡ stop_list → late ≡ Reading (Px (port_at 0) Cmd) 0x4010 ∷ [] → Stops (port_at 0) (early ++ late)
     tells_stop early late a b = record {
       before = Reading (Px (port_at 0) Cmd) 0xc011 ∷ [];
-      cleared = 0xc010;
+      written_cmd = 0xc010;
       between = [];
-      fallen = 0x4010;
+      read_cmd = 0x4010;
       later = [];
       accesses_are = ap (λ (xs : List Access). xs ++ late) a ∙ ap (λ (xs : List Access). stop_list ++ xs) b;
       start_is_cleared = refl;
@@ -151,21 +151,21 @@ module _ (laws : Laws)
       stopped = stands;
     }
 
-    agreed : IsRelated first_uses first_read_device → IsRelated first_uses seen
-    agreed a = laws.fragments.agreed kind (λ uses. uses) first_uses first_read_device seen tt (laws.fragments.reads kind (Px (port_at 0) Ssts) 3 first_read_device seen refl sees).followed a
+    agreed : SomeMachineAgrees first_slot_states first_read_device → SomeMachineAgrees first_slot_states seen
+    agreed a = laws.fragments.some_machine_agrees kind (λ uses. uses) first_slot_states first_read_device seen tt (laws.fragments.reads kind (Px (port_at 0) Ssts) 3 first_read_device seen refl sees).is_simulated a
 
     pub may_be_given_up : ((uses : SlotStates) (port slot : ℕ) (u : SlotState) → set_slot_state uses port slot u port slot ≡ u) → FirstReadWitness → StopWitness
     may_be_given_up here k = record {
       device = seen;
-      adapter_is_on = record { ae = refl; no_reset = refl };
+      adapter_is_on = record { ae_is_set = refl; no_reset = refl };
       has_port = (omega arith, refl);
-      machine_is_related = (first_uses, tt, agreed (record { machine = k.machine; parked = λ port. []; reached = k.reached; driver_relation = k.driver_relation }));
-      fatal = errs;
+      machine_is_related = (first_slot_states, tt, agreed (record { machine = k.machine; parked = λ port. []; reached = k.reached; driver_relation = k.driver_relation }));
+      shows_fatal_error = errs;
       broken = is_broken;
       serves = (first_id, here (λ port at. Free) 0 0 (Serves first_id));
       outstanding = 1;
       is_outstanding = refl;
       stopped = stopped;
       token = record { port = port_at 0 };
-      gives_up = λ queued. gives_up_stopped laws (port_at 0) 1 queued seen stopped (record { ae = refl; no_reset = refl }) (record { port = port_at 0 }) refl halts;
+      stops_for_reset = λ queued. gives_up_stopped laws (port_at 0) 1 queued seen stopped (record { ae_is_set = refl; no_reset = refl }) (record { port = port_at 0 }) refl halts;
     }

@@ -12,13 +12,13 @@ use Rattle.adapter.specs.Access.Access.{Reading, Writing, Loading, Storing}
 use Rattle.adapter.specs.Device.{Device, DevicePort}
 use Rattle.adapter.specs.Rules.{IsOn}
 use Rattle.refinement.specs.Fragments.{TapeGrows, SparesOtherPorts}
-use Rattle.refinement.specs.Errors.{ChangesByDisks, NoneFails, NoneFatal}
-use Rattle.refinement.specs.Links.{NoPlugEvents, DoesNotWrite}
+use Rattle.refinement.specs.Errors.{LinkErrorsRiseByDisks, NoFaults, NoFatalErrors}
+use Rattle.refinement.specs.PreservedParts.{NoPlugEvents, DoesNotWrite}
 use Rattle.refinement.specs.HaltRecovery.{IsLinked, RunsLinked}
 use Rattle.refinement.specs.StartedPort.{ClearsNoStart}
 use Rattle.disk_page.specs.PageRequests.{IsPageAccess}
 use Rattle.error_recovery.specs.Laws.{Laws}
-use Rattle.error_recovery.specs.Laws.RegisterSet.{Recovered}
+use Rattle.error_recovery.specs.Laws.RegisterSet.{RecoveryRegisters}
 use Rattle.error_recovery.specs.Recovery.{IsRecoveryRegister, IsRecoveryAccess}
 
 -- ---- which registers are spared
@@ -68,7 +68,7 @@ pub record Goes (port : Port) (old new : Device) : Type 0 where
   pub written : (new.port port.0).notes.sctl_written_at ≡ (old.port port.0).notes.sctl_written_at
   pub enabled : (new.port port.0).ie ≡ (old.port port.0).ie
   pub undue : (old.port port.0).link_due ≡ false → (new.port port.0).link_due ≡ false
-  pub changes : (old.port port.0).link_due ≡ false → ChangesByDisks port.0 old new
+  pub changes : (old.port port.0).link_due ≡ false → LinkErrorsRiseByDisks port.0 old new
   pub linked : NoPlugEvents port.0 old new → IsLinked (old.port port.0) → IsLinked (new.port port.0)
 
 abbrev ShowsNoFatal : DevicePort → Type 0
@@ -77,23 +77,23 @@ ShowsNoFatal p = (place : ℕ) → 27 ≤ place → place ≤ 29 → p.is place 
 -- Trouble is shown, and no other is; and where none comes that stops it, the port runs on.
 pub record Asks (port : Port) (old new : Device) : Type 0 where
   pub grows : TapeGrows old new
-  pub raises : NoneFatal port.0 old new → ShowsNoFatal (old.port port.0) → ShowsNoFatal (new.port port.0)
-  pub fault : (new.port port.0).is 30 ≡ false → ((old.port port.0).is 30 ≡ false) × NoneFails port.0 old new
-  pub fatal : ShowsNoFatal (new.port port.0) → ShowsNoFatal (old.port port.0) × NoneFatal port.0 old new
+  pub raises : NoFatalErrors port.0 old new → ShowsNoFatal (old.port port.0) → ShowsNoFatal (new.port port.0)
+  pub fault : (new.port port.0).is 30 ≡ false → ((old.port port.0).is 30 ≡ false) × NoFaults port.0 old new
+  pub fatal : ShowsNoFatal (new.port port.0) → ShowsNoFatal (old.port port.0) × NoFatalErrors port.0 old new
   pub disk : (new.port port.0).serr_n ≡ false → ((old.port port.0).serr_n ≡ false) × NoPlugEvents port.0 old new
-  pub runs : NoPlugEvents port.0 old new → NoneFatal port.0 old new → RunsLinked (old.port port.0) → RunsLinked (new.port port.0)
+  pub runs : NoPlugEvents port.0 old new → NoFatalErrors port.0 old new → RunsLinked (old.port port.0) → RunsLinked (new.port port.0)
 
 module _ (laws : Laws) where
   recovering_spares : (port : Port) (r : PortReg) → (IsRecoveryRegister r → ⊥) → r ≢ Ci → (access : Access) → IsRecoveryAccess port access → DoesNotWrite (Px port r) access
-  recovering_spares port r not_written other access (inl is) = laws.control_spares Recovered port r not_written access is
+  recovering_spares port r not_written other access (inl is) = laws.control_spares_other_registers RecoveryRegisters port r not_written access is
   recovering_spares port r not_written other access (inr is) = asking_spares port r other access is
 
   pub recovering_is_of : (port : Port) (access : Access) → IsRecoveryAccess port access → SparesOtherPorts port access
-  recovering_is_of port access (inl is) = laws.control_of Recovered port access is
-  recovering_is_of port access (inr is) = laws.asking_is_of port access is
+  recovering_is_of port access (inl is) = laws.control_spares_other_ports RecoveryRegisters port access is
+  recovering_is_of port access (inr is) = laws.asking_spares_other_ports port access is
 
   pub recovering_spares_host : (port : Port) (access : Access) → IsRecoveryAccess port access → DoesNotWrite Ghc access
-  recovering_spares_host port access is = laws.of_spares_ghc port access (recovering_is_of port access is)
+  recovering_spares_host port access is = laws.accesses_of_port_spare_ghc port access (recovering_is_of port access is)
 
   pub spares_link : (port : Port) (access : Access) → IsRecoveryAccess port access → DoesNotWrite (Px port Sctl) access
   spares_link port = recovering_spares port Sctl not_link (λ e. absurd (let k : Sctl ≡ Ci = e in cc))
@@ -106,35 +106,35 @@ module _ (laws : Laws) where
 
   -- an adapter that is on stays on
   on_after : (port : Port) (access : Access) (old new : Device) → IsOn old → SparesOtherPorts port access → Does access old new → IsOn new
-  on_after port access old new on is does = laws.access_on access old new on (λ v e. absurd (subst (DoesNotWrite Ghc) e (laws.of_spares_ghc port access is) refl)) does
+  on_after port access old new on is does = laws.access_keeps_on access old new on (λ v e. absurd (subst (DoesNotWrite Ghc) e (laws.accesses_of_port_spare_ghc port access is) refl)) does
 
   pub plugs_in_parts : (port : ℕ) (old mid new : Device) → TapeGrows old mid → TapeGrows mid new → NoPlugEvents port old new → NoPlugEvents port old mid × NoPlugEvents port mid new
-  plugs_in_parts port old mid new early late none = laws.tape.plugs_parts port old mid new early.0 late.0 early.1 late.1 none
+  plugs_in_parts port old mid new early late none = laws.tape.no_plug_events_in_parts port old mid new early.0 late.0 early.1 late.1 none
 
-  pub fatal_in_parts : (port : ℕ) (old mid new : Device) → TapeGrows old mid → TapeGrows mid new → NoneFatal port old new → NoneFatal port old mid × NoneFatal port mid new
-  fatal_in_parts port old mid new early late none = laws.tape.fatal_parts port old mid new early.0 late.0 early.1 late.1 none
+  pub fatal_in_parts : (port : ℕ) (old mid new : Device) → TapeGrows old mid → TapeGrows mid new → NoFatalErrors port old new → NoFatalErrors port old mid × NoFatalErrors port mid new
+  fatal_in_parts port old mid new early late none = laws.tape.no_fatal_errors_in_parts port old mid new early.0 late.0 early.1 late.1 none
 
   goes_none : (port : Port) (d : Device) → IsOn d → Goes port d d
   goes_none port d on = record {
     on = on;
-    grows = laws.tape.grows_none d;
+    grows = laws.tape.growth_is_reflexive d;
     det = refl;
     written = refl;
     enabled = refl;
     undue = λ h. h;
-    changes = λ h. laws.tape.change_none port.0 d;
+    changes = λ h. laws.tape.link_errors_reflexive port.0 d;
     linked = λ none h. h;
   }
 
   pub goes_more : (port : Port) (a b c : Device) → Goes port a b → Goes port b c → Goes port a c
   goes_more port a b c x y = record {
     on = y.on;
-    grows = laws.tape.grows_more a b c x.grows y.grows;
+    grows = laws.tape.growth_is_transitive a b c x.grows y.grows;
     det = y.det ∙ x.det;
     written = y.written ∙ x.written;
     enabled = y.enabled ∙ x.enabled;
     undue = λ h. y.undue (x.undue h);
-    changes = λ h. laws.tape.change_more port.0 a b c x.grows y.grows (x.changes h) (y.changes (x.undue h));
+    changes = λ h. laws.tape.link_errors_transitive port.0 a b c x.grows y.grows (x.changes h) (y.changes (x.undue h));
     linked = λ none h. let n = plugs_in_parts port.0 a b c x.grows y.grows none in y.linked n.1 (x.linked n.0 h);
   }
 
@@ -148,10 +148,10 @@ module _ (laws : Laws) where
         grows = laws.tape.access_grows access old new does;
         det = (c.control link).0;
         written = (c.control link).1;
-        enabled = c.interrupts enabled;
-        undue = λ h. laws.tape.access_undue port access old new on.no_reset h link does;
-        changes = λ h. laws.tape.access_change port access old new on.no_reset h does;
-        linked = λ none h. laws.access_linked port access old new on.no_reset link none does h;
+        enabled = c.interrupt_enable enabled;
+        undue = λ h. laws.tape.access_makes_no_link_due port access old new on.no_reset h link does;
+        changes = λ h. laws.tape.access_raises_by_disks port access old new on.no_reset h does;
+        linked = λ none h. laws.access_keeps_linked port access old new on.no_reset link none does h;
       }
 
   pub goes_over : (port : Port) (accesses : List Access) (old new : Device) → IsOn old → All (IsRecoveryAccess port) accesses → DoesAll accesses old new → Goes port old new
@@ -164,21 +164,21 @@ module _ (laws : Laws) where
 
   asks_none : (port : Port) (d : Device) → Asks port d d
   asks_none port d = record {
-    grows = laws.tape.grows_none d;
+    grows = laws.tape.growth_is_reflexive d;
     raises = λ none h. h;
-    fault = λ h. (h, laws.tape.fails_none port.0 d);
-    fatal = λ h. (h, laws.tape.fatal_none port.0 d);
-    disk = λ h. (h, laws.tape.plugs_none port.0 d);
+    fault = λ h. (h, laws.tape.no_faults_reflexive port.0 d);
+    fatal = λ h. (h, laws.tape.no_fatal_errors_reflexive port.0 d);
+    disk = λ h. (h, laws.tape.no_plug_events_reflexive port.0 d);
     runs = λ none calm h. h;
   }
 
   asks_more : (port : Port) (a b c : Device) → Asks port a b → Asks port b c → Asks port a c
   asks_more port a b c x y = record {
-    grows = laws.tape.grows_more a b c x.grows y.grows;
+    grows = laws.tape.growth_is_transitive a b c x.grows y.grows;
     raises = λ none h. let n = fatal_in_parts port.0 a b c x.grows y.grows none in y.raises n.1 (x.raises n.0 h);
-    fault = λ h. let late = y.fault h in let early = x.fault late.0 in (early.0, laws.tape.fails_more port.0 a b c early.1 late.1);
-    fatal = λ h. let late = y.fatal h in let early = x.fatal late.0 in (early.0, laws.tape.fatal_more port.0 a b c early.1 late.1);
-    disk = λ h. let late = y.disk h in let early = x.disk late.0 in (early.0, laws.tape.plugs_more port.0 a b c early.1 late.1);
+    fault = λ h. let late = y.fault h in let early = x.fault late.0 in (early.0, laws.tape.no_faults_transitive port.0 a b c early.1 late.1);
+    fatal = λ h. let late = y.fatal h in let early = x.fatal late.0 in (early.0, laws.tape.no_fatal_errors_transitive port.0 a b c early.1 late.1);
+    disk = λ h. let late = y.disk h in let early = x.disk late.0 in (early.0, laws.tape.no_plug_events_transitive port.0 a b c early.1 late.1);
     runs = λ none calm h.
         let n = plugs_in_parts port.0 a b c x.grows y.grows none in
         let m = fatal_in_parts port.0 a b c x.grows y.grows calm in
@@ -194,10 +194,10 @@ module _ (laws : Laws) where
       let starts : ClearsNoStart port access = λ v e. absurd (subst (DoesNotWrite (Px port Cmd)) e command refl) in
       record {
         grows = laws.tape.access_grows access old new does;
-        raises = λ none h place from to. (laws.access_raises port access old new does).fatal none place from to (h place from to);
-        fault = λ h. laws.access_shows_fault port access old new on.no_reset causes does h;
-        fatal = λ h. laws.access_shows_fatal port access old new on.no_reset causes does h;
-        disk = λ h. laws.access_shows_disk port access old new on.no_reset errors does h;
+        raises = λ none h place from to. (laws.access_changes_by_errors port access old new does).fatal none place from to (h place from to);
+        fault = λ h. laws.access_hides_no_fault port access old new on.no_reset causes does h;
+        fatal = λ h. laws.access_hides_no_fatal port access old new on.no_reset causes does h;
+        disk = λ h. laws.access_hides_no_plug_event port access old new on.no_reset errors does h;
         runs = λ none calm h. laws.access_runs_linked port access old new on.no_reset starts link none calm does h;
       }
 
@@ -205,5 +205,5 @@ module _ (laws : Laws) where
   asks_over port [] old new on all is = subst (Asks port old) (sym is) (asks_none port old)
   asks_over port (access ∷ accesses) old new on all (mid, does, rest) =
       let kind = All-head (IsPageAccess port) access accesses all in
-      let later = on_after port access old mid on (laws.asking_is_of port access kind) does in
+      let later = on_after port access old mid on (laws.asking_spares_other_ports port access kind) does in
       asks_more port old mid new (access_asks port access old mid on kind does) (asks_over port accesses mid new later (All-tail (IsPageAccess port) access accesses all) rest)

@@ -14,14 +14,14 @@ use Rattle.adapter.specs.declared.tape.Entry.{Entry}
 use Rattle.adapter.specs.declared.tape.Entry.TheVariants as entry
 use Rattle.adapter.specs.declared.tape.Fault as tape_fault
 use Rattle.refinement.specs.Fragments.{TapeGrows, GainsNoMove}
-use Rattle.refinement.specs.Links.{DoesNotWrite}
+use Rattle.refinement.specs.PreservedParts.{DoesNotWrite}
 use Rattle.refinement.specs.Slots.{IsMove}
 use Rattle.disk_page.specs.PageRequests.{BringsLastPage}
 use Rattle.error_recovery.specs.Evidence.{BringsLog, HasFailed}
 use Rattle.error_recovery.specs.Laws.{Laws}
 use Rattle.error_recovery.specs.Laws.SlotCondition.{AnyUses}
 use Rattle.error_recovery.specs.Laws.AccessPurpose.{Recovering}
-use Rattle.error_recovery.specs.RecoveryParts.{IsClearedForRecovery}
+use Rattle.error_recovery.specs.RecoveryParts.{IsStoppedAndCleared}
 use Rattle.error_recovery.proofs.Lists.{behind, stands}
 
 -- A fault that is told of the port, in its slot, with status and error as PxTFD showed them.
@@ -51,20 +51,20 @@ brings_log port old start asked new page early whole b (gained, later, none) =
       later = w.later ++ gained;
       entries_are = ap (λ (es : List Entry). es ++ gained) split.1 ∙ append_assoc split.0 (entry.Move w.move ∷ w.later) gained;
       is_move = w.is_move;
-      no_later_page = All-append (λ e. IsMove port.0 ReadLog e → ⊥) w.later gained w.last none;
+      no_later_page = All-append (λ e. IsMove port.0 ReadLog e → ⊥) w.later gained w.no_later_move none;
       bytes_are = b.page_bytes_are;
     }
 
-module _ (laws : Laws) (port : Port) (outstanding : ℕ) (queued : Bool) (before after : ℕ) (old d : Device) (r : IsClearedForRecovery port outstanding queued before after old d) where
+module _ (laws : Laws) (port : Port) (outstanding : ℕ) (queued : Bool) (before after : ℕ) (old d : Device) (r : IsStoppedAndCleared port outstanding queued before after old d) where
   told_by : (rest : List Access) (new : Device) → DoesAll (Reading (Px port Tfd) before ∷ rest) old new → IsTold port queued before (Reading (Px port Tfd) before ∷ rest) old new
   told_by rest new (at, read, more) =
       let off = r.adapter_is_on.no_reset in
-      let s = laws.fault_shown port before old at off r.may_recover.st (λ _. r.may_recover.faults_are_on_record) r.may_recover.halted read in
+      let s = laws.fault_shown port before old at off r.may_recover.st_is_set (λ _. r.may_recover.faults_are_on_record) r.may_recover.halted read in
       let set = ((laws.access_controls port (Reading (Px port Tfd) before) old at off read).command tt).2 in
       let F : ℕ → Type 0 = λ n. Contains (drop n at.tape) (entry.Fault s.0.fault) in
       let E : List Entry → Type 0 = λ es. Contains es (entry.Fault s.0.fault) in
-      let followed = (laws.fragments.reads (Recovering AnyUses port) (Px port Tfd) before old at (inl refl) read).followed in
-      let a = laws.fragments.agreed (Recovering AnyUses port) (λ uses. uses) r.machine_is_related.0 old at tt followed r.machine_is_related.2 in
+      let followed = (laws.fragments.reads (Recovering AnyUses port) (Px port Tfd) before old at (inl refl) read).is_simulated in
+      let a = laws.fragments.some_machine_agrees (Recovering AnyUses port) (λ uses. uses) r.machine_is_related.0 old at tt followed r.machine_is_related.2 in
       record {
         fault = s.0.fault;
         has_failed = record {
@@ -82,7 +82,7 @@ module _ (laws : Laws) (port : Port) (outstanding : ℕ) (queued : Bool) (before
         };
         status_is = sym s.1;
         error_is = sym s.2;
-        fault_slot_is = λ plain. laws.fault_sole r.machine_is_related.0 a.machine at port.0 0 _ a.driver_relation.state_relation s.0 (λ other differs. r.machine_is_related.1 plain other differs);
+        fault_slot_is = λ plain. laws.fault_is_of_sole_slot r.machine_is_related.0 a.machine at port.0 0 _ a.driver_relation.state_relation s.0 (λ other differs. r.machine_is_related.1 plain other differs);
       }
 
   -- so it is told of each list of accesses that begins with the reading

@@ -10,15 +10,15 @@ use Rattle.adapter.specs.Device.Halt.{LogOnly, NotHalted}
 use Rattle.adapter.specs.Steps.{halt_after_start}
 use Rattle.adapter.specs.declared.tape.Entry.{Entry}
 use Rattle.refinement.specs.Fragments.{TapeGrows, HasNoCommand}
-use Rattle.refinement.specs.Errors.{IsFatalOf, NoneFatal}
+use Rattle.refinement.specs.Errors.{IsFatalErrorOf, NoFatalErrors}
 use Rattle.refinement.specs.PortFacts.{RecordsFaults, IsFaultOf, IsFaulted}
-use Rattle.refinement.specs.Links.{IsPlugEvent}
+use Rattle.refinement.specs.PreservedParts.{IsPlugEvent}
 use Rattle.refinement.specs.Slots.{IsOver}
-use Rattle.disk_page.specs.PageRequests.{LeavesRunning}
-use Rattle.port_control.specs.Ports.{IsRunning}
+use Rattle.disk_page.specs.PageRequests.{LeavesPortWhileAsking}
+use Rattle.port_control.specs.Ports.{RunsWithoutCommands}
 use Rattle.error_recovery.specs.Evidence.{GainsSinceStart, ShowsFatal, HidesNoTrouble}
 use Rattle.error_recovery.specs.Laws.{Laws}
-use Rattle.error_recovery.specs.RecoveryParts.{StartsAgain, IsClearedForRecovery}
+use Rattle.error_recovery.specs.RecoveryParts.{StartsAgain, IsStoppedAndCleared}
 use Rattle.error_recovery.specs.Recovery.{RunsAgain}
 use Rattle.error_recovery.proofs.Going.{Asks, Goes, plugs_in_parts}
 use Rattle.error_recovery.proofs.Lists.{behind, stands}
@@ -28,7 +28,7 @@ use Rattle.error_recovery.proofs.Quieting.{commands_plain}
 gained_since : (Is : Entry → Type 0) (port : ℕ) (old start new : Device) → (new.port port).notes.st_set_at ≡ length start.tape → (gained : List Entry) → new.tape ≡ start.tape ++ gained →
     All (λ e. Is e → ⊥) gained → GainsSinceStart Is port old new → ⊥
 gained_since Is port old start new set gained is none g =
-    let at : start.tape ++ gained ≡ (old.tape ++ g.before) ++ (g.entry ∷ g.later) = sym is ∙ (g.tape ∙ sym (append_assoc old.tape g.before (g.entry ∷ g.later))) in
+    let at : start.tape ++ gained ≡ (old.tape ++ g.before) ++ (g.entry ∷ g.later) = sym is ∙ (g.tape_grows ∙ sym (append_assoc old.tape g.before (g.entry ∷ g.later))) in
     let long = length-append old.tape g.before in
     let since = g.came_since_start in
     let split = behind start.tape gained (old.tape ++ g.before) g.entry g.later at (omega (arith, set, long, since)) in
@@ -47,7 +47,7 @@ none_since Is port old start new grows set none before (e ∷ later) tape =
       before = grows.0 ++ before;
       entry = e;
       later = later;
-      tape = tape ∙ ap (λ (es : List Entry). es ++ (before ++ e ∷ later)) grows.1 ∙ append_assoc old.tape grows.0 (before ++ e ∷ later)
+      tape_grows = tape ∙ ap (λ (es : List Entry). es ++ (before ++ e ∷ later)) grows.1 ∙ append_assoc old.tape grows.0 (before ++ e ∷ later)
           ∙ ap (λ (es : List Entry). old.tape ++ es) (sym (append_assoc grows.0 before (e ∷ later)));
       is_of_kind = is;
       came_since_start = omega (arith, set, long, more);
@@ -78,12 +78,12 @@ fatal_unless_clear p not = by (p.is 27) (p.is 28) (p.is 29) refl refl refl
 shows_trouble : (port : Port) (old start new : Device) → (new.port port.0).notes.st_set_at ≡ length start.tape → Asks port start new → HidesNoTrouble port.0 old new
 shows_trouble port old start new set a = record {
   fault_is_shown = λ g. set_unless_clear ((new.port port.0).is 30) (λ clear. let n = (a.fault clear).1 in gained_since (IsFaultOf port.0) port.0 old start new set n.new_entries n.tape_is n.no_such_entry g);
-  fatal_is_shown = λ g. fatal_unless_clear (new.port port.0) (λ clear. let n = (a.fatal clear).1 in gained_since (IsFatalOf port.0) port.0 old start new set n.new_entries n.tape_is n.no_such_entry g);
+  fatal_is_shown = λ g. fatal_unless_clear (new.port port.0) (λ clear. let n = (a.fatal clear).1 in gained_since (IsFatalErrorOf port.0) port.0 old start new set n.new_entries n.tape_is n.no_such_entry g);
   plug_is_shown = λ g. set_unless_clear (new.port port.0).serr_n (λ clear. let n = (a.disk clear).1 in gained_since (IsPlugEvent port.0) port.0 old start new set n.new_entries n.tape_is n.no_such_entry g);
 }
 
-pub no_command : (port : ℕ) (p : DevicePort) → IsRunning port p → HasNoCommand p
-no_command port p runs slot = record { issued = runs.ci slot; free = runs.taken slot }
+pub no_command : (port : ℕ) (p : DevicePort) → RunsWithoutCommands port p → HasNoCommand p
+no_command port p runs slot = record { is_not_issued = runs.ci_is_clear slot; is_not_taken = runs.none_is_taken slot }
 
 -- ST was set at such a moment
 since_set : (port : Port) (old at new : Device) → TapeGrows old at → (new.port port.0).notes.st_set_at ≡ length at.tape → length old.tape ≤ (new.port port.0).notes.st_set_at
@@ -91,26 +91,26 @@ since_set port old at new grows set =
     let n = ap (λ (es : List Entry). length es) grows.1 ∙ length-append old.tape grows.0 in omega (arith, n, set)
 
 -- a port that runs with no command, and had its log read
-pub asked_running : (laws : Laws) (port : ℕ) (start new : Device) → IsRunning port (start.port port) → LeavesRunning port start new → IsOver (new.port port) 0 → IsRunning port (new.port port)
+pub asked_running : (laws : Laws) (port : ℕ) (start new : Device) → RunsWithoutCommands port (start.port port) → LeavesPortWhileAsking port start new → IsOver (new.port port) 0 → RunsWithoutCommands port (new.port port)
 asked_running laws port start new runs l over =
-    let none = laws.asked_none port start new l (no_command port (start.port port) runs) over in
+    let none = laws.asking_leaves_no_command port start new l (no_command port (start.port port) runs) over in
     record {
-      st = l.controls.st ∙ runs.st;
-      cr = l.controls.engine_stays_running runs.st runs.cr;
-      fre = l.controls.fre ∙ runs.fre;
-      bases = l.bases ∙ runs.bases;
-      ci = λ slot. (none slot).issued;
-      sact = λ slot. l.sact slot (runs.sact slot);
-      taken = λ slot. (none slot).free;
+      st_is_set = l.controls_are_kept.st_is_kept ∙ runs.st_is_set;
+      cr_is_set = l.controls_are_kept.engine_stays_running runs.st_is_set runs.cr_is_set;
+      fre_is_set = l.controls_are_kept.fre_is_kept ∙ runs.fre_is_set;
+      areas_are_in_place = l.bases_are_kept ∙ runs.areas_are_in_place;
+      ci_is_clear = λ slot. (none slot).is_not_issued;
+      sact_is_clear = λ slot. l.sact_stays_clear slot (runs.sact_is_clear slot);
+      none_is_taken = λ slot. (none slot).is_not_taken;
     }
 
-module _ (laws : Laws) (port : Port) (outstanding : ℕ) (queued : Bool) (before after : ℕ) (old d : Device) (r : IsClearedForRecovery port outstanding queued before after old d) (first : Goes port old d) where
+module _ (laws : Laws) (port : Port) (outstanding : ℕ) (queued : Bool) (before after : ℕ) (old d : Device) (r : IsStoppedAndCleared port outstanding queued before after old d) (first : Goes port old d) where
   -- ---- that was started, and no more
 
   module _ (new : Device) (s : StartsAgain port d new) (then : Goes port d new) (whole : Goes port old new) where
     nothing_came : (Is : Entry → Type 0) → GainsSinceStart Is port.0 old new → ⊥
     nothing_came Is g =
-        let n = ap (λ (es : List Entry). length es) g.tape ∙ length-append old.tape (g.before ++ g.entry ∷ g.later) in
+        let n = ap (λ (es : List Entry). length es) g.tape_grows ∙ length-append old.tape (g.before ++ g.entry ∷ g.later) in
         let m = length-append g.before (g.entry ∷ g.later) in
         let set = s.st_set_is_last in
         let since = g.came_since_start in
@@ -121,37 +121,37 @@ module _ (laws : Laws) (port : Port) (outstanding : ℕ) (queued : Bool) (before
       runs = s.runs;
       faults_are_on_record = s.faults_are_on_record;
       st_set_in_call = since_set port old new new whole.grows (s.st_set_is_last);
-      link_count_is_kept = ap (λ (n : Notes). n.link_count) s.other_notes_are_kept.1 ∙ r.quiets.link_count_is_kept;
+      link_count_is_kept = ap (λ (n : Notes). n.link_wait_count) s.other_notes_are_kept.1 ∙ r.stops_and_clears.link_count_is_kept;
       queued_halt_ends = λ on. absurd (true≢false (sym on ∙ is));
-      works_plainly = λ _ plain. commands_plain laws port d new s.starts r.quiets.machine_is_related (r.quiets.works_plainly plain);
+      works_plainly = λ _ plain. commands_plain laws port d new s.starts r.stops_and_clears.machine_is_related (r.stops_and_clears.works_plainly plain);
       is_not_log_only = λ plain log.
-          let w = commands_plain laws port d new s.starts r.quiets.machine_is_related (r.quiets.works_plainly (plain is)) in
+          let w = commands_plain laws port d new s.starts r.stops_and_clears.machine_is_related (r.stops_and_clears.works_plainly (plain is)) in
           let e : LogOnly ≡ NotHalted = ap halt_after_start (sym log) ∙ w.start_ends_halt in absurd cc;
       hides_no_trouble = record {
         fault_is_shown = λ g. absurd (nothing_came (IsFaultOf port.0) g);
-        fatal_is_shown = λ g. absurd (nothing_came (IsFatalOf port.0) g);
+        fatal_is_shown = λ g. absurd (nothing_came (IsFatalErrorOf port.0) g);
         plug_is_shown = λ g. absurd (nothing_came (IsPlugEvent port.0) g);
       };
       port_runs_well = λ none calm linked plain.
           let n = plugs_in_parts laws port.0 old d new first.grows then.grows none in
-          let up = laws.up_of (d.port port.0) (first.linked n.0 linked) (r.quiets.works_plainly (plain is)) in
-          laws.well_of (new.port port.0) (s.port_is_started up n.1)
+          let up = laws.linked_plain_port_is_up (d.port port.0) (first.linked n.0 linked) (r.stops_and_clears.works_plainly (plain is)) in
+          laws.started_quiet_port_runs_well (new.port port.0) (s.port_is_started up n.1)
           (record {
-            serr_n = s.errors_change_by_disks.serr_n n.1 (r.quiets.errors_are_clear.serr_n n.0);
-            serr_x = s.errors_change_by_disks.serr_x (laws.tape.plugs_come port.0 d new n.1) (r.quiets.errors_are_clear.serr_x (laws.tape.plugs_come port.0 old d n.0));
-            no_error_bit_is_set = λ place from to. s.no_cause_rises place (r.quiets.no_cause_is_set place (omega (arith, to)));
+            serr_n_is_clear = s.errors_change_by_disks.serr_n_rises_by_plug_events n.1 (r.stops_and_clears.errors_are_clear.serr_n_is_clear n.0);
+            serr_x_is_clear = s.errors_change_by_disks.serr_x_rises_by_disk_coming (laws.tape.no_plug_event_no_disk port.0 d new n.1) (r.stops_and_clears.errors_are_clear.serr_x_is_clear (laws.tape.no_plug_event_no_disk port.0 old d n.0));
+            no_error_bit_is_set = λ place from to. s.no_cause_rises place (r.stops_and_clears.no_cause_is_set place (omega (arith, to)));
           });
     }
 
   -- ---- whose log was read
 
-  module _ (start new : Device) (s : StartsAgain port d start) (then : Goes port d start) (l : LeavesRunning port.0 start new) (a : Asks port start new) (later : Goes port start new)
+  module _ (start new : Device) (s : StartsAgain port d start) (then : Goes port d start) (l : LeavesPortWhileAsking port.0 start new) (a : Asks port start new) (later : Goes port start new)
       (over : IsOver (new.port port.0) 0) (running : (new.port port.0).halt ≡ NotHalted) where
-    runs : IsRunning port.0 (new.port port.0)
+    runs : RunsWithoutCommands port.0 (new.port port.0)
     runs = asked_running laws port.0 start new s.runs l over
 
     recorded : RecordsFaults new.tape (new.port port.0) port.0
-    recorded = l.faults_are_on_record (λ _. s.faults_are_on_record) runs.st
+    recorded = l.faults_are_on_record (λ _. s.faults_are_on_record) runs.st_is_set
 
     -- no fault halts it, so TFES is clear
     unflagged : (new.port port.0).is 30 ≡ false
@@ -169,29 +169,29 @@ module _ (laws : Laws) (port : Port) (outstanding : ℕ) (queued : Bool) (before
         by false is = is
 
     undue : (d.port port.0).link_due ≡ false
-    undue = r.quiets.is_clean_to_start.no_link_is_due
+    undue = r.stops_and_clears.is_clean_to_start.no_link_is_due
 
     pub runs_queued : queued ≡ true → RunsAgain queued port.0 old new
     runs_queued is = record {
       runs = runs;
       faults_are_on_record = recorded;
-      st_set_in_call = since_set port old start new (laws.tape.grows_more old d start first.grows then.grows) (ap (λ (n : Notes). n.st_set_at) l.notes ∙ s.st_set_is_last);
-      link_count_is_kept = ap (λ (n : Notes). n.link_count) l.notes ∙ (ap (λ (n : Notes). n.link_count) s.other_notes_are_kept.1 ∙ r.quiets.link_count_is_kept);
+      st_set_in_call = since_set port old start new (laws.tape.growth_is_transitive old d start first.grows then.grows) (ap (λ (n : Notes). n.st_set_at) l.other_notes_are_kept ∙ s.st_set_is_last);
+      link_count_is_kept = ap (λ (n : Notes). n.link_wait_count) l.other_notes_are_kept ∙ (ap (λ (n : Notes). n.link_wait_count) s.other_notes_are_kept.1 ∙ r.stops_and_clears.link_count_is_kept);
       queued_halt_ends = λ _. running;
       works_plainly = λ off. absurd (true≢false (sym is ∙ off));
       is_not_log_only = λ plain log. let e : LogOnly ≡ NotHalted = sym log ∙ running in absurd cc;
-      hides_no_trouble = shows_trouble port old start new (ap (λ (n : Notes). n.st_set_at) l.notes ∙ s.st_set_is_last) a;
+      hides_no_trouble = shows_trouble port old start new (ap (λ (n : Notes). n.st_set_at) l.other_notes_are_kept ∙ s.st_set_is_last) a;
       port_runs_well = λ none calm linked plain.
-          let n = plugs_in_parts laws port.0 old d new first.grows (laws.tape.grows_more d start new then.grows later.grows) none in
+          let n = plugs_in_parts laws port.0 old d new first.grows (laws.tape.growth_is_transitive d start new then.grows later.grows) none in
           let m = plugs_in_parts laws port.0 d start new then.grows later.grows n.1 in
-          let unbroken : NoneFatal port.0 start new = record {
+          let unbroken : NoFatalErrors port.0 start new = record {
             new_entries = later.grows.0;
             tape_is = later.grows.1;
-            no_such_entry = none_since (IsFatalOf port.0) port.0 old start new (laws.tape.grows_more old d start first.grows then.grows) (ap (λ (n : Notes). n.st_set_at) l.notes ∙ s.st_set_is_last) calm [] later.grows.0 later.grows.1;
+            no_such_entry = none_since (IsFatalErrorOf port.0) port.0 old start new (laws.tape.growth_is_transitive old d start first.grows then.grows) (ap (λ (n : Notes). n.st_set_at) l.other_notes_are_kept ∙ s.st_set_is_last) calm [] later.grows.0 later.grows.1;
           } in
           let c = later.changes (then.undue undue) in
           laws.runs_well (new.port port.0) (a.runs m.1 unbroken (s.link_stays_up (first.linked n.0 linked) m.0)) running unflagged
-          (c.serr_n m.1 (s.errors_change_by_disks.serr_n m.0 (r.quiets.errors_are_clear.serr_n n.0)))
-          (c.serr_x (laws.tape.plugs_come port.0 start new m.1) (s.errors_change_by_disks.serr_x (laws.tape.plugs_come port.0 d start m.0) (r.quiets.errors_are_clear.serr_x (laws.tape.plugs_come port.0 old d n.0))))
-          (a.raises unbroken (λ place from to. s.no_cause_rises place (r.quiets.no_cause_is_set place (omega (arith, to)))));
+          (c.serr_n_rises_by_plug_events m.1 (s.errors_change_by_disks.serr_n_rises_by_plug_events m.0 (r.stops_and_clears.errors_are_clear.serr_n_is_clear n.0)))
+          (c.serr_x_rises_by_disk_coming (laws.tape.no_plug_event_no_disk port.0 start new m.1) (s.errors_change_by_disks.serr_x_rises_by_disk_coming (laws.tape.no_plug_event_no_disk port.0 d start m.0) (r.stops_and_clears.errors_are_clear.serr_x_is_clear (laws.tape.no_plug_event_no_disk port.0 old d n.0))))
+          (a.raises unbroken (λ place from to. s.no_cause_rises place (r.stops_and_clears.no_cause_is_set place (omega (arith, to)))));
     }

@@ -13,7 +13,7 @@ use Rattle.adapter.specs.declared.tape.Entry.{Entry}
 use Rattle.adapter.specs.declared.tape.Entry.TheVariants as entry
 use Rattle.adapter.specs.declared.tape.Fault as tape_fault
 use Rattle.refinement.specs.Fragments.{TapeGrows, GainsNoMove}
-use Rattle.refinement.specs.Links.{DoesNotWrite}
+use Rattle.refinement.specs.PreservedParts.{DoesNotWrite}
 use Rattle.refinement.specs.Slots.{IsMove}
 use Rattle.error_recovery.specs.Evidence.{BringsLog, HasFailed}
 use Rattle.error_recovery.specs.Laws.{Laws}
@@ -26,7 +26,7 @@ module _ (laws : Laws) where
   set_still port (access ∷ accesses) old new on hosts commands (mid, does, rest) =
       let host = All-head (DoesNotWrite Ghc) access accesses hosts in
       let command = All-head (DoesNotWrite (Px port Cmd)) access accesses commands in
-      let later = laws.access_on access old mid on (λ v e. absurd (subst (DoesNotWrite Ghc) e host refl)) does in
+      let later = laws.access_keeps_on access old mid on (λ v e. absurd (subst (DoesNotWrite Ghc) e host refl)) does in
       set_still port accesses mid new later (All-tail (DoesNotWrite Ghc) access accesses hosts) (All-tail (DoesNotWrite (Px port Cmd)) access accesses commands) rest
       ∙ ((laws.access_controls port access old mid on.no_reset does).command command).2
 

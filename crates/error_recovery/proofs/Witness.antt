@@ -10,18 +10,18 @@ use Rattle.adapter.specs.Device.Halt.{HaltedPlain, HaltedQueued}
 use Rattle.adapter.specs.FirstRead.{first_read_device}
 use Rattle.adapter.specs.Memory.{changed}
 use Rattle.refinement.specs.Relation.{port_at}
-use Rattle.refinement.specs.Fragments.{IsRelated}
+use Rattle.refinement.specs.Fragments.{SomeMachineAgrees}
 use Rattle.refinement.specs.PortFacts.{RecordsFaults, IsFaulted}
 use Rattle.refinement.specs.RecoveryWitness.{FaultIsSeen}
-use Rattle.refinement.specs.TwoReads.{TwoReadsWitness, armed_uses, second_id, two_issued, two_reads_driver_state}
+use Rattle.refinement.specs.TwoReadsWitness.{TwoReadsWitness, armed_uses, second_id, two_issued, two_reads_driver_state}
 use Rattle.refinement.specs.Slots.{Free, Serves, SlotState, SlotStates, set_slot_state}
-use Rattle.refinement.specs.ReadWitness.{FirstReadWitness, first_id, first_uses}
-use Rattle.port_control.specs.Ports.{programmed}
+use Rattle.refinement.specs.ReadWitness.{FirstReadWitness, first_id, first_slot_states}
+use Rattle.port_control.specs.Ports.{programmed_bases}
 use Rattle.error_recovery.specs.Laws.{Laws}
 use Rattle.error_recovery.specs.Laws.SlotCondition.{AnyUses}
 use Rattle.error_recovery.specs.Laws.AccessPurpose.{Recovering}
-use Rattle.error_recovery.specs.RecoveryParts.{HasDriverMemory}
-use Rattle.error_recovery.specs.Recovery.{PlainIsSlot0, IsRecoveryAccess, MayRecover}
+use Rattle.error_recovery.specs.RecoveryParts.{IsOnWithDriverMemory}
+use Rattle.error_recovery.specs.Recovery.{PlainIsSlot0, IsRecoveryAccess, PortMayRecover}
 use Rattle.error_recovery.specs.Witness.{MayRecoverWitness}
 use Rattle.error_recovery.proofs.Going.{goes_over}
 use Rattle.error_recovery.proofs.Stretching.{room_after}
@@ -30,37 +30,37 @@ use Rattle.error_recovery.proofs.Stretching.{room_after}
 
 -- Port 0 runs with its areas in their places, COMRESET isn't being sent, and its faults are on record.
 record RunsPlaced (d : Device) : Type 0 where
-  room : HasDriverMemory 0 d
+  room : IsOnWithDriverMemory 0 d
   st : (d.port 0).st ≡ true
   cr : (d.port 0).cr ≡ true
   fre : (d.port 0).fre ≡ true
-  bases : (d.port 0).bases ≡ programmed 0
+  bases : (d.port 0).bases ≡ programmed_bases 0
   det : (d.port 0).sctl_det ≡ 0
   recorded : RecordsFaults d.tape (d.port 0) 0
 
 module _ (laws : Laws) (old : Device) (slot : ℕ) (halt : Halt) (runs : RunsPlaced old) (f : FaultIsSeen old slot halt) where
-  seen_room : HasDriverMemory 0 f.seen
+  seen_room : IsOnWithDriverMemory 0 f.seen
   seen_room =
-      let a = (laws.fragments.reads (Recovering AnyUses (port_at 0)) (Px (port_at 0) Ssts) 3 old f.seen (inl refl) f.sees).followed.is_driven in
+      let a = (laws.fragments.reads (Recovering AnyUses (port_at 0)) (Px (port_at 0) Ssts) 3 old f.seen (inl refl) f.sees).is_simulated.is_driven in
       room_after laws (IsRecoveryAccess (port_at 0)) 0 old f.seen a (goes_over laws (port_at 0) a.accesses old f.seen runs.room.adapter_is_on a.accesses_are_of_kind a.all_are_done).on runs.room
 
-  seen_agreed : (uses : SlotStates) → IsRelated uses old → IsRelated uses f.seen
+  seen_agreed : (uses : SlotStates) → SomeMachineAgrees uses old → SomeMachineAgrees uses f.seen
   seen_agreed uses agreed =
-      laws.fragments.agreed (Recovering AnyUses (port_at 0)) (λ uses. uses) uses old f.seen tt
-      (laws.fragments.reads (Recovering AnyUses (port_at 0)) (Px (port_at 0) Ssts) 3 old f.seen (inl refl) f.sees).followed agreed
+      laws.fragments.some_machine_agrees (Recovering AnyUses (port_at 0)) (λ uses. uses) uses old f.seen tt
+      (laws.fragments.reads (Recovering AnyUses (port_at 0)) (Px (port_at 0) Ssts) 3 old f.seen (inl refl) f.sees).is_simulated agreed
 
-  seen_may : IsFaulted halt → MayRecover 0 f.seen
+  seen_may : IsFaulted halt → PortMayRecover 0 f.seen
   seen_may faulted =
-      let s = laws.seen (port_at 0) Ssts 3 old f.seen f.sees runs.room.adapter_is_on.no_reset in
-      let c = s.keeps.keeps_outside_reset.controls 0 in
+      let s = laws.read_changes_port_register (port_at 0) Ssts 3 old f.seen f.sees runs.room.adapter_is_on.no_reset in
+      let c = s.keeps.keeps_outside_reset.controls_are_kept 0 in
       record {
-        st = c.st ∙ runs.st;
-        cr = c.engine_stays_running runs.st runs.cr;
-        fre = c.fre ∙ runs.fre;
-        bases = (s.keeps.ports_are_kept 0).bases ∙ runs.bases;
-        no_comreset = c.sctl_det ∙ runs.det;
+        st_is_set = c.st_is_kept ∙ runs.st;
+        cr_is_set = c.engine_stays_running runs.st runs.cr;
+        fre_is_set = c.fre_is_kept ∙ runs.fre;
+        areas_are_in_place = (s.keeps.ports_keep_what_steps_keep 0).bases_are_kept ∙ runs.bases;
+        no_comreset = c.sctl_det_is_kept ∙ runs.det;
         link_was_seen = ap (λ (n : Notes). n.last_ssts % 16) s.notes;
-        faults_are_on_record = laws.access_recorded 0 (Px (port_at 0) Ssts) 3 old f.seen f.sees (λ _. runs.recorded) (c.st ∙ runs.st);
+        faults_are_on_record = laws.read_keeps_fault_record 0 (Px (port_at 0) Ssts) 3 old f.seen f.sees (λ _. runs.recorded) (c.st_is_kept ∙ runs.st);
         halted = subst IsFaulted (sym f.halted) faulted;
       }
 
@@ -69,7 +69,7 @@ module _ (laws : Laws) (old : Device) (slot : ℕ) (halt : Halt) (runs : RunsPla
 first_runs : RunsPlaced first_read_device
 unfolding changed
 first_runs = record {
-  room = record { adapter_is_on = record { ae = refl; no_reset = refl }; has_port = (omega arith, refl); driver_memory_fits = omega arith };
+  room = record { adapter_is_on = record { ae_is_set = refl; no_reset = refl }; has_port = (omega arith, refl); driver_memory_fits = omega arith };
   st = refl;
   cr = refl;
   fre = refl;
@@ -81,7 +81,7 @@ first_runs = record {
 two_run : RunsPlaced two_issued
 unfolding changed
 two_run = record {
-  room = record { adapter_is_on = record { ae = refl; no_reset = refl }; has_port = (omega arith, refl); driver_memory_fits = omega arith };
+  room = record { adapter_is_on = record { ae_is_set = refl; no_reset = refl }; has_port = (omega arith, refl); driver_memory_fits = omega arith };
   st = refl;
   cr = refl;
   fre = refl;
@@ -107,19 +107,19 @@ module _ (laws : Laws)
     has_port = (seen_room laws first_read_device 0 HaltedPlain first_runs f).has_port;
     driver_memory_fits = (seen_room laws first_read_device 0 HaltedPlain first_runs f).driver_memory_fits;
     machine_is_related = (
-      first_uses,
+      first_slot_states,
       λ plain slot other. others (λ port at. Free) 0 0 (Serves first_id) 0 slot (λ same z. other z),
-      seen_agreed laws first_read_device 0 HaltedPlain first_runs f first_uses (record { machine = k.machine; parked = λ port. []; reached = k.reached; driver_relation = k.driver_relation }),
+      seen_agreed laws first_read_device 0 HaltedPlain first_runs f first_slot_states (record { machine = k.machine; parked = λ port. []; reached = k.reached; driver_relation = k.driver_relation }),
     );
     may_recover = seen_may laws first_read_device 0 HaltedPlain first_runs f (inl refl);
     outstanding = 1;
     plain_is_slot_0 = first_alone;
     fault = f.fault;
-    fault_is_on_tape = f.here;
-    fault_is_of_slot = f.of;
+    fault_is_on_tape = f.fault_is_on_tape;
+    fault_is_of_slot = f.fault_is_of_slot;
     halt_is = f.halted;
-    serves = (first_id, ap (λ (slot : ℕ). first_uses 0 slot) f.of.1 ∙ here (λ port at. Free) 0 0 (Serves first_id));
-    is_outstanding = ap (λ (slot : ℕ). bit 1 slot) f.of.1;
+    serves = (first_id, ap (λ (slot : ℕ). first_slot_states 0 slot) f.fault_is_of_slot.1 ∙ here (λ port at. Free) 0 0 (Serves first_id));
+    is_outstanding = ap (λ (slot : ℕ). bit 1 slot) f.fault_is_of_slot.1;
   }
 
   pub queued_may_be_asked : FaultIsSeen two_issued 1 HaltedQueued → TwoReadsWitness → MayRecoverWitness true
@@ -137,12 +137,12 @@ module _ (laws : Laws)
     outstanding = 3;
     plain_is_slot_0 = λ plain. absurd (true≢false plain);
     fault = f.fault;
-    fault_is_on_tape = f.here;
-    fault_is_of_slot = f.of;
+    fault_is_on_tape = f.fault_is_on_tape;
+    fault_is_of_slot = f.fault_is_of_slot;
     halt_is = f.halted;
-    serves = (second_id, ap (λ (slot : ℕ). uses 0 slot) f.of.1 ∙ here (set_slot_state armed_uses 0 0 (Serves first_id)) 0 1 (Serves second_id));
-    is_outstanding = ap (λ (slot : ℕ). bit 3 slot) f.of.1;
+    serves = (second_id, ap (λ (slot : ℕ). uses 0 slot) f.fault_is_of_slot.1 ∙ here (set_slot_state armed_uses 0 0 (Serves first_id)) 0 1 (Serves second_id));
+    is_outstanding = ap (λ (slot : ℕ). bit 3 slot) f.fault_is_of_slot.1;
   }
     where
       uses : SlotStates
-      uses = (two_reads_driver_state two_issued).uses
+      uses = (two_reads_driver_state two_issued).slot_states

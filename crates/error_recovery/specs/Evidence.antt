@@ -10,9 +10,9 @@ use Rattle.adapter.specs.declared.tape.Entry.{Entry}
 use Rattle.adapter.specs.declared.tape.Entry.TheVariants as entry
 use Rattle.adapter.specs.declared.tape.Fault as tape_fault
 use Rattle.adapter.specs.declared.tape.Move as tape_move
-use Rattle.refinement.specs.Errors.{IsFatalOf}
+use Rattle.refinement.specs.Errors.{IsFatalErrorOf}
 use Rattle.refinement.specs.PortFacts.{IsFaultOf}
-use Rattle.refinement.specs.Links.{IsPlugEvent, DoesNotWrite}
+use Rattle.refinement.specs.PreservedParts.{IsPlugEvent, DoesNotWrite}
 use Rattle.refinement.specs.Slots.{IsMove}
 
 -- ---- evidence
@@ -53,7 +53,7 @@ pub record GainsSinceStart (Is : Entry → Type 0) (port : ℕ) (old new : Devic
   pub before : List Entry
   pub entry : Entry
   pub later : List Entry
-  pub tape : new.tape ≡ old.tape ++ (before ++ entry ∷ later)
+  pub tape_grows : new.tape ≡ old.tape ++ (before ++ entry ∷ later)
   pub is_of_kind : Is entry
   pub came_since_start : (new.port port).notes.st_set_at ≤ length old.tape + length before
 
@@ -68,5 +68,5 @@ pub record ShowsFatal (p : DevicePort) : Type 0 where
 -- came by N.
 pub record HidesNoTrouble (port : ℕ) (old new : Device) : Type 0 where
   pub fault_is_shown : GainsSinceStart (IsFaultOf port) port old new → (new.port port).is 30 ≡ true
-  pub fatal_is_shown : GainsSinceStart (IsFatalOf port) port old new → ShowsFatal (new.port port)
+  pub fatal_is_shown : GainsSinceStart (IsFatalErrorOf port) port old new → ShowsFatal (new.port port)
   pub plug_is_shown : GainsSinceStart (IsPlugEvent port) port old new → (new.port port).serr_n ≡ true

@@ -17,36 +17,36 @@ use Rattle.adapter.specs.declared.tape.Entry.{Entry}
 use Rattle.block_machine.specs.State.{Machine}
 use Rattle.refinement.specs.Laws.{FragmentLaws, TapeLaws}
 use Rattle.refinement.specs.Relation.{StateRelation}
-use Rattle.refinement.specs.Fragments.{AnyAccess, AnyUse, HasNoCommand, IsPortAccessWriting, IsDrivenBy, SparesOtherPorts, GainsNoMove}
+use Rattle.refinement.specs.Fragments.{AnyAccess, AnySlotStates, HasNoCommand, ReadsPortOrWrites, IsDrivenBy, SparesOtherPorts, GainsNoMove}
 use Rattle.refinement.specs.Driver.{AllFree, DriverState, DriverRelation}
-use Rattle.refinement.specs.Errors.{ChangesByErrors, NoneFails, NoneFatal}
-use Rattle.refinement.specs.PortFacts.{IsFaulted, IsEngineStopped, FaultsOnRecord, RunsWell, ShowsFault, ShowsNoTrouble}
+use Rattle.refinement.specs.Errors.{ErrorBitsRiseByErrors, NoFaults, NoFatalErrors}
+use Rattle.refinement.specs.PortFacts.{IsFaulted, IsEngineStopped, RecordsFaultsIfSt, RunsWell, ShowsFault, ShowsNoTrouble}
 use Rattle.refinement.specs.GivingUp.{with_all_parked}
-use Rattle.refinement.specs.Links.{LeavesControls, NoPlugEvents, SameAdapter, DoesNotWrite}
+use Rattle.refinement.specs.PreservedParts.{LeavesControls, NoPlugEvents, SameAdapter, DoesNotWrite}
 use Rattle.refinement.specs.PortNotes.{LeavesNotes}
 use Rattle.refinement.specs.HaltRecovery.{IsLinked, RunsLinked, WorksPlainly}
 use Rattle.refinement.specs.Slots.{Free, IsOver, Own, SlotStates, set_slot_state}
-use Rattle.refinement.specs.StartedPort.{ClearsNoStart, IsStarted, IsUp}
+use Rattle.refinement.specs.StartedPort.{ClearsNoStart, IsStarted, IsUpForStart}
 use Rattle.command_table.specs.TableStores.{IsUnused}
-use Rattle.disk_page.specs.PageRequests.{IsPageAccess, LeavesRunning, WaitsInVain}
+use Rattle.disk_page.specs.PageRequests.{IsPageAccess, LeavesPortWhileAsking, WaitsForSlot0InVain}
 use Rattle.port_control.specs.Engines.{FailsToStop, EngineFalls, EngineSticks}
-use Rattle.port_control.specs.Ports.{IsErrorRegister, IsCommandRegister}
+use Rattle.port_control.specs.Ports.{IsSerrOrIs, IsCommandRegister}
 use Rattle.error_recovery.specs.Recovery.{IsRecoveryRegister, IsRecoveryAccess}
 
 -- ---- kinds of accesses
 
 -- sets of registers that are written
 pub data RegisterSet : Type 0 where
-  Commanding : RegisterSet
-  Clearing : RegisterSet
-  Recovered : RegisterSet
-  ButIssued : RegisterSet
+  CommandRegister : RegisterSet
+  ErrorRegisters : RegisterSet
+  RecoveryRegisters : RegisterSet
+  AllButCi : RegisterSet
 
 abbrev pub registers_of : RegisterSet → PortReg → Type 0
-registers_of Commanding = IsCommandRegister
-registers_of Clearing = IsErrorRegister
-registers_of Recovered = IsRecoveryRegister
-registers_of ButIssued = λ r. r ≢ Ci
+registers_of CommandRegister = IsCommandRegister
+registers_of ErrorRegisters = IsSerrOrIs
+registers_of RecoveryRegisters = IsRecoveryRegister
+registers_of AllButCi = λ r. r ≢ Ci
 
 -- the uses of slots that fit: any, or with none of the port's slots used
 pub data SlotCondition : Type 0 where
@@ -54,7 +54,7 @@ pub data SlotCondition : Type 0 where
   PortUnused : SlotCondition
 
 abbrev pub slot_uses_meeting : SlotCondition → Port → SlotStates → Type 0
-slot_uses_meeting AnyUses port = AnyUse
+slot_uses_meeting AnyUses port = AnySlotStates
 slot_uses_meeting PortUnused port = λ uses. AllFree uses port.0
 
 -- a port's registers are read, and those of a set written; its disk is asked for the log; or it is recovered
@@ -64,7 +64,7 @@ pub data AccessPurpose : Type 0 where
   Recovering : SlotCondition → Port → AccessPurpose
 
 abbrev pub accesses_for : AccessPurpose → Access → Type 0
-accesses_for (Controlling set fitting port) = IsPortAccessWriting (registers_of set) port
+accesses_for (Controlling set fitting port) = ReadsPortOrWrites (registers_of set) port
 accesses_for (Asking port) = IsPageAccess port
 accesses_for (Recovering fitting port) = IsRecoveryAccess port
 
@@ -77,92 +77,103 @@ slot_uses_for (Recovering fitting port) = slot_uses_meeting fitting port
 
 pub record Laws : Type 0 where
   -- one access
-  pub access_on : (access : Access) (old new : Device) → IsOn old
+  pub access_keeps_on : (access : Access) (old new : Device) → IsOn old
       → ((v : ℕ) → access ≡ Writing Ghc v → (bit v 31 ≡ true) × (bit v 0 ≡ false)) → Does access old new → IsOn new
-  pub seen : (port : Port) (r : PortReg) (v : ℕ) (old new : Device) → Reads (Px port r) v old new → old.hr ≡ false
+  pub read_changes_port_register : (port : Port) (r : PortReg) (v : ℕ) (old new : Device) → Reads (Px port r) v old new
+      → old.hr ≡ false
       → PortRegisterRead port.0 r v old new
   pub tape : TapeLaws
   pub access_controls : (port : Port) (access : Access) (old new : Device) → old.hr ≡ false → Does access old new
       → LeavesControls access port (old.port port.0) (new.port port.0)
   pub access_notes : (port : Port) (access : Access) (old new : Device) → Does access old new
       → LeavesNotes access port (old.port port.0).notes (new.port port.0).notes
-  pub access_recorded : (port : ℕ) (r : Reg) (v : ℕ) (old new : Device) → Reads r v old new
-      → FaultsOnRecord old.tape (old.port port) port → FaultsOnRecord new.tape (new.port port) port
+  pub read_keeps_fault_record : (port : ℕ) (r : Reg) (v : ℕ) (old new : Device) → Reads r v old new
+      → RecordsFaultsIfSt old.tape (old.port port) port → RecordsFaultsIfSt new.tape (new.port port) port
   -- errors
-  pub access_raises : (port : Port) (access : Access) (old new : Device) → Does access old new
-      → ChangesByErrors port.0 old new
-  pub access_shows_fault : (port : Port) (access : Access) (old new : Device) → old.hr ≡ false
+  pub access_changes_by_errors : (port : Port) (access : Access) (old new : Device) → Does access old new
+      → ErrorBitsRiseByErrors port.0 old new
+  pub access_hides_no_fault : (port : Port) (access : Access) (old new : Device) → old.hr ≡ false
       → DoesNotWrite (Px port Is) access → Does access old new → (new.port port.0).is 30 ≡ false
-      → ((old.port port.0).is 30 ≡ false) × NoneFails port.0 old new
-  pub access_shows_fatal : (port : Port) (access : Access) (old new : Device) → old.hr ≡ false
+      → ((old.port port.0).is 30 ≡ false) × NoFaults port.0 old new
+  pub access_hides_no_fatal : (port : Port) (access : Access) (old new : Device) → old.hr ≡ false
       → DoesNotWrite (Px port Is) access → Does access old new
       → ((place : ℕ) → 27 ≤ place → place ≤ 29 → (new.port port.0).is place ≡ false)
-      → ((place : ℕ) → 27 ≤ place → place ≤ 29 → (old.port port.0).is place ≡ false) × NoneFatal port.0 old new
-  pub access_shows_disk : (port : Port) (access : Access) (old new : Device) → old.hr ≡ false
+      → ((place : ℕ) → 27 ≤ place → place ≤ 29 → (old.port port.0).is place ≡ false) × NoFatalErrors port.0 old new
+  pub access_hides_no_plug_event : (port : Port) (access : Access) (old new : Device) → old.hr ≡ false
       → DoesNotWrite (Px port Serr) access → Does access old new → (new.port port.0).serr_n ≡ false
       → ((old.port port.0).serr_n ≡ false) × NoPlugEvents port.0 old new
   -- the link
-  pub access_linked : (port : Port) (access : Access) (old new : Device) → old.hr ≡ false
+  pub access_keeps_linked : (port : Port) (access : Access) (old new : Device) → old.hr ≡ false
       → DoesNotWrite (Px port Sctl) access → NoPlugEvents port.0 old new → Does access old new
       → IsLinked (old.port port.0) → IsLinked (new.port port.0)
   pub access_runs_linked : (port : Port) (access : Access) (old new : Device) → old.hr ≡ false
       → ClearsNoStart port access → DoesNotWrite (Px port Sctl) access → NoPlugEvents port.0 old new
-      → NoneFatal port.0 old new → Does access old new → RunsLinked (old.port port.0) → RunsLinked (new.port port.0)
-  pub up_of : (p : DevicePort) → IsLinked p → WorksPlainly p → IsUp p
-  pub well_of : (p : DevicePort) → IsStarted p → ShowsNoTrouble p → RunsWell p
+      → NoFatalErrors port.0 old new → Does access old new → RunsLinked (old.port port.0) → RunsLinked (new.port port.0)
+  pub linked_plain_port_is_up : (p : DevicePort) → IsLinked p → WorksPlainly p → IsUpForStart p
+  pub started_quiet_port_runs_well : (p : DevicePort) → IsStarted p → ShowsNoTrouble p → RunsWell p
   pub runs_well : (p : DevicePort) → RunsLinked p → p.halt ≡ NotHalted → p.is 30 ≡ false → p.serr_n ≡ false
       → p.serr_x ≡ false → ((place : ℕ) → 27 ≤ place → place ≤ 29 → p.is place ≡ false) → RunsWell p
   -- the fault
   pub fault_shown : (port : Port) (v : ℕ) (old new : Device) → old.hr ≡ false → (old.port port.0).st ≡ true
-      → FaultsOnRecord old.tape (old.port port.0) port.0 → IsFaulted (old.port port.0).halt
+      → RecordsFaultsIfSt old.tape (old.port port.0) port.0 → IsFaulted (old.port port.0).halt
       → Reads (Px port Tfd) v old new
       → (s : ShowsFault (drop (new.port port.0).notes.st_set_at new.tape) (new.port port.0) port.0)
       × (v % 256 ≡ s.fault.status) × (v / 256 % 256 ≡ s.fault.error)
-  pub fault_sole : (uses : SlotStates) (m : Machine) (d : Device) (port slot : ℕ) (entries : List Entry)
+  pub fault_is_of_sole_slot : (uses : SlotStates) (m : Machine) (d : Device) (port slot : ℕ) (entries : List Entry)
       → StateRelation uses m d
       → (s : ShowsFault entries (d.port port) port) → ((other : ℕ) → other ≢ slot → uses port other ≡ Free)
       → s.fault.slot.0 ≡ slot
   -- pages and slots
-  pub silent_more : (port : ℕ) (o : Operation) (old mid new : Device) → GainsNoMove port o old mid
+  pub no_moves_compose : (port : ℕ) (o : Operation) (old mid new : Device) → GainsNoMove port o old mid
       → GainsNoMove port o mid new → GainsNoMove port o old new
-  pub controls_unmoving : (port : Port) (o : Operation) (old new : Device)
-      → IsDrivenBy (IsPortAccessWriting (λ r. r ≢ Ci) port) old new → HasNoCommand (old.port port.0)
+  pub accesses_gain_no_move : (port : Port) (o : Operation) (old new : Device)
+      → IsDrivenBy (ReadsPortOrWrites (λ r. r ≢ Ci) port) old new → HasNoCommand (old.port port.0)
       → GainsNoMove port.0 o old new
       × HasNoCommand (new.port port.0)
-  pub given_up_halted : (k : DriverState) (m : Machine) (port : ℕ) → DriverRelation m k
+  pub giving_up_keeps_relation : (k : DriverState) (m : Machine) (port : ℕ) → DriverRelation m k
       → IsEngineStopped (k.device.port port)
       → DriverRelation m (with_all_parked k port)
-  pub given_up_free : (k : DriverState) (port : ℕ) → AllFree (with_all_parked k port).uses port
+  pub given_up_free : (k : DriverState) (port : ℕ) → AllFree (with_all_parked k port).slot_states port
   pub given_up_others : (k : DriverState) (port other : ℕ) → other ≢ port
-      → ((with_all_parked k port).uses other ≡ k.uses other)
-      × ((with_all_parked k port).parked other ≡ k.parked other)
-  pub put_here : (uses : SlotStates) (port slot : ℕ) (o : Operation) → set_slot_state uses port slot (Own o) port slot
+      → ((with_all_parked k port).slot_states other ≡ k.slot_states other)
+      × ((with_all_parked k port).awaiting_disposition other ≡ k.awaiting_disposition other)
+  pub slot_has_state_set : (uses : SlotStates) (port slot : ℕ) (o : Operation)
+      → set_slot_state uses port slot (Own o) port slot
       ≡ Own o
   -- fragments
-  pub same_any : (old new : Device) → IsDrivenBy AnyAccess old new → SameAdapter old new
-  pub of_spares_ghc : (port : Port) (access : Access) → SparesOtherPorts port access → DoesNotWrite Ghc access
-  pub of_spares : (port q : Port) (r : PortReg) → q.0 ≢ port.0 → (access : Access) → SparesOtherPorts port access
+  pub accesses_keep_adapter : (old new : Device) → IsDrivenBy AnyAccess old new → SameAdapter old new
+  pub accesses_of_port_spare_ghc : (port : Port) (access : Access) → SparesOtherPorts port access
+      → DoesNotWrite Ghc access
+  pub accesses_of_port_spare_others : (port q : Port) (r : PortReg) → q.0 ≢ port.0 → (access : Access)
+      → SparesOtherPorts port access
       → DoesNotWrite (Px q r) access
-  pub asking_is_of : (port : Port) (access : Access) → IsPageAccess port access → SparesOtherPorts port access
-  pub asked_none : (port : ℕ) (old new : Device) → LeavesRunning port old new → HasNoCommand (old.port port)
+  pub asking_spares_other_ports : (port : Port) (access : Access) → IsPageAccess port access
+      → SparesOtherPorts port access
+  pub asking_leaves_no_command : (port : ℕ) (old new : Device) → LeavesPortWhileAsking port old new
+      → HasNoCommand (old.port port)
       → IsOver (new.port port) 0 → HasNoCommand (new.port port)
   -- what is told of engines, and of waits
   pub failing_sticks : (port : Port) (accesses : List Access) → FailsToStop port accesses → EngineSticks port accesses
-  pub falls_then : (early late : List Access) (start running : ℕ) (port : Port) → EngineFalls start running port early
+  pub falls_with_later_accesses : (early late : List Access) (start running : ℕ) (port : Port)
+      → EngineFalls start running port early
       → EngineFalls start running port (early ++ late)
-  pub falls_since : (early late : List Access) (start running : ℕ) (port : Port) → EngineFalls start running port late
+  pub falls_with_earlier_accesses : (early late : List Access) (start running : ℕ) (port : Port)
+      → EngineFalls start running port late
       → EngineFalls start running port (early ++ late)
-  pub sticks_since : (early late : List Access) (port : Port) → EngineSticks port late
+  pub sticks_with_earlier_accesses : (early late : List Access) (port : Port) → EngineSticks port late
       → EngineSticks port (early ++ late)
-  pub vain_then : (port : Port) (early late : List Access) → WaitsInVain port early → WaitsInVain port (early ++ late)
-  pub vain_since : (port : Port) (early late : List Access) → WaitsInVain port late → WaitsInVain port (early ++ late)
+  pub vain_with_later_accesses : (port : Port) (early late : List Access) → WaitsForSlot0InVain port early
+      → WaitsForSlot0InVain port (early ++ late)
+  pub vain_with_earlier_accesses : (port : Port) (early late : List Access) → WaitsForSlot0InVain port late
+      → WaitsForSlot0InVain port (early ++ late)
   -- this crate's kinds of accesses
-  pub control_of : (set : RegisterSet) (port : Port) (access : Access)
-      → IsPortAccessWriting (registers_of set) port access
+  pub control_spares_other_ports : (set : RegisterSet) (port : Port) (access : Access)
+      → ReadsPortOrWrites (registers_of set) port access
       → SparesOtherPorts port access
-  pub control_spares : (set : RegisterSet) (port : Port) (r : PortReg) → (registers_of set r → ⊥) → (access : Access)
-      → IsPortAccessWriting (registers_of set) port access → DoesNotWrite (Px port r) access
-  pub control_wider : (set more : RegisterSet) (port : Port)
+  pub control_spares_other_registers : (set : RegisterSet) (port : Port) (r : PortReg) → (registers_of set r → ⊥)
+      → (access : Access)
+      → ReadsPortOrWrites (registers_of set) port access → DoesNotWrite (Px port r) access
+  pub control_of_larger_set : (set more : RegisterSet) (port : Port)
       → ((r : PortReg) → registers_of set r → registers_of more r) → (access : Access)
-      → IsPortAccessWriting (registers_of set) port access → IsPortAccessWriting (registers_of more) port access
+      → ReadsPortOrWrites (registers_of set) port access → ReadsPortOrWrites (registers_of more) port access
   pub fragments : FragmentLaws AccessPurpose accesses_for slot_uses_for

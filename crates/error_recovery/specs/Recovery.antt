@@ -15,18 +15,18 @@ use Rattle.adapter.specs.declared.command.Operation.{Operation}
 use Rattle.adapter.specs.declared.command.Operation.TheVariants.{Identify, ReadLog}
 use Rattle.adapter.specs.declared.tape.Fault as tape_fault
 use Rattle.refinement.specs.Acts.{AnySlots, ActsByDeviceAlone, DriverSlots, Performs}
-use Rattle.refinement.specs.Fragments.{RelatesWith, IsPortAccessWriting, GainsNoMove}
-use Rattle.refinement.specs.Errors.{IsFatalOf}
+use Rattle.refinement.specs.Fragments.{SomeMachineAgreesWith, ReadsPortOrWrites, GainsNoMove}
+use Rattle.refinement.specs.Errors.{IsFatalErrorOf}
 use Rattle.refinement.specs.PortFacts.{RecordsFaults, IsFaulted, RunsWell}
-use Rattle.refinement.specs.GivingUp.{with_all_given_up}
-use Rattle.refinement.specs.Links.{NoPlugEvents, DoesNotWrite}
+use Rattle.refinement.specs.GivingUp.{slots_with_all_parked}
+use Rattle.refinement.specs.PreservedParts.{NoPlugEvents, DoesNotWrite}
 use Rattle.refinement.specs.HaltRecovery.{IsLinked, WorksPlainly}
-use Rattle.refinement.specs.Slots.{Free, Own, SlotStates, op_of, set_slot_state}
-use Rattle.disk_page.specs.PageRequests.{IsPageAccess, WaitsInVain}
-use Rattle.identify.specs.Log.{TellsError, TellsNoError}
+use Rattle.refinement.specs.Slots.{Free, Own, SlotStates, client_operation_of, set_slot_state}
+use Rattle.disk_page.specs.PageRequests.{IsPageAccess, WaitsForSlot0InVain}
+use Rattle.identify.specs.ErrorLog.{NamesQueuedCommand, NamesNoQueuedCommand}
 use Rattle.identify.specs.declared.error_log.FailedSlot.{FailedSlot}
 use Rattle.port_control.specs.Engines.{EngineSticks, Stops}
-use Rattle.port_control.specs.Ports.{IsErrorRegister, IsRunning, IsStopped, BacksFault, ShowsIdle, IsCommandRegister, programmed}
+use Rattle.port_control.specs.Ports.{IsSerrOrIs, RunsWithoutCommands, IsStopped, BacksFault, ShowsIdle, IsCommandRegister, programmed_bases}
 use Rattle.port_control.specs.declared.PortFault.TheVariants.{EngineStuck}
 use Rattle.port_control.specs.declared.Running as running_token
 use Rattle.port_control.specs.declared.Stopped as stopped_token
@@ -50,17 +50,17 @@ PlainIsSlot0 queued outstanding = queued ≡ false → (slot : ℕ) → slot < 3
 pub record MayHandleError (port : Port) (outstanding : ℕ) (queued : Bool) (d : Device) : Type 0 where
   pub adapter_is_on : IsOn d
   pub has_port : HasPort d port.0
-  pub driver_memory_fits : DRIVER_BYTES ≤ d.size
-  pub machine_is_related : RelatesWith (PlainUsesSlot0 queued port.0) d
+  pub driver_memory_fits : DRIVER_BYTES ≤ d.memory_size
+  pub machine_is_related : SomeMachineAgreesWith (PlainUsesSlot0 queued port.0) d
   pub plain_is_slot_0 : PlainIsSlot0 queued outstanding
 
 -- A fault has halted the port, which runs with its areas in their places; a device with a link was seen last, no
 -- COMRESET is being sent, and the faults since ST was set are on record.
-pub record MayRecover (port : ℕ) (d : Device) : Type 0 where
-  pub st : (d.port port).st ≡ true
-  pub cr : (d.port port).cr ≡ true
-  pub fre : (d.port port).fre ≡ true
-  pub bases : (d.port port).bases ≡ programmed port
+pub record PortMayRecover (port : ℕ) (d : Device) : Type 0 where
+  pub st_is_set : (d.port port).st ≡ true
+  pub cr_is_set : (d.port port).cr ≡ true
+  pub fre_is_set : (d.port port).fre ≡ true
+  pub areas_are_in_place : (d.port port).bases ≡ programmed_bases port
   pub no_comreset : (d.port port).sctl_det ≡ 0
   pub link_was_seen : (d.port port).notes.last_ssts % 16 ≡ 3
   pub faults_are_on_record : RecordsFaults d.tape (d.port port) port
@@ -70,31 +70,31 @@ pub record MayRecover (port : ℕ) (d : Device) : Type 0 where
 
 -- PxCMD, PxSERR and PxIS
 abbrev pub IsRecoveryRegister : PortReg → Type 0
-IsRecoveryRegister r = IsCommandRegister r ⊎ IsErrorRegister r
+IsRecoveryRegister r = IsCommandRegister r ⊎ IsSerrOrIs r
 
 -- it reads a register of the port, writes one of these three, or asks for the log: by slot 0's header and table, bit 0
 -- of PxCI, and a load of the scratch frame
 abbrev pub IsRecoveryAccess : Port → Access → Type 0
-IsRecoveryAccess port access = IsPortAccessWriting IsRecoveryRegister port access ⊎ IsPageAccess port access
+IsRecoveryAccess port access = ReadsPortOrWrites IsRecoveryRegister port access ⊎ IsPageAccess port access
 
 -- slot 0 has a command of the driver's own
 abbrev pub with_own : ℕ → Operation → DriverSlots → DriverSlots
-with_own port o s = record s { uses = set_slot_state s.uses port 0 (Own o) }
+with_own port o s = record s { slot_states = set_slot_state s.slot_states port 0 (Own o) }
 
 -- Each slot of the port was given up once the port had stopped, and the requests that they served are parked; the
 -- device alone made steps. Of a dead port the slots are as they were, or READ LOG EXT may be in slot 0 still.
 abbrev pub SlotsAfterRecovery : ℕ → Next → List Access → Device → Device → Type 0
 SlotsAfterRecovery port Dead accesses old new =
     Performs accesses AnySlots (λ s. s) ActsByDeviceAlone old new
-    ⊎ (Performs accesses AnySlots (with_all_given_up port) ActsByDeviceAlone old new
-    ⊎ Performs accesses AnySlots (λ s. with_own port ReadLog (with_all_given_up port s)) ActsByDeviceAlone old new)
+    ⊎ (Performs accesses AnySlots (slots_with_all_parked port) ActsByDeviceAlone old new
+    ⊎ Performs accesses AnySlots (λ s. with_own port ReadLog (slots_with_all_parked port s)) ActsByDeviceAlone old new)
 SlotsAfterRecovery port _ accesses old new =
-    Performs accesses AnySlots (with_all_given_up port) ActsByDeviceAlone old new
+    Performs accesses AnySlots (slots_with_all_parked port) ActsByDeviceAlone old new
 
 -- the accesses tell that the port was stopped; or that its engine is stuck
-abbrev pub TellsEngine : Port → Next → List Access → Type 0
-TellsEngine port Dead accesses = EngineSticks port accesses
-TellsEngine port _ accesses = Stops port accesses
+abbrev pub TellsEngineOutcome : Port → Next → List Access → Type 0
+TellsEngineOutcome port Dead accesses = EngineSticks port accesses
+TellsEngineOutcome port _ accesses = Stops port accesses
 
 -- ---- what is told
 
@@ -130,7 +130,7 @@ pub record RestsOnLog (port : Port) (outstanding : ℕ) (accesses : List Access)
   pub has_failed : HasFailed port accesses old new fault
   pub last_log_page : List ℕ
   pub brings : BringsLog port old new last_log_page
-  pub tells : TellsError last_log_page failed.slot.0 failed.status failed.error
+  pub tells : NamesQueuedCommand last_log_page failed.slot.0 failed.status failed.error
 
 abbrev pub BacksFailure : Bool → Port → ℕ → List Access → Device → Device → Option FailedSlot → Type 0
 BacksFailure queued port outstanding accesses old new None = Unit {0}
@@ -143,7 +143,7 @@ pub record NamesUnknownSlot (outstanding : ℕ) (page : List ℕ) : Type 0 where
   pub tag : ℕ
   pub status : ℕ
   pub error : ℕ
-  pub tells : TellsError page tag status error
+  pub tells : NamesQueuedCommand page tag status error
   pub is_not_outstanding : bit outstanding tag ≡ false
 
 -- they issue no command of the port
@@ -158,17 +158,18 @@ pub record StopsThenWaits (port : Port) (accesses : List Access) (new : Device) 
   pub late : List Access
   pub accesses_are : accesses ≡ early ++ late
   pub stopped : Stops port early
-  pub waits_in_vain : WaitsInVain port late
-  pub wait_is_in_vain : (new.port port.0).notes.command_count ≡ MOST_READINGS
+  pub waits_in_vain : WaitsForSlot0InVain port late
+  pub command_count_is_full : (new.port port.0).notes.slot0_issued_count ≡ MOST_READINGS
 
 -- Why a port has to be booted: BSY or DRQ is what was read last of PxTFD, and no command was issued of which they could
 -- be. Or, where queued commands are outstanding, the log named none of them: once the port had stopped, the last 64
 -- readings showed READ LOG EXT issued, or its page names no command, or one that isn't outstanding.
-abbrev pub ExplainsReboot : Bool → Port → ℕ → List Access → Device → Device → Type 0
-ExplainsReboot queued port outstanding accesses old new =
+abbrev pub ExplainsRestart : Bool → Port → ℕ → List Access → Device → Device → Type 0
+ExplainsRestart queued port outstanding accesses old new =
     (IssueNoCommand port accesses × (ShowsIdle (new.port port.0).notes.last_tfd → ⊥))
     ⊎ ((queued ≡ true) × (StopsThenWaits port accesses new
-    ⊎ ((page : List ℕ) × BringsLog port old new page × (TellsNoError page ⊎ NamesUnknownSlot outstanding page))))
+    ⊎ ((page : List ℕ) × BringsLog port old new page
+    × (NamesNoQueuedCommand page ⊎ NamesUnknownSlot outstanding page))))
 
 -- ---- how it ends
 
@@ -178,15 +179,15 @@ ExplainsReboot queued port outstanding accesses old new =
 -- And where the link was up, no disk went or came, and no fatal error came since ST was set, the port runs well; one
 -- without queued commands, if it worked on plain ones alone.
 pub record RunsAgain (queued : Bool) (port : ℕ) (old new : Device) : Type 0 where
-  pub runs : IsRunning port (new.port port)
+  pub runs : RunsWithoutCommands port (new.port port)
   pub faults_are_on_record : RecordsFaults new.tape (new.port port) port
   pub st_set_in_call : length old.tape ≤ (new.port port).notes.st_set_at
-  pub link_count_is_kept : (new.port port).notes.link_count ≡ (old.port port).notes.link_count
+  pub link_count_is_kept : (new.port port).notes.link_wait_count ≡ (old.port port).notes.link_wait_count
   pub queued_halt_ends : queued ≡ true → (new.port port).halt ≡ NotHalted
   pub works_plainly : queued ≡ false → WorksPlainly (old.port port) → WorksPlainly (new.port port)
   pub is_not_log_only : (queued ≡ false → WorksPlainly (old.port port)) → (new.port port).halt ≢ LogOnly
   pub hides_no_trouble : HidesNoTrouble port old new
-  pub port_runs_well : NoPlugEvents port old new → (GainsSinceStart (IsFatalOf port) port old new → ⊥)
+  pub port_runs_well : NoPlugEvents port old new → (GainsSinceStart (IsFatalErrorOf port) port old new → ⊥)
       → IsLinked (old.port port)
       → (queued ≡ false → WorksPlainly (old.port port)) → RunsWell (new.port port)
 
@@ -200,9 +201,9 @@ EndsAsNext queued port Dead old new = ((new.port port.0).st ≡ false) × BacksF
 
 -- What recovery does: its accesses are of its kind; what becomes of the slots; and what is told of the port's engine.
 pub record DoesRecovery (port : Port) (result : Recovered) (accesses : List Access) (old new : Device) : Type 0 where
-  pub only : All (IsRecoveryAccess port) accesses
-  pub slots : SlotsAfterRecovery port.0 result.next accesses old new
-  pub engine : TellsEngine port result.next accesses
+  pub accesses_are_recovery : All (IsRecoveryAccess port) accesses
+  pub slots_after : SlotsAfterRecovery port.0 result.next accesses old new
+  pub tells_engine_outcome : TellsEngineOutcome port result.next accesses
 
 -- What is told of the commands that were outstanding: who failed, on what that rests, and who goes again. Where the
 -- port is dead nobody is named, and where queued commands are outstanding, nobody is named of a port that has to be
@@ -212,31 +213,31 @@ pub record TellsOutstanding (port : Port) (outstanding : ℕ) (queued : Bool) (r
   pub splits_outstanding : SplitsOutstanding outstanding result.failed result.again
   pub failure_is_backed : BacksFailure queued port outstanding accesses old new result.failed
   pub dead_names_none : result.next ≡ Dead → result.failed ≡ None
-  pub reboot_names_none : (token : stopped_token.Stopped) → queued ≡ true → result.next ≡ Restart token → result.failed
+  pub restart_names_none : (token : stopped_token.Stopped) → queued ≡ true → result.next ≡ Restart token → result.failed
       ≡ None
 
 -- What a recovery tells besides: whom it names, and why the port has to be booted. Where queued commands are
 -- outstanding, it runs only with one of them named; an outstanding plain one is named unless the port is dead.
 pub record TellsRecovery (port : Port) (outstanding : ℕ) (queued : Bool) (result : Recovered) (accesses : List Access)
     (old new : Device) : Type 0 where
-  pub running_names_one : (token : running_token.Running) → queued ≡ true → result.next ≡ Running token
+  pub queued_running_names_one : (token : running_token.Running) → queued ≡ true → result.next ≡ Running token
       → result.failed ≢ None
   pub plain_is_named : queued ≡ false → bit outstanding 0 ≡ true → result.next ≢ Dead → result.failed ≢ None
-  pub reboot_is_explained : (token : stopped_token.Stopped) → result.next ≡ Restart token
-      → ExplainsReboot queued port outstanding accesses old new
+  pub restart_is_explained : (token : stopped_token.Stopped) → result.next ≡ Restart token
+      → ExplainsRestart queued port outstanding accesses old new
 
 -- What it leaves: the port as `next` says; DET of PxSCTL and when it was written, and PxIE, as they were. And where
 -- slot 0 had no IDENTIFY DEVICE, the disk has sent no page of it; nor has another port's disk sent a page for a command
 -- that its slot 0 hadn't.
-pub record LeavesRecovery (port : Port) (queued : Bool) (next : Next) (old new : Device) : Type 0 where
+pub record IsLeftByRecovery (port : Port) (queued : Bool) (next : Next) (old new : Device) : Type 0 where
   pub ends_as_next : EndsAsNext queued port next old new
   pub sctl_det_is_kept : (new.port port.0).sctl_det ≡ (old.port port.0).sctl_det
   pub sctl_time_is_kept : (new.port port.0).notes.sctl_written_at ≡ (old.port port.0).notes.sctl_written_at
   pub ie_is_kept : (new.port port.0).ie ≡ (old.port port.0).ie
-  pub no_identify_moves : RelatesWith (λ uses. uses port.0 0 ≡ Own Identify → ⊥) old
+  pub no_identify_moves : SomeMachineAgreesWith (λ uses. uses port.0 0 ≡ Own Identify → ⊥) old
       → GainsNoMove port.0 Identify old new
-  pub no_other_page_moves : (q : Port) (o : Operation) → q.0 ≢ port.0 → op_of o ≡ None
-      → RelatesWith (λ uses. uses q.0 0 ≡ Own o → ⊥) old → GainsNoMove q.0 o old new
+  pub other_ports_move_no_page : (q : Port) (o : Operation) → q.0 ≢ port.0 → client_operation_of o ≡ None
+      → SomeMachineAgreesWith (λ uses. uses q.0 0 ≡ Own o → ⊥) old → GainsNoMove q.0 o old new
 
 -- What becomes of a port that had trouble: by one list of accesses it was stopped, and runs again, or has to be booted,
 -- or is dead.
@@ -245,7 +246,7 @@ pub record RecoversOrStops (port : Port) (outstanding : ℕ) (queued : Bool) (re
   pub accesses : List Access
   pub does : DoesRecovery port result accesses old new
   pub tells : TellsOutstanding port outstanding queued result accesses old new
-  pub leaves : LeavesRecovery port queued result.next old new
+  pub leaves : IsLeftByRecovery port queued result.next old new
 
 -- All that recovery promises.
 pub record Recovers (port : Port) (outstanding : ℕ) (queued : Bool) (result : Recovered)
@@ -258,6 +259,6 @@ pub record Recovers (port : Port) (outstanding : ℕ) (queued : Bool) (result : 
 pub record StopsForReset (port : Port) (outstanding : ℕ) (queued : Bool) (result : Recovered)
     (old new : Device) : Type 0 where
   pub handling : RecoversOrStops port outstanding queued result old new
-  pub only : All (IsPortAccessWriting IsCommandRegister port) handling.accesses
+  pub only_cmd_is_written : All (ReadsPortOrWrites IsCommandRegister port) handling.accesses
   pub none_is_named : result.failed ≡ None
   pub is_not_running : (token : running_token.Running) → result.next ≢ Running token

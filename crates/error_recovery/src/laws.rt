@@ -1,25 +1,15 @@
 // Laws of the definitions, for callers: the clause is the theorem. Nothing that runs calls these functions.
 ghost use Rattle.std.specs.Prelude.{ℕ, true, false, ◌≡◌, ◌+◌, ◌<◌, ◌≤◌, ◌++◌, All, List, length};
-ghost use Rattle.ata_types.specs.declared.Port.{Port};
-ghost use Rattle.ata_types.specs.declared.memory.TheConstants.{DRIVER_BYTES};
-ghost use Rattle.hba_regs.specs.declared.reg.PortReg.TheVariants.{Cmd, Ie, Sact, Sctl};
-ghost use Rattle.hba_regs.specs.declared.reg.Reg.TheVariants.{Ghc, Px};
-ghost use Rattle.adapter.specs.Access.{Access, DoesAll};
-ghost use Rattle.adapter.specs.Access.Access.{Loading, Storing};
-ghost use Rattle.adapter.specs.Device.{Device, DevicePort};
-ghost use Rattle.adapter.specs.Rules.{IsOn};
-ghost use Rattle.adapter.specs.declared.command.Operation.TheVariants.{ReadLog};
-ghost use Rattle.adapter.specs.declared.tape.Fault.{Fault};
-ghost use Rattle.refinement.specs.Fragments.{TapeGrows, SparesOtherPorts, GainsNoMove};
-ghost use Rattle.refinement.specs.Links.{DoesNotWrite};
-ghost use Rattle.error_recovery.specs.Evidence.{BringsLog, HasFailed, ShowsFatal};
-ghost use Rattle.error_recovery.specs.Recovery.{IsRecoveryAccess};
-ghost use Rattle.error_recovery.specs.Witness.{MayRecoverWitness, StopWitness};
+ghost use Rattle.ata_types.specs.{declared.Port.{Port}, declared.memory.TheConstants.{DRIVER_BYTES}};
+ghost use Rattle.hba_regs.specs.{declared.reg.PortReg.TheVariants.{Cmd, Ie, Sact, Sctl}, declared.reg.Reg.TheVariants.{Ghc, Px}};
+ghost use Rattle.adapter.specs.{Access.{Access, DoesAll}, Access.Access.{Loading, Storing}, Device.{Device, DevicePort}, Rules.{IsOn}, declared.command.Operation.TheVariants.{ReadLog}, declared.tape.Fault.{Fault}};
+ghost use Rattle.refinement.specs.{Fragments.{TapeGrows, SparesOtherPorts, GainsNoMove}, PreservedParts.{DoesNotWrite}};
+ghost use Rattle.error_recovery.specs.{Evidence.{BringsLog, HasFailed, ShowsFatal}, Recovery.{IsRecoveryAccess}, Witness.{MayRecoverWitness, StopWitness}};
 
 use super::prerequisites::law_prerequisites;
 use adapter::laws::law_accesses_compose;
 use refinement::laws::{
-    law_a_first_read_agrees, law_putting_is_of_one_slot, law_two_queued_reads_agree,
+    law_a_first_read_agrees, law_setting_changes_one_slot, law_two_queued_reads_agree,
     law_writing_cmd_is_permitted,
 };
 use refinement::recovery_witnesses::law_a_fault_is_seen;
@@ -74,7 +64,7 @@ pub fn law_a_port_may_be_recovered()
     law_a_fault_is_seen();
     law_a_first_read_agrees();
     law_two_queued_reads_agree();
-    law_putting_is_of_one_slot();
+    law_setting_changes_one_slot();
     law_prerequisites();
 }
 
@@ -85,6 +75,6 @@ pub fn law_a_port_may_be_stopped()
 {
     law_a_first_read_agrees();
     law_writing_cmd_is_permitted();
-    law_putting_is_of_one_slot();
+    law_setting_changes_one_slot();
     law_prerequisites();
 }

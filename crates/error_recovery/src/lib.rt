@@ -9,17 +9,11 @@
 
 ghost use Rattle.std.specs.Prelude.{ℕ, Bool, true, false, None, Some, ◌≡◌, ◌<◌, ◌≤◌, ◌%◌, ◌/◌, IfSome, IfNone};
 ghost use Rattle.hba_regs.specs.Bits.{bit};
-ghost use Rattle.adapter.specs.Device.{Device};
-ghost use Rattle.adapter.specs.Rules.{IsOn, HasPort};
-ghost use Rattle.refinement.specs.Fragments.{RelatesWith, AnyUse};
-ghost use Rattle.refinement.specs.Driver.{AllFree};
-ghost use Rattle.disk_page.specs.PageRequests.{MayAskForPage};
-ghost use Rattle.error_recovery.specs.RecoveryParts.{AsksForLog, StopGetsStuck, StartsAgain, HasDriverMemory, MayStartAgain, StopsAndClears, IsClearedForRecovery};
-ghost use Rattle.error_recovery.specs.Recovery.{StopsForReset, IsNamedSlot, MayHandleError, MayRecover, SplitsOutstanding, Recovers};
-ghost use Rattle.adapter.specs.AccessBounds.{MakesAtMost};
-ghost use Rattle.disk_page.specs.Costs.{PAGE_ACCESSES};
+ghost use Rattle.adapter.specs.{Device.{Device}, Rules.{IsOn, HasPort}, AccessBounds.{MakesAtMost}};
+ghost use Rattle.refinement.specs.{Fragments.{SomeMachineAgreesWith, AnySlotStates}, Driver.{AllFree}};
+ghost use Rattle.disk_page.specs.{PageRequests.{PortMayAskForPage}, Costs.{PAGE_ACCESSES}};
+ghost use Rattle.error_recovery.specs.{RecoveryParts.{AsksForLog, StopGetsStuck, StartsAgain, IsOnWithDriverMemory, MayStartAgain, StopsAndClears, MayFinishRecovery, FinishesRecovery}, Recovery.{StopsForReset, IsNamedSlot, MayHandleError, PortMayRecover, SplitsOutstanding, Recovers}, Costs.{FINISH_QUEUED_ACCESSES, STOP_AND_CLEAR_ACCESSES, RECOVER_ACCESSES}};
 ghost use Rattle.port_control.specs.Costs.{START_ACCESSES, STOP_ACCESSES};
-ghost use Rattle.error_recovery.specs.Costs.{FINISH_QUEUED_ACCESSES, STOP_AND_CLEAR_ACCESSES, RECOVER_ACCESSES};
 
 pub mod laws;
 mod prerequisites;
@@ -69,10 +63,10 @@ struct StoppedAndCleared {
 
 /// Reads PxTFD, stops the port, has it forget its errors, and reads PxTFD again. `None` where the engine is stuck.
 fn stop_and_clear<A: Adapter>(adapter: &mut A, port: Port) -> Option<StoppedAndCleared>
-    requires room { HasDriverMemory port.0 (A.device adapter.old) }
-    requires may { MayRecover port.0 (A.device adapter.old) }
-    requires agreed { RelatesWith AnyUse (A.device adapter.old) }
-    ensures on { IsOn (A.device adapter.new) }
+    requires room { IsOnWithDriverMemory port.0 (A.device adapter.old) }
+    requires may { PortMayRecover port.0 (A.device adapter.old) }
+    requires some_machine_agrees { SomeMachineAgreesWith AnySlotStates (A.device adapter.old) }
+    ensures adapter_is_on { IsOn (A.device adapter.new) }
     ensures quiets { IfSome result (λ q. (q.stopped.port ≡ port)
         × StopsAndClears port q.fault.0 q.shown.0 (A.device adapter.old) (A.device adapter.new)) }
     ensures sticks { IfNone result (StopGetsStuck port (A.device adapter.old) (A.device adapter.new)) }
@@ -105,11 +99,11 @@ fn start_again<A: Adapter>(adapter: &mut A, stopped: Stopped) -> Running
 
 /// Which of the outstanding queued commands failed, as the disk's log tells.
 fn read_log<A: Adapter>(adapter: &mut A, port: Port, outstanding: u32) -> Option<FailedSlot>
-    requires room { HasDriverMemory port.0 (A.device adapter.old) }
-    requires may { MayAskForPage port.0 (A.device adapter.old) }
-    requires agreed { RelatesWith (λ uses. AllFree uses port.0) (A.device adapter.old) }
-    ensures on { IsOn (A.device adapter.new) }
-    ensures agreed { RelatesWith AnyUse (A.device adapter.new) }
+    requires room { IsOnWithDriverMemory port.0 (A.device adapter.old) }
+    requires may { PortMayAskForPage port.0 (A.device adapter.old) }
+    requires some_machine_agrees { SomeMachineAgreesWith (λ uses. AllFree uses port.0) (A.device adapter.old) }
+    ensures adapter_is_on { IsOn (A.device adapter.new) }
+    ensures some_machine_agrees { SomeMachineAgreesWith AnySlotStates (A.device adapter.new) }
     ensures asks { AsksForLog port outstanding result (A.device adapter.old) (A.device adapter.new) }
     ensures cost { MakesAtMost PAGE_ACCESSES (A.access_count adapter.old) (A.access_count adapter.new) }
 {
@@ -154,78 +148,61 @@ fn others(outstanding: u32, failed: &Option<FailedSlot>) -> u32
     }
 }
 
-/// Goes on with a port that was quieted: names the plain command that failed, if one is outstanding, and has the port
-/// run again, unless its disk is busy or asks for a transfer.
-fn finish_plain<A: Adapter>(
-    adapter: &mut A,
-    quieted: StoppedAndCleared,
-    outstanding: u32,
-) -> Recovered
-    requires resumes { (old : Device)
-        × IsClearedForRecovery quieted.stopped.port outstanding false quieted.fault.0 quieted.shown.0
-        old (A.device adapter.old) }
-    ensures on { IsOn (A.device adapter.new) }
-    ensures recovers { (old : Device)
-        → IsClearedForRecovery quieted.stopped.port outstanding false quieted.fault.0 quieted.shown.0
-        old (A.device adapter.old)
-        → Recovers quieted.stopped.port outstanding false result old (A.device adapter.new) }
-    ensures cost { MakesAtMost START_ACCESSES (A.access_count adapter.old) (A.access_count adapter.new) }
-{
-    law_prerequisites();
-    let failed = fault_of(outstanding, quieted.fault);
-    let again = others(outstanding, &failed);
-    if is_bsy_or_drq(quieted.shown) {
-        let next = Next::Restart(quieted.stopped);
-        return Recovered {
-            failed,
-            again,
-            next,
-        };
-    }
-    let next = Next::Running(start_again(adapter, quieted.stopped));
-    Recovered {
-        failed,
-        again,
-        next,
-    }
-}
-
-/// Goes on with a port that was quieted: has it run again, unless its disk is busy or asks for a transfer, and asks the
-/// log which of the outstanding queued commands failed. Where it names none of them, the port is stopped again.
-fn finish_queued<A: Adapter>(
-    adapter: &mut A,
-    quieted: StoppedAndCleared,
-    outstanding: u32,
-) -> Recovered
-    requires resumes { (old : Device)
-        × IsClearedForRecovery quieted.stopped.port outstanding true quieted.fault.0 quieted.shown.0
-        old (A.device adapter.old) }
-    ensures on { IsOn (A.device adapter.new) }
-    ensures recovers { (old : Device)
-        → IsClearedForRecovery quieted.stopped.port outstanding true quieted.fault.0 quieted.shown.0
-        old (A.device adapter.old)
-        → Recovers quieted.stopped.port outstanding true result old (A.device adapter.new) }
-    ensures cost { MakesAtMost FINISH_QUEUED_ACCESSES (A.access_count adapter.old) (A.access_count adapter.new) }
-{
-    law_prerequisites();
-    if is_bsy_or_drq(quieted.shown) {
-        return unnamed(outstanding, Next::Restart(quieted.stopped));
-    }
-    let running = start_again(adapter, quieted.stopped);
-    let port = running.port();
-    if let Some(failed) = read_log(adapter, port, outstanding) {
-        let failed = Some(failed);
+impl StoppedAndCleared {
+    /// Goes on with the port: names the plain command that failed, if one is outstanding, and has the port
+    /// run again, unless its disk is busy or asks for a transfer.
+    fn finish_plain<A: Adapter>(self, adapter: &mut A, outstanding: u32) -> Recovered
+        requires resumes { MayFinishRecovery self outstanding false (A.device adapter.old) }
+        ensures finishes { FinishesRecovery self outstanding false result (A.device adapter.old)
+            (A.device adapter.new) }
+        ensures cost { MakesAtMost START_ACCESSES (A.access_count adapter.old) (A.access_count adapter.new) }
+    {
+        law_prerequisites();
+        let failed = fault_of(outstanding, self.fault);
         let again = others(outstanding, &failed);
-        let next = Next::Running(running);
-        return Recovered {
+        if is_bsy_or_drq(self.shown) {
+            let next = Next::Restart(self.stopped);
+            return Recovered {
+                failed,
+                again,
+                next,
+            };
+        }
+        let next = Next::Running(start_again(adapter, self.stopped));
+        Recovered {
             failed,
             again,
             next,
-        };
+        }
     }
-    match stop(adapter, port) {
-        Ok(stopped) => unnamed(outstanding, Next::Restart(stopped)),
-        Err(_) => unnamed(outstanding, Next::Dead),
+
+    /// Goes on with the port: has it run again, unless its disk is busy or asks for a transfer, and asks the
+    /// log which of the outstanding queued commands failed. Where it names none of them, the port is stopped again.
+    fn finish_queued<A: Adapter>(self, adapter: &mut A, outstanding: u32) -> Recovered
+        requires resumes { MayFinishRecovery self outstanding true (A.device adapter.old) }
+        ensures finishes { FinishesRecovery self outstanding true result (A.device adapter.old) (A.device adapter.new) }
+        ensures cost { MakesAtMost FINISH_QUEUED_ACCESSES (A.access_count adapter.old) (A.access_count adapter.new) }
+    {
+        law_prerequisites();
+        if is_bsy_or_drq(self.shown) {
+            return unnamed(outstanding, Next::Restart(self.stopped));
+        }
+        let running = start_again(adapter, self.stopped);
+        let port = running.port();
+        if let Some(failed) = read_log(adapter, port, outstanding) {
+            let failed = Some(failed);
+            let again = others(outstanding, &failed);
+            let next = Next::Running(running);
+            return Recovered {
+                failed,
+                again,
+                next,
+            };
+        }
+        match stop(adapter, port) {
+            Ok(stopped) => unnamed(outstanding, Next::Restart(stopped)),
+            Err(_) => unnamed(outstanding, Next::Dead),
+        }
     }
 }
 
@@ -252,9 +229,9 @@ fn unnamed(outstanding: u32, next: Next) -> Recovered
 /// isn't outstanding, the port is stopped again, nobody is named, and it has to be booted. Where an engine is stuck for
 /// 64 readings of PxCMD, the port is dead, and nobody is named.
 pub fn recover<A: Adapter>(adapter: &mut A, port: Port, outstanding: u32, queued: bool) -> Recovered
-    requires ready { MayHandleError port outstanding queued (A.device adapter.old) }
-    requires may { MayRecover port.0 (A.device adapter.old) }
-    ensures on { IsOn (A.device adapter.new) }
+    requires may_handle_error { MayHandleError port outstanding queued (A.device adapter.old) }
+    requires may { PortMayRecover port.0 (A.device adapter.old) }
+    ensures adapter_is_on { IsOn (A.device adapter.new) }
     ensures recovers { Recovers port outstanding queued result (A.device adapter.old) (A.device adapter.new) }
     ensures cost { MakesAtMost RECOVER_ACCESSES (A.access_count adapter.old) (A.access_count adapter.new) }
 {
@@ -263,9 +240,9 @@ pub fn recover<A: Adapter>(adapter: &mut A, port: Port, outstanding: u32, queued
         return unnamed(outstanding, Next::Dead);
     };
     if queued {
-        finish_queued(adapter, quieted, outstanding)
+        quieted.finish_queued(adapter, outstanding)
     } else {
-        finish_plain(adapter, quieted, outstanding)
+        quieted.finish_plain(adapter, outstanding)
     }
 }
 
@@ -274,11 +251,11 @@ pub fn recover<A: Adapter>(adapter: &mut A, port: Port, outstanding: u32, queued
 /// `outstanding` are the slots whose commands aren't done, bit k for slot k. Nobody is named. Where its engine is stuck
 /// for 64 readings of PxCMD, the port is dead.
 pub fn stop_for_reset<A: Adapter>(adapter: &mut A, port: Port, outstanding: u32) -> Recovered
-    requires on { IsOn (A.device adapter.old) }
-    requires there { HasPort (A.device adapter.old) port.0 }
-    requires agreed { RelatesWith AnyUse (A.device adapter.old) }
-    ensures on { IsOn (A.device adapter.new) }
-    ensures gives_up { (queued : Bool) → StopsForReset port outstanding queued result (A.device adapter.old)
+    requires adapter_is_on { IsOn (A.device adapter.old) }
+    requires has_port { HasPort (A.device adapter.old) port.0 }
+    requires machine_is_related { SomeMachineAgreesWith AnySlotStates (A.device adapter.old) }
+    ensures adapter_is_on { IsOn (A.device adapter.new) }
+    ensures stops_for_reset { (queued : Bool) → StopsForReset port outstanding queued result (A.device adapter.old)
         (A.device adapter.new) }
     ensures cost { MakesAtMost STOP_ACCESSES (A.access_count adapter.old) (A.access_count adapter.new) }
 {

@@ -6,13 +6,13 @@ use disk_page::laws::{law_asking_is_of_one_port, law_what_is_told_of_waits_stays
 use port_control::laws::law_what_is_told_of_engines_stays;
 use refinement::access_kinds::{law_controls_are_of_a_port, law_fragment_prerequisites};
 use refinement::fragments::{
-    law_other_ports_are_left, law_tape_prerequisites, law_unused_slots_are_silent,
+    law_other_ports_are_untouched, law_tape_prerequisites, law_unused_slots_are_silent,
 };
 use refinement::giving_up::{law_fault_is_outstanding, law_slots_are_given_up};
-use refinement::laws::law_putting_is_of_one_slot;
+use refinement::laws::law_setting_changes_one_slot;
 use refinement::port_facts::{
     law_adapter_stays, law_cleared_stays, law_controls_stay, law_errors_are_shown,
-    law_fault_is_found, law_faults_are_recorded, law_notes_stay, law_plugging_is_found,
+    law_fault_is_found, law_faults_are_recorded, law_notes_stay, law_plug_events_are_found,
     law_running_well_is_found,
 };
 use refinement::recovering::{
@@ -33,18 +33,18 @@ pub fn law_prerequisites()
     law_fault_is_found();
     law_faults_are_recorded();
     law_notes_stay();
-    law_plugging_is_found();
+    law_plug_events_are_found();
     law_running_well_is_found();
     law_fault_is_outstanding();
     law_slots_are_given_up();
     law_fragment_prerequisites::<Brand>();
     law_controls_are_of_a_port::<Brand>();
-    law_putting_is_of_one_slot();
+    law_setting_changes_one_slot();
     law_plain_work_stays();
     law_faults_show_before_the_end();
     law_link_stays_online();
     law_running_goes_on();
-    law_other_ports_are_left();
+    law_other_ports_are_untouched();
     law_tape_prerequisites();
     law_unused_slots_are_silent();
     law_asking_is_of_one_port();

@@ -115,15 +115,15 @@ registers_are_one v a b p q s t = twenty a b s.size t.size
       at_8 = omega (arith, s.lba, t.lba, p 4, q 4, p 5, q 5, p 6, q 6, p 8, q 8, p 9, q 9, p 10, q 10);
       at_9 = omega (arith, s.lba, t.lba, p 4, q 4, p 5, q 5, p 6, q 6, p 8, q 8, p 9, q 9, p 10, q 10);
       at_10 = omega (arith, s.lba, t.lba, p 4, q 4, p 5, q 5, p 6, q 6, p 8, q 8, p 9, q 9, p 10, q 10);
-      at_11 = s.features ∙ sym t.features;
+      at_11 = s.byte_11_is_zero ∙ sym t.byte_11_is_zero;
       at_12 = omega (arith, s.count, t.count, p 12, q 12, p 13, q 13);
       at_13 = omega (arith, s.count, t.count, p 12, q 12, p 13, q 13);
-      at_14 = s.rest 14 (omega arith) (omega arith) ∙ sym (t.rest 14 (omega arith) (omega arith));
-      at_15 = s.rest 15 (omega arith) (omega arith) ∙ sym (t.rest 15 (omega arith) (omega arith));
-      at_16 = s.rest 16 (omega arith) (omega arith) ∙ sym (t.rest 16 (omega arith) (omega arith));
-      at_17 = s.rest 17 (omega arith) (omega arith) ∙ sym (t.rest 17 (omega arith) (omega arith));
+      at_14 = s.rest_is_zero 14 (omega arith) (omega arith) ∙ sym (t.rest_is_zero 14 (omega arith) (omega arith));
+      at_15 = s.rest_is_zero 15 (omega arith) (omega arith) ∙ sym (t.rest_is_zero 15 (omega arith) (omega arith));
+      at_16 = s.rest_is_zero 16 (omega arith) (omega arith) ∙ sym (t.rest_is_zero 16 (omega arith) (omega arith));
+      at_17 = s.rest_is_zero 17 (omega arith) (omega arith) ∙ sym (t.rest_is_zero 17 (omega arith) (omega arith));
     })
-    (λ k low high. s.rest k (omega arith) high) (λ k low high. t.rest k (omega arith) high)
+    (λ k low high. s.rest_is_zero k (omega arith) high) (λ k low high. t.rest_is_zero k (omega arith) high)
 
 pub tags_are_one : (v : SetDeviceBits) (a b : List ℕ) → AreBytes a → AreBytes b → EncodesSetDeviceBits a v → EncodesSetDeviceBits b v → a ≡ b
 tags_are_one v a b p q s t = eight a b s.size t.size (record {
@@ -141,7 +141,7 @@ pub setup_is_one : (v : PioSetup) (a b : List ℕ) → AreBytes a → AreBytes b
 setup_is_one v a b p q s t = twenty a b s.size t.size
     (record {
       at_0 = s.fis_type ∙ sym t.fis_type;
-      at_1 = s.bits ∙ sym t.bits;
+      at_1 = s.i_and_d_bits ∙ sym t.i_and_d_bits;
       at_2 = s.status ∙ sym t.status;
       at_3 = s.error ∙ sym t.error;
       at_4 = omega (arith, s.lba, t.lba, p 4, q 4, p 5, q 5, p 6, q 6, p 8, q 8, p 9, q 9, p 10, q 10);
@@ -153,12 +153,12 @@ setup_is_one v a b p q s t = twenty a b s.size t.size
       at_8 = omega (arith, s.lba, t.lba, p 4, q 4, p 5, q 5, p 6, q 6, p 8, q 8, p 9, q 9, p 10, q 10);
       at_9 = omega (arith, s.lba, t.lba, p 4, q 4, p 5, q 5, p 6, q 6, p 8, q 8, p 9, q 9, p 10, q 10);
       at_10 = omega (arith, s.lba, t.lba, p 4, q 4, p 5, q 5, p 6, q 6, p 8, q 8, p 9, q 9, p 10, q 10);
-      at_11 = s.features ∙ sym t.features;
+      at_11 = s.byte_11_is_zero ∙ sym t.byte_11_is_zero;
       at_12 = omega (arith, s.count, t.count, p 12, q 12, p 13, q 13);
       at_13 = omega (arith, s.count, t.count, p 12, q 12, p 13, q 13);
-      at_14 = s.gap ∙ sym t.gap;
+      at_14 = s.byte_14_is_zero ∙ sym t.byte_14_is_zero;
       at_15 = s.ending_status ∙ sym t.ending_status;
       at_16 = omega (arith, s.transfer_count, t.transfer_count, p 16, q 16, p 17, q 17);
       at_17 = omega (arith, s.transfer_count, t.transfer_count, p 16, q 16, p 17, q 17);
     })
-    s.rest t.rest
+    s.rest_is_zero t.rest_is_zero

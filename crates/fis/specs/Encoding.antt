@@ -29,9 +29,9 @@ pub record EncodesDeviceToHost (bytes : List ℕ) (d : DeviceToHost) : Type 0 wh
   pub error : slice_index bytes 3 ≡ d.error
   pub lba : lba_at bytes ≡ d.lba
   pub device : slice_index bytes 7 ≡ d.device
-  pub features : slice_index bytes 11 ≡ 0
+  pub byte_11_is_zero : slice_index bytes 11 ≡ 0
   pub count : little_from 12 2 bytes ≡ d.count
-  pub rest : AreZero bytes 14 20
+  pub rest_is_zero : AreZero bytes 14 20
 
 -- A Set Device Bits FIS: I in bit 6 of byte 1, and a status without bits 7 and 3
 pub record EncodesSetDeviceBits (bytes : List ℕ) (s : SetDeviceBits) : Type 0 where
@@ -39,7 +39,7 @@ pub record EncodesSetDeviceBits (bytes : List ℕ) (s : SetDeviceBits) : Type 0 
   pub fis_type : slice_index bytes 0 ≡ 0xa1
   pub i_bit : slice_index bytes 1 ≡ placed_bit s.interrupt 6
   pub status : slice_index bytes 2 ≡ s.status
-  pub status_bits : bit_and s.status 0x88 ≡ 0
+  pub reserved_status_bits_are_zero : bit_and s.status 0x88 ≡ 0
   pub error : slice_index bytes 3 ≡ s.error
   pub tags : little_from 4 4 bytes ≡ s.tags
 
@@ -47,14 +47,14 @@ pub record EncodesSetDeviceBits (bytes : List ℕ) (s : SetDeviceBits) : Type 0 
 pub record EncodesPioSetup (bytes : List ℕ) (p : PioSetup) : Type 0 where
   pub size : length bytes ≡ 20
   pub fis_type : slice_index bytes 0 ≡ 0x5f
-  pub bits : slice_index bytes 1 ≡ placed_bit p.interrupt 6 + placed_bit p.to_host 5
+  pub i_and_d_bits : slice_index bytes 1 ≡ placed_bit p.interrupt 6 + placed_bit p.to_host 5
   pub status : slice_index bytes 2 ≡ p.status
   pub error : slice_index bytes 3 ≡ p.error
   pub lba : lba_at bytes ≡ p.lba
   pub device : slice_index bytes 7 ≡ p.device
-  pub features : slice_index bytes 11 ≡ 0
+  pub byte_11_is_zero : slice_index bytes 11 ≡ 0
   pub count : little_from 12 2 bytes ≡ p.count
-  pub gap : slice_index bytes 14 ≡ 0
+  pub byte_14_is_zero : slice_index bytes 14 ≡ 0
   pub ending_status : slice_index bytes 15 ≡ p.ending_status
   pub transfer_count : little_from 16 2 bytes ≡ p.transfer_count
-  pub rest : AreZero bytes 18 20
+  pub rest_is_zero : AreZero bytes 18 20

@@ -1,12 +1,7 @@
 // Laws of the codecs, for callers. What is encoded comes back from its decoder, and each value has one spelling.
-ghost use Rattle.std.specs.Prelude.{◌≡◌, ◌<◌, ◌^◌, ℕ, List, Some};
-ghost use Rattle.std.specs.Int.RustNames.{bit_and};
-ghost use Rattle.adapter.specs.Encoding.{EncodesCommand};
-ghost use Rattle.adapter.specs.declared.command.Command.{Command};
-ghost use Rattle.fis.specs.declared.DeviceToHost.{DeviceToHost};
-ghost use Rattle.fis.specs.declared.PioSetup.{PioSetup};
-ghost use Rattle.fis.specs.declared.SetDeviceBits.{SetDeviceBits};
-ghost use Rattle.fis.specs.Encoding.{AreBytes, EncodesDeviceToHost, EncodesPioSetup, EncodesSetDeviceBits};
+ghost use Rattle.std.specs.{Prelude.{◌≡◌, ◌<◌, ◌^◌, ℕ, List, Some}, Int.RustNames.{bit_and}};
+ghost use Rattle.adapter.specs.{Encoding.{EncodesCommand}, declared.command.Command.{Command}};
+ghost use Rattle.fis.specs.{declared.DeviceToHost.{DeviceToHost}, declared.PioSetup.{PioSetup}, declared.SetDeviceBits.{SetDeviceBits}, Encoding.{AreBytes, EncodesDeviceToHost, EncodesPioSetup, EncodesSetDeviceBits}};
 
 use crate::{
     DeviceToHost, PioSetup, SetDeviceBits, decode_d2h, decode_h2d, decode_pio_setup,
@@ -47,13 +42,14 @@ pub fn round_trip_pio_setup(fis: &PioSetup) -> Option<PioSetup>
 }
 
 /// No value has two spellings in bytes. This function does nothing.
-pub fn law_each_has_one_spelling()
+pub fn law_encodings_are_unique()
     ensures command { (c : Command) (a b : List ℕ) → AreBytes a → AreBytes b → EncodesCommand a c → EncodesCommand b c
         → a ≡ b }
-    ensures registers { (d : DeviceToHost) (a b : List ℕ) → AreBytes a → AreBytes b → EncodesDeviceToHost a d
+    ensures device_to_host { (d : DeviceToHost) (a b : List ℕ) → AreBytes a → AreBytes b → EncodesDeviceToHost a d
         → EncodesDeviceToHost b d → a ≡ b }
-    ensures tags { (s : SetDeviceBits) (a b : List ℕ) → AreBytes a → AreBytes b → EncodesSetDeviceBits a s
+    ensures set_device_bits { (s : SetDeviceBits) (a b : List ℕ) → AreBytes a → AreBytes b → EncodesSetDeviceBits a s
         → EncodesSetDeviceBits b s → a ≡ b }
-    ensures setup { (p : PioSetup) (a b : List ℕ) → AreBytes a → AreBytes b → EncodesPioSetup a p → EncodesPioSetup b p
+    ensures pio_setup { (p : PioSetup) (a b : List ℕ) → AreBytes a → AreBytes b → EncodesPioSetup a p
+        → EncodesPioSetup b p
         → a ≡ b }
 {}

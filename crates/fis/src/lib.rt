@@ -5,14 +5,9 @@
 //! those of what a disk sends.
 #![tactic(auto)]
 
-ghost use Rattle.std.specs.Prelude.{◌≡◌, ◌<◌, ◌≤◌, ◌^◌, ◌↔◌, IsTrue, IfSome, Some, length};
-ghost use Rattle.std.specs.Int.RustNames.{bit_and};
-ghost use Rattle.adapter.specs.Encoding.{AreZero, EncodesCommand};
-ghost use Rattle.adapter.specs.declared.command.Command.{Command};
-ghost use Rattle.fis.specs.declared.DeviceToHost.{DeviceToHost};
-ghost use Rattle.fis.specs.declared.PioSetup.{PioSetup};
-ghost use Rattle.fis.specs.declared.SetDeviceBits.{SetDeviceBits};
-ghost use Rattle.fis.specs.Encoding.{lba_at, EncodesDeviceToHost, EncodesPioSetup, EncodesSetDeviceBits};
+ghost use Rattle.std.specs.{Prelude.{◌≡◌, ◌<◌, ◌≤◌, ◌^◌, ◌↔◌, IsTrue, IfSome, Some, length}, Int.RustNames.{bit_and}};
+ghost use Rattle.adapter.specs.{Encoding.{AreZero, EncodesCommand}, declared.command.Command.{Command}};
+ghost use Rattle.fis.specs.{declared.DeviceToHost.{DeviceToHost}, declared.PioSetup.{PioSetup}, declared.SetDeviceBits.{SetDeviceBits}, Encoding.{lba_at, EncodesDeviceToHost, EncodesPioSetup, EncodesSetDeviceBits}};
 
 pub mod laws;
 
@@ -147,7 +142,7 @@ pub fn encode_h2d(command: &Command) -> [u8; 20]
 /// The command that the bytes spell as a Register FIS from host to device, if they do.
 pub fn decode_h2d(bytes: &[u8]) -> Option<Command>
     ensures found { IfSome result (EncodesCommand bytes.now) }
-    ensures only { (c : Command) → EncodesCommand bytes.now c → result ≡ Some c }
+    ensures complete { (c : Command) → EncodesCommand bytes.now c → result ≡ Some c }
 {
     if bytes.len() != COMMAND_BYTES
         || bytes[0] != HOST_TO_DEVICE
@@ -199,7 +194,7 @@ pub fn encode_d2h(fis: &DeviceToHost) -> [u8; 20]
 /// The registers that the bytes spell as a Register FIS from device to host, if they do.
 pub fn decode_d2h(bytes: &[u8]) -> Option<DeviceToHost>
     ensures found { IfSome result (EncodesDeviceToHost bytes.now) }
-    ensures only { (d : DeviceToHost) → EncodesDeviceToHost bytes.now d → result ≡ Some d }
+    ensures complete { (d : DeviceToHost) → EncodesDeviceToHost bytes.now d → result ≡ Some d }
 {
     if bytes.len() != REGISTER_BYTES
         || bytes[0] != DEVICE_TO_HOST
@@ -244,7 +239,7 @@ pub fn encode_set_device_bits(fis: &SetDeviceBits) -> [u8; 8]
 /// The tags that the bytes spell as a Set Device Bits FIS, if they do.
 pub fn decode_set_device_bits(bytes: &[u8]) -> Option<SetDeviceBits>
     ensures found { IfSome result (EncodesSetDeviceBits bytes.now) }
-    ensures only { (s : SetDeviceBits) → EncodesSetDeviceBits bytes.now s → result ≡ Some s }
+    ensures complete { (s : SetDeviceBits) → EncodesSetDeviceBits bytes.now s → result ≡ Some s }
 {
     if bytes.len() != TAG_BYTES || bytes[0] != SET_DEVICE_BITS || bytes[2] & UNSET_STATUS != 0 {
         return None;
@@ -299,7 +294,7 @@ pub fn encode_pio_setup(fis: &PioSetup) -> [u8; 20]
 /// The transfer that the bytes spell as a PIO Setup FIS, if they do.
 pub fn decode_pio_setup(bytes: &[u8]) -> Option<PioSetup>
     ensures found { IfSome result (EncodesPioSetup bytes.now) }
-    ensures only { (p : PioSetup) → EncodesPioSetup bytes.now p → result ≡ Some p }
+    ensures complete { (p : PioSetup) → EncodesPioSetup bytes.now p → result ≡ Some p }
 {
     if bytes.len() != SETUP_BYTES
         || bytes[0] != PIO_SETUP

@@ -5,7 +5,7 @@ use Rattle.hba_regs.specs.declared.reg.PortReg.TheVariants.{Clb, Clbu, Fb, Fbu, 
 use Rattle.hba_regs.specs.declared.reg.Reg.{Reg}
 use Rattle.hba_regs.specs.declared.reg.Reg.TheVariants.{Cap, Ghc, Pi, Vs, Px}
 use Rattle.follow.specs.declared.differences.KnownDifference.{KnownDifference}
-use Rattle.follow.specs.declared.differences.KnownDifference.TheVariants.{OtherCapabilities, FurtherPorts, AlwaysAhci, Causes, StatusWithoutFault, FailedSlots, UntakenSlots}
+use Rattle.follow.specs.declared.differences.KnownDifference.TheVariants.{OtherCapabilities, FurtherPorts, AlwaysAhci, InterruptCauses, StatusWithoutFault, FailedSlots, UntakenSlots}
 
 -- the bits of a port's register that `PortShows` of the crate `adapter` names (of an address, once it was written)
 abbrev pub named_port_bits : PortReg → ℕ
@@ -38,7 +38,7 @@ abbrev pub difference_bits : KnownDifference → ℕ → ℕ
 difference_bits OtherCapabilities slots = 0xbfffe0ff
 difference_bits FurtherPorts slots = 0xfffffff0
 difference_bits AlwaysAhci slots = 0x80000000
-difference_bits Causes slots = 0xb
+difference_bits InterruptCauses slots = 0xb
 difference_bits StatusWithoutFault slots = if nat_eq slots 0 then 0xff77 else 0
 difference_bits FailedSlots slots = slots
 difference_bits UntakenSlots slots = slots
@@ -48,7 +48,7 @@ abbrev pub difference_of : Reg → Option KnownDifference
 difference_of Cap = Some OtherCapabilities
 difference_of Pi = Some FurtherPorts
 difference_of Ghc = Some AlwaysAhci
-difference_of (Px port Is) = Some Causes
+difference_of (Px port Is) = Some InterruptCauses
 difference_of (Px port Tfd) = Some StatusWithoutFault
 difference_of (Px port Ci) = Some FailedSlots
 difference_of (Px port Sact) = Some UntakenSlots
@@ -64,15 +64,16 @@ abbrev pub compared_bits : Reg → ℕ → ℕ
 compared_bits r slots = bits_without (named_bits r) (difference_of r) slots
 
 -- two values of a register agree, where these slots of its port are known to differ
-abbrev pub MatchesUpToKnown : Reg → (slots shown said : ℕ) → Type 0
-MatchesUpToKnown r slots shown said = bit_and shown (compared_bits r slots) ≡ bit_and said (compared_bits r slots)
+abbrev pub MatchesUpToKnown : Reg → (slots model_value peer_value : ℕ) → Type 0
+MatchesUpToKnown r slots model_value peer_value = bit_and model_value (compared_bits r slots)
+    ≡ bit_and peer_value (compared_bits r slots)
 
 -- each known difference has a place
 abbrev pub difference_index : KnownDifference → ℕ
 difference_index OtherCapabilities = 0
 difference_index FurtherPorts = 1
 difference_index AlwaysAhci = 2
-difference_index Causes = 3
+difference_index InterruptCauses = 3
 difference_index StatusWithoutFault = 4
 difference_index FailedSlots = 5
 difference_index UntakenSlots = 6

@@ -7,7 +7,7 @@ use Rattle.hba_regs.specs.declared.reg.PortReg.TheVariants.{Tfd, Sact}
 use Rattle.hba_regs.specs.declared.reg.Reg.{Reg}
 use Rattle.hba_regs.specs.declared.reg.Reg.TheVariants.{Px}
 use Rattle.follow.specs.declared.differences.KnownDifference.{KnownDifference}
-use Rattle.follow.specs.declared.followed.Differing.{Differing}
+use Rattle.follow.specs.declared.followed.DifferingSlotMasks.{DifferingSlotMasks}
 use Rattle.follow.specs.ComparedBits.{difference_index}
 
 -- The device has gone on from the one state to the other by steps alone: whatever steps lead to the one, steps lead to
@@ -16,7 +16,7 @@ abbrev pub GoesOnBySteps : Device → Device → Type 0
 GoesOnBySteps old new = (start : Device) → Steps start old → Steps start new
 
 -- the slots by which the known difference of a register goes, of its port
-abbrev pub differing_slots : Reg → Differing → ℕ
+abbrev pub differing_slots : Reg → DifferingSlotMasks → ℕ
 differing_slots (Px port Sact) d = slice_index d.untaken port.0
 differing_slots (Px port Tfd) d = slice_index d.plain port.0
 differing_slots (Px port r) d = slice_index d.failed port.0
@@ -30,7 +30,7 @@ NotesSlot is_added port slot old new =
     → bit (slice_index new q) k ≡ (bit (slice_index old q) k || (is_added && (nat_eq q port && nat_eq k slot)))
 
 -- It is noted that a slot's command has failed, a queued one or a plain one, and nothing else.
-pub record NotesFailed (port slot : ℕ) (is_queued : Bool) (old new : Differing) : Type 0 where
+pub record NotesFailed (port slot : ℕ) (is_queued : Bool) (old new : DifferingSlotMasks) : Type 0 where
   pub failed_slots_are : NotesSlot true port slot old.failed new.failed
   pub plain_slots_are : NotesSlot (not is_queued) port slot old.plain new.plain
   pub untaken_slots_are : new.untaken ≡ old.untaken

@@ -11,9 +11,9 @@ pub struct FollowArgs {
     pub config: String,
     pub script: String,
     /// The file that takes a line for each access.
-    pub to: String,
+    pub to_peer: String,
     /// The file that gives a line for each.
-    pub from: String,
+    pub from_peer: String,
     /// Where the adapter's registers begin.
     pub registers: u32,
     /// The disks of the model, from port 0 on: one to four.
@@ -49,8 +49,8 @@ impl FollowArgs {
         Ok(FollowArgs {
             config: config.clone()?,
             script: script.clone()?,
-            to: to.clone()?,
-            from: from.clone()?,
+            to_peer: to.clone()?,
+            from_peer: from.clone()?,
             registers,
             images: copied(rt.alloc(), images)?,
         })

@@ -5,8 +5,6 @@ ghost use Rattle.follow.specs.ComparedBits.{MatchesUpToKnown, difference_bits, c
 use hba_regs::{PortReg, Reg};
 use std::fmt;
 
-const ALL: u32 = 0xffff_ffff;
-
 /// How many known differences there are.
 const KNOWN: usize = 7;
 
@@ -27,7 +25,7 @@ pub enum KnownDifference {
     /// DHRS, PSS and SDBS of PxIS: the server clears them and looks which slots' bits fell (AHCI 1.3.1, 5.5.3). The
     /// model ends a command when its slot is seen to be clear, which may be after the write of PxIS that cleared its
     /// cause; and an adapter may tell of a Register FIS behind a page that came by PIO.
-    Causes,
+    InterruptCauses,
     /// PxTFD but for BSY and DRQ, while no plain command has failed on the port: the server uses status and error of a
     /// failed plain command alone (AHCI 1.3.1, 6.2.2); of a queued one it asks the log.
     StatusWithoutFault,
@@ -47,7 +45,7 @@ impl KnownDifference {
         KnownDifference::OtherCapabilities,
         KnownDifference::FurtherPorts,
         KnownDifference::AlwaysAhci,
-        KnownDifference::Causes,
+        KnownDifference::InterruptCauses,
         KnownDifference::StatusWithoutFault,
         KnownDifference::FailedSlots,
         KnownDifference::UntakenSlots,
@@ -62,7 +60,7 @@ impl KnownDifference {
             KnownDifference::OtherCapabilities => 0,
             KnownDifference::FurtherPorts => 1,
             KnownDifference::AlwaysAhci => 2,
-            KnownDifference::Causes => 3,
+            KnownDifference::InterruptCauses => 3,
             KnownDifference::StatusWithoutFault => 4,
             KnownDifference::FailedSlots => 5,
             KnownDifference::UntakenSlots => 6,
@@ -77,7 +75,7 @@ impl KnownDifference {
             KnownDifference::OtherCapabilities => 0xbfff_e0ff,
             KnownDifference::FurtherPorts => 0xffff_fff0,
             KnownDifference::AlwaysAhci => 0x8000_0000,
-            KnownDifference::Causes => 0x0000_000b,
+            KnownDifference::InterruptCauses => 0x0000_000b,
             KnownDifference::StatusWithoutFault if slots == 0 => 0x0000_ff77,
             KnownDifference::StatusWithoutFault => 0,
             KnownDifference::FailedSlots | KnownDifference::UntakenSlots => slots,
@@ -92,7 +90,7 @@ impl KnownDifference {
             Reg::Cap => Some(KnownDifference::OtherCapabilities),
             Reg::Pi => Some(KnownDifference::FurtherPorts),
             Reg::Ghc => Some(KnownDifference::AlwaysAhci),
-            Reg::Px(_, PortReg::Is) => Some(KnownDifference::Causes),
+            Reg::Px(_, PortReg::Is) => Some(KnownDifference::InterruptCauses),
             Reg::Px(_, PortReg::Tfd) => Some(KnownDifference::StatusWithoutFault),
             Reg::Px(_, PortReg::Ci) => Some(KnownDifference::FailedSlots),
             Reg::Px(_, PortReg::Sact) => Some(KnownDifference::UntakenSlots),
@@ -112,8 +110,8 @@ fn named_port_bits(r: PortReg) -> u32
         PortReg::Ssts | PortReg::Sctl => 0x0000_000f,
         PortReg::Serr => 0x0401_0000,
         PortReg::Is | PortReg::Ie => 0x7840_004b,
-        PortReg::Sig | PortReg::Ci | PortReg::Sact => ALL,
-        PortReg::Clb | PortReg::Clbu | PortReg::Fb | PortReg::Fbu => ALL,
+        PortReg::Sig | PortReg::Ci | PortReg::Sact => u32::MAX,
+        PortReg::Clb | PortReg::Clbu | PortReg::Fb | PortReg::Fbu => u32::MAX,
     }
 }
 
@@ -123,7 +121,7 @@ fn named(r: Reg) -> u32
     ensures { result ≡ named_bits r }
 {
     match r {
-        Reg::Cap | Reg::Pi | Reg::Vs => ALL,
+        Reg::Cap | Reg::Pi | Reg::Vs => u32::MAX,
         Reg::Ghc => 0x8000_0003,
         Reg::Is | Reg::Cap2 | Reg::Bohc => 0,
         Reg::Px(_, r) => named_port_bits(r),
@@ -163,14 +161,14 @@ pub fn shown_difference_of(r: Reg, slots: u32, shown: u32, said: u32) -> Option<
 
 /// Which known differences were met, and passed over.
 #[derive(Clone, Copy, Debug, PartialEq, Eq)]
-pub struct SeenDifferences {
+pub struct MetDifferences {
     /// By the place of each.
     met: [bool; KNOWN],
 }
 
-impl SeenDifferences {
+impl MetDifferences {
     /// None was.
-    pub const NONE: SeenDifferences = SeenDifferences {
+    pub const NONE: MetDifferences = MetDifferences {
         met: [false; KNOWN],
     };
 
@@ -189,7 +187,7 @@ impl SeenDifferences {
     }
 }
 
-impl fmt::Display for SeenDifferences {
+impl fmt::Display for MetDifferences {
     /// Their names, parted by spaces; `none` where there are none.
     fn fmt<W: fmt::Write>(&self, f: &mut fmt::Formatter<W>) -> fmt::Result {
         let mut is_first = true;

@@ -16,7 +16,7 @@ pub enum FollowError {
     /// The line of the script with this number is bad.
     Line(u64),
     /// The files of the peer can't be opened.
-    Peer,
+    PeerUnopened,
     /// Model and peer strayed.
     Diverged,
     /// Memory was refused.
@@ -69,7 +69,7 @@ impl fmt::Display for FollowError {
             FollowError::Unread => write!(f, "a file can't be read"),
             FollowError::Config(kind) => write!(f, "config {kind}"),
             FollowError::Line(number) => write!(f, "line {number}: bad"),
-            FollowError::Peer => write!(f, "the peer can't be reached"),
+            FollowError::PeerUnopened => write!(f, "the peer can't be reached"),
             FollowError::Diverged => write!(f, "model and peer don't agree"),
             FollowError::NoMemory => write!(f, "no memory"),
             FollowError::Unwritten => write!(f, "output"),

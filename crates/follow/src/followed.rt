@@ -1,16 +1,14 @@
 // The model, followed beside its peer.
 ghost use Rattle.std.specs.Prelude.{◌≡◌, ◌+◌, ◌<◌, ◌||◌, IfSome, None, is_some, slice_index, true};
-ghost use Rattle.adapter.specs.Access.{Reads};
-ghost use Rattle.adapter.specs.Rules.{MayRead};
-ghost use Rattle.follow.specs.ComparedBits.{MatchesUpToKnown, shown_difference};
-ghost use Rattle.follow.specs.DifferingSlots.{NotesSlot, GoesOnBySteps, NotesFailed, with_difference_met, differing_slots};
+ghost use Rattle.adapter.specs.{Access.{Reads}, Rules.{MayRead}};
+ghost use Rattle.follow.specs.{ComparedBits.{MatchesUpToKnown, shown_difference}, DifferingSlots.{NotesSlot, GoesOnBySteps, NotesFailed, with_difference_met, differing_slots}};
 
-use crate::differences::{SeenDifferences, matches_up_to_known, shown_difference_of};
+use crate::differences::{MetDifferences, matches_up_to_known, shown_difference_of};
 use crate::divergence::Divergence;
 use crate::peer::{Peer, PeerFault};
 use adapter::laws::{law_step_lists_keep_what_steps_keep, law_steps_compose};
 use adapter::{Adapter, DeviceStep, Entry, FatalError, Stepped};
-use ata_types::{DRIVER_BYTES, PORT_BYTES, PORTS, Port, SCRATCH_OFFSET, Slot};
+use ata_types::{DRIVER_BYTES, DRIVER_BYTES_PER_PORT, PORTS, Port, SCRATCH_OFFSET, Slot};
 use device_model::{Inspectable, TapedAdapter};
 use hba_regs::{
     GlobalControl, PortCommand, PortInterrupts, PortReg, Reg, SataStatus, TaskFile, is_set,
@@ -41,7 +39,7 @@ pub struct AccessCounts {
 
 /// By port, the slots by which the known differences go, since ST of the port was zero.
 #[derive(Clone, Copy, Debug, PartialEq, Eq)]
-pub struct Differing {
+pub struct DifferingSlotMasks {
     /// Those whose commands have failed.
     failed: [u32; PORTS],
     /// The plain ones of these.
@@ -50,9 +48,9 @@ pub struct Differing {
     untaken: [u32; PORTS],
 }
 
-impl Differing {
+impl DifferingSlotMasks {
     /// No command has failed.
-    const NONE: Differing = Differing {
+    const NONE: DifferingSlotMasks = DifferingSlotMasks {
         failed: [0; PORTS],
         plain: [0; PORTS],
         untaken: [0; PORTS],
@@ -94,13 +92,13 @@ pub struct Followed<A, P> {
     model: A,
     peer: P,
     /// Which slots may differ.
-    differing: Differing,
+    differing: DifferingSlotMasks,
     /// By port, PxCMD as the peer showed it last.
     commands: [u32; PORTS],
     /// What the peer showed last of the register that was read last.
     said: u32,
     /// The known differences that were met.
-    met_differences: SeenDifferences,
+    met_differences: MetDifferences,
     divergence: Option<Divergence>,
     counts: AccessCounts,
 }
@@ -110,15 +108,15 @@ impl<A: Inspectable, P: Peer> Followed<A, P> {
     /// access is made.
     pub fn new(model: A, peer: P) -> Followed<A, P>
         ensures model { result.model ≡ model }
-        ensures begun { result.divergence ≡ None }
+        ensures has_no_divergence { result.divergence ≡ None }
     {
         Followed {
             model,
             peer,
-            differing: Differing::NONE,
+            differing: DifferingSlotMasks::NONE,
             commands: [0; PORTS],
             said: 0,
-            met_differences: SeenDifferences::NONE,
+            met_differences: MetDifferences::NONE,
             divergence: None,
             counts: AccessCounts {
                 accesses: 0,
@@ -143,7 +141,7 @@ impl<A: Inspectable, P: Peer> Followed<A, P> {
 
     /// The known differences that readings of registers met, and that were passed over. (No clause says that they are
     /// kept from one access to the next.)
-    pub fn met_differences(&self) -> SeenDifferences
+    pub fn met_differences(&self) -> MetDifferences
         ensures { result ≡ self.now.met_differences }
     {
         self.met_differences
@@ -662,7 +660,7 @@ fn lowest(slots: u32) -> Option<u32>
 /// Whether two pages of IDENTIFY DEVICE, in a port's scratch frame, tell the server the same: it decides by what
 /// `identify` reads in them, and by nothing else.
 fn tell_same(address: u32, shown: &[u8], said: &[u8]) -> bool {
-    if address >= DRIVER_BYTES || address % PORT_BYTES != SCRATCH_OFFSET {
+    if address >= DRIVER_BYTES || address % DRIVER_BYTES_PER_PORT != SCRATCH_OFFSET {
         return false;
     }
     let (Ok(shown), Ok(said)) = (
@@ -740,8 +738,8 @@ impl<A: Inspectable, P: Peer> TapedAdapter for Followed<A, P> {
         self.model.tape()
     }
 
-    fn has_ended(&self) -> bool {
-        self.model.has_ended() || self.divergence.is_some()
+    fn is_exhausted(&self) -> bool {
+        self.model.is_exhausted() || self.divergence.is_some()
     }
 }
 

@@ -9,7 +9,7 @@
 //! `followed` is the model beside another adapter, its peer: each access is made on both. Of the peer nothing is known.
 //! What it answers only chooses among the steps that the model may do, and what is answered is the model's own answer:
 //! so what holds of a server over the model holds over this. Once the two don't agree, no further access is made on the
-//! peer. (`lines` reaches it by lines of text, and `differences` has those that are passed over.)
+//! peer. (`qtest_peer` reaches it by lines of text, and `differences` has those that are passed over.)
 #![tactic(auto)]
 
 mod args;
@@ -86,12 +86,12 @@ fn open_peer(
     rt: &(impl AllocGlobal + Files<File = File>),
     words: &FollowArgs,
 ) -> Result<QtestPeer<BufReader<File>, File>, FollowError> {
-    let unopened = |error: io::Error| no_memory_or(&error, FollowError::Peer);
+    let unopened = |error: io::Error| no_memory_or(&error, FollowError::PeerUnopened);
     let to = OpenOptions::new()
         .write(true)
-        .open(rt, words.to.as_str())
+        .open(rt, words.to_peer.as_str())
         .map_err(unopened)?;
-    let from = fs::open(rt, words.from.as_str()).map_err(unopened)?;
+    let from = fs::open(rt, words.from_peer.as_str()).map_err(unopened)?;
     let from = BufReader::new(rt.alloc(), from).map_err(unopened)?;
     Ok(QtestPeer::new(rt.alloc(), from, to, words.registers)?)
 }

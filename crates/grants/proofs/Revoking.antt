@@ -65,8 +65,8 @@ names_left rows place =
 -- and stand in their order
 pub still_indexed : (names : List RowName) (rows : List GrantRow) (place : ℕ) → place < length rows → IsIndexed names rows → IsIndexed (remove names place) (remove rows place)
 still_indexed names rows place within is = record {
-  keys = ap (λ (xs : List RowName). remove xs place) is.keys ∙ names_left rows place;
-  order = all_pairs_remove (λ a b. name_rank a < name_rank b) names place (let long = ap length is.keys in let same = length-map rows row_name_of in omega (arith, within, long, same)) is.order;
-  differ = all_pairs_remove DifferInName rows place within is.differ;
-  few = let few = is.few in let less = length-remove rows place within in omega (arith, few, less);
+  keys_are_row_names = ap (λ (xs : List RowName). remove xs place) is.keys_are_row_names ∙ names_left rows place;
+  names_are_in_order = all_pairs_remove (λ a b. name_rank a < name_rank b) names place (let long = ap length is.keys_are_row_names in let same = length-map rows row_name_of in omega (arith, within, long, same)) is.names_are_in_order;
+  rows_differ_in_name = all_pairs_remove DifferInName rows place within is.rows_differ_in_name;
+  rows_are_at_most_64 = let few = is.rows_are_at_most_64 in let less = length-remove rows place within in omega (arith, few, less);
 }

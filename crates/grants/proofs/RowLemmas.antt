@@ -11,7 +11,7 @@ use Rattle.ata_types.specs.declared.grant.GrantRow.{GrantRow}
 use Rattle.ata_types.specs.declared.request.ClientId.{ClientId}
 use Rattle.block_machine.specs.Rules.{HasGrantName, DifferInName}
 use Rattle.block_machine.proofs.RuleLemmas.{one_row}
-use Rattle.grants.specs.NamedRows.{RowName, row_name_of, name_rank, AreInOrder, HasRowAt, IsPlaceOf, IsRowAt}
+use Rattle.grants.specs.NamedRows.{RowName, row_name_of, name_rank, AreInOrder, HasRowAt, IsPlaceOf, IsRowPlace}
 use Rattle.grants.specs.Rows.{SameRows}
 use Rattle.grants.proofs.PermutedPairs.{permuted_pairs}
 
@@ -39,7 +39,7 @@ named_in rows row there = (there.0, omega (arith, there.1, length-map rows row_n
 
 -- the row at the place of its name
 pub row_at : (names : List RowName) (rows : List GrantRow) → names ≡ map row_name_of rows → (client : ClientId) (n : ℕ) (place : Option ℕ)
-    → IsPlaceOf (client, n) names place → IsRowAt client n rows place
+    → IsPlaceOf (client, n) names place → IsRowPlace client n rows place
 row_at names rows keys client n None none = λ row there named.
     let name : row_name_of row ≡ (client, n) = ap₂ (λ (x : ClientId) (y : ℕ). (x, y)) named.0 named.1 in
     none (subst (Contains names) name (subst (λ (xs : List RowName). Contains xs (row_name_of row)) (sym keys) (named_in rows row there)))

@@ -34,15 +34,15 @@ abbrev pub HasRowAt : ClientId → ℕ → List GrantRow → ℕ → Type 0
 HasRowAt client number rows i = (row : GrantRow) × (slice_get rows i ≡ Some row) × HasGrantName client number row
 
 -- the place of the row of this name, or that no row has it
-abbrev pub IsRowAt : ClientId → ℕ → List GrantRow → Option ℕ → Type 0
-IsRowAt client number rows place =
+abbrev pub IsRowPlace : ClientId → ℕ → List GrantRow → Option ℕ → Type 0
+IsRowPlace client number rows place =
     MatchOption place ((row : GrantRow) → Contains rows row → HasGrantName client number row
     → ⊥) (HasRowAt client number rows)
 
 -- The rows, at most 64, stand in the order of their names, no two of them under one, and the keys beside them are their
 -- names.
 pub record IsIndexed (names : List RowName) (rows : List GrantRow) : Type 0 where
-  pub keys : names ≡ map row_name_of rows
-  pub order : AreInOrder names
-  pub differ : AllPairs DifferInName rows
-  pub few : length rows ≤ 64
+  pub keys_are_row_names : names ≡ map row_name_of rows
+  pub names_are_in_order : AreInOrder names
+  pub rows_differ_in_name : AllPairs DifferInName rows
+  pub rows_are_at_most_64 : length rows ≤ 64

@@ -59,7 +59,7 @@ impl GrantKey {
     /// The key of a name.
     pub fn new(client: ClientId, number: u8) -> Self
         ensures name { result ≡ (client, number) }
-        ensures byte { number < 256 }
+        ensures number_is_a_byte { number < 256 }
     {
         GrantKey { client, number }
     }

@@ -5,13 +5,10 @@
 #![tactic(auto)]
 
 ghost use Rattle.std.specs.Prelude.{◌≡◌, ◌≢◌, ◌≤◌, ◌<◌, ◌+◌, ◌*◌, ◌^◌, ◌↔◌, length, map, All, AllPairs, Contains, None, Some, IsTrue, OnOk, IfErr, IfOk, IfSome};
-ghost use Rattle.ata_types.specs.SectorGrants.{CoversSectors};
-ghost use Rattle.ata_types.specs.declared.grant.GrantRow.{GrantRow};
-ghost use Rattle.ata_types.specs.declared.request.Op.TheVariants.{Flush};
+ghost use Rattle.ata_types.specs.{SectorGrants.{CoversSectors}, declared.grant.GrantRow.{GrantRow}, declared.request.Op.TheVariants.{Flush}};
 ghost use Rattle.block_machine.specs.Rules.{HasGrantName, DifferInName, HasRow, without_row, BreaksNone, IsFirstBroken};
 ghost use Rattle.dma_frames.specs.FrameTables.{owner_of, lent_to};
-ghost use Rattle.grants.specs.NamedRows.{AreInOrder, IsPlaceOf, IsRowAt, row_name_of};
-ghost use Rattle.grants.specs.Rows.{SameRows};
+ghost use Rattle.grants.specs.{NamedRows.{AreInOrder, IsPlaceOf, IsRowPlace, row_name_of}, Rows.{SameRows}};
 
 mod key;
 
@@ -47,11 +44,11 @@ impl Model for Grants {
 impl Grants {
     /// Grants with these rows, at most 64. The only error is want of memory.
     pub fn from_rows(alloc: Global, rows: &[GrantRow]) -> Result<Self, AllocError>
-        requires few { length rows.now ≤ 64 }
-        requires names { AllPairs DifferInName rows.now }
-        ensures rows { IfOk result (SameRows rows.now) }
-        ensures names { IfOk result (AllPairs DifferInName) }
-        ensures few { IfOk result (λ kept. length kept ≤ 64) }
+        requires rows_are_at_most_64 { length rows.now ≤ 64 }
+        requires names_differ { AllPairs DifferInName rows.now }
+        ensures holds_same_rows { IfOk result (SameRows rows.now) }
+        ensures names_differ { IfOk result (AllPairs DifferInName) }
+        ensures kept_rows_are_at_most_64 { IfOk result (λ kept. length kept ≤ 64) }
     {
         let mut rows = Vec::from_slice(alloc, rows)?;
         rows.sort_unstable_by_key(|row| name_rank(row.client.0, row.number));
@@ -61,10 +58,10 @@ impl Grants {
 
     /// The place of the client's row under this number, if there is one. At most 7 keys are compared.
     pub fn find(&self, client: ClientId, number: u8, compared: &mut Comparisons) -> Option<usize>
-        requires room { compared.old + 7 < 2 ^ 32 }
-        ensures place { IsRowAt client number self.now result }
-        ensures counts { compared.old ≤ compared.new }
-        ensures few { compared.new ≤ compared.old + 7 }
+        requires count_has_room { compared.old + 7 < 2 ^ 32 }
+        ensures place { IsRowPlace client number self.now result }
+        ensures count_does_not_fall { compared.old ≤ compared.new }
+        ensures at_most_7_comparisons { compared.new ≤ compared.old + 7 }
     {
         find_key(self.keys.as_slice(), client, number, compared)
     }
@@ -85,7 +82,7 @@ impl Grants {
     pub fn revoke(&mut self, client: ClientId, number: u8) -> Option<GrantRow>
         ensures found { IfSome result (λ row. Contains self.old row × HasGrantName client number row
             × (self.new ≡ without_row client number self.old)) }
-        ensures none { result ≡ None → (self.new ≡ self.old) × (HasRow client number self.old → ⊥) }
+        ensures absent_changes_nothing { result ≡ None → (self.new ≡ self.old) × (HasRow client number self.old → ⊥) }
     {
         let mut compared = Comparisons::none();
         let place = self.find(client, number, &mut compared)?;

@@ -117,7 +117,7 @@ impl GlobalControl {
     }
 
     /// Whether the adapter is used as AHCI: AE (AHCI 1.3.1, 3.1.2).
-    pub fn is_enabled(self) -> bool
+    pub fn is_ahci_enabled(self) -> bool
         ensures { result ≡ bit self.0 31 }
     {
         has(self.0, Self::AE.0)

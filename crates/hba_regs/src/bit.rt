@@ -14,7 +14,7 @@ pub fn is_set(value: u32, place: u32) -> bool
 pub fn with_bit(value: u32, place: u32) -> u32
     requires { place < 32 }
     ensures set { bit result place ≡ true }
-    ensures others { (k : ℕ) → k < 32 → k ≢ place → bit result k ≡ bit value k }
+    ensures others_are_kept { (k : ℕ) → k < 32 → k ≢ place → bit result k ≡ bit value k }
 {
     value | 1 << place
 }
@@ -23,7 +23,7 @@ pub fn with_bit(value: u32, place: u32) -> u32
 pub fn without_bit(value: u32, place: u32) -> u32
     requires { place < 32 }
     ensures cleared { bit result place ≡ false }
-    ensures others { (k : ℕ) → k < 32 → k ≢ place → bit result k ≡ bit value k }
+    ensures others_are_kept { (k : ℕ) → k < 32 → k ≢ place → bit result k ≡ bit value k }
 {
     value & !(1 << place)
 }

@@ -81,7 +81,7 @@ impl Flags for PortInterrupts {
 
 impl PortInterrupts {
     /// Whether a device came or went: PCS (AHCI 1.3.1, 3.3.5).
-    pub fn has_port_change(self) -> bool
+    pub fn has_port_connect_change(self) -> bool
         ensures { result ≡ bit self.0 6 }
     {
         has(self.0, Self::PCS.0)
@@ -219,7 +219,7 @@ impl PortCommand {
     /// The register with ST one (AHCI 1.3.1, 3.3.7).
     pub fn with_start(self) -> Self
         ensures set { bit result.0 0 ≡ true }
-        ensures others { (k : ℕ) → k < 32 → k ≢ 0 → bit result.0 k ≡ bit self.0 k }
+        ensures others_are_kept { (k : ℕ) → k < 32 → k ≢ 0 → bit result.0 k ≡ bit self.0 k }
     {
         Self(with_bit(self.0, ST_PLACE))
     }
@@ -227,7 +227,7 @@ impl PortCommand {
     /// The register with ST zero (AHCI 1.3.1, 3.3.7).
     pub fn without_start(self) -> Self
         ensures cleared { bit result.0 0 ≡ false }
-        ensures others { (k : ℕ) → k < 32 → k ≢ 0 → bit result.0 k ≡ bit self.0 k }
+        ensures others_are_kept { (k : ℕ) → k < 32 → k ≢ 0 → bit result.0 k ≡ bit self.0 k }
     {
         Self(without_bit(self.0, ST_PLACE))
     }
@@ -235,7 +235,7 @@ impl PortCommand {
     /// The register with FRE one (AHCI 1.3.1, 3.3.7).
     pub fn with_receive(self) -> Self
         ensures set { bit result.0 4 ≡ true }
-        ensures others { (k : ℕ) → k < 32 → k ≢ 4 → bit result.0 k ≡ bit self.0 k }
+        ensures others_are_kept { (k : ℕ) → k < 32 → k ≢ 4 → bit result.0 k ≡ bit self.0 k }
     {
         Self(with_bit(self.0, FRE_PLACE))
     }
@@ -243,7 +243,7 @@ impl PortCommand {
     /// The register with FRE zero (AHCI 1.3.1, 3.3.7).
     pub fn without_receive(self) -> Self
         ensures cleared { bit result.0 4 ≡ false }
-        ensures others { (k : ℕ) → k < 32 → k ≢ 4 → bit result.0 k ≡ bit self.0 k }
+        ensures others_are_kept { (k : ℕ) → k < 32 → k ≢ 4 → bit result.0 k ≡ bit self.0 k }
     {
         Self(without_bit(self.0, FRE_PLACE))
     }

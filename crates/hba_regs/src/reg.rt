@@ -1,6 +1,6 @@
 // The registers by name, and where they stand.
 ghost use Rattle.std.specs.Prelude.{◌≡◌};
-ghost use Rattle.hba_regs.specs.Offsets.{offset_of, place_in_port};
+ghost use Rattle.hba_regs.specs.Offsets.{offset_of, port_register_offset};
 
 use ata_types::Port;
 
@@ -61,7 +61,7 @@ pub enum Reg {
 impl PortReg {
     // Its place among the registers of its port, in bytes.
     fn place(self) -> u32
-        ensures { result ≡ place_in_port self }
+        ensures { result ≡ port_register_offset self }
     {
         match self {
             PortReg::Clb => 0x00,

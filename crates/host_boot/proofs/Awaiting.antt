@@ -9,8 +9,8 @@ use Rattle.hba_regs.specs.declared.reg.Reg.TheVariants.{Ghc}
 use Rattle.adapter.specs.Access.{Access, Reads, Writes}
 use Rattle.adapter.specs.Access.Access.{Reading, Writing}
 use Rattle.adapter.specs.Device.{Device}
-use Rattle.refinement.specs.Fragments.{AnyUse, IsSimulatedAlong}
-use Rattle.refinement.specs.Links.{SameAdapter}
+use Rattle.refinement.specs.Fragments.{AnySlotStates, IsSimulatedAlong}
+use Rattle.refinement.specs.PreservedParts.{SameAdapter}
 use Rattle.host_boot.specs.Resets.{ReadsGlobalControl, AwaitsHr, AwaitsResetInVain, IsResetAccess, Resets, ResetStaysPending}
 use Rattle.host_boot.specs.Laws.{Laws}
 use Rattle.host_boot.specs.Laws.AccessPurpose.{Resetting}
@@ -26,7 +26,7 @@ pub record AsksAgain (n : ℕ) (accesses : List Access) : Type 0 where
 
 -- the reset is pending after so many readings
 pub record IsResetting (start : Device) (n : ℕ) (d : Device) : Type 0 where
-  pub told : IsSimulatedAlong (AsksAgain n) IsResetAccess AnyUse start d
+  pub told : IsSimulatedAlong (AsksAgain n) IsResetAccess AnySlotStates start d
   pub pending : d.hr ≡ true
   pub same : SameAdapter start d
 
@@ -59,18 +59,18 @@ module _ (laws : Laws) (start : Device) where
   -- HR is set
   pub resetting_begins : (d : Device) → Writes Ghc 0x80000001 start d → IsResetting start 0 d
   resetting_begins d call = record {
-    told = told_more (λ accesses. accesses ≡ Writing Ghc 0x80000001 ∷ []) (AsksAgain 0) IsResetAccess AnyUse (λ uses. uses) start d asks_none
+    told = told_more (λ accesses. accesses ≡ Writing Ghc 0x80000001 ∷ []) (AsksAgain 0) IsResetAccess AnySlotStates (λ uses. uses) start d asks_none
         (laws.fragments.writes Resetting Ghc 0x80000001 start d refl (λ mid steps. tt) (λ uses is. tt) call);
-    pending = laws.hr_begins 0x80000001 start d refl call;
-    same = laws.access_same (Writing Ghc 0x80000001) start d call;
+    pending = laws.ghc_write_sets_hr 0x80000001 start d refl call;
+    same = laws.access_keeps_adapter (Writing Ghc 0x80000001) start d call;
   }
 
   module _ (n v : ℕ) (d e : Device) (w : IsResetting start n d) (call : Reads Ghc v d e) where
     same : SameAdapter start e
-    same = laws.same_more start d e w.same (laws.access_same (Reading Ghc v) d e call)
+    same = laws.same_adapter_is_transitive start d e w.same (laws.access_keeps_adapter (Reading Ghc v) d e call)
 
     -- what is told with one more reading
-    with_reading : (Tells : List Access → Type 0) → ((early late : List Access) → AsksAgain n early → late ≡ Reading Ghc v ∷ [] → Tells (early ++ late)) → IsSimulatedAlong Tells IsResetAccess AnyUse start e
+    with_reading : (Tells : List Access → Type 0) → ((early late : List Access) → AsksAgain n early → late ≡ Reading Ghc v ∷ [] → Tells (early ++ late)) → IsSimulatedAlong Tells IsResetAccess AnySlotStates start e
     with_reading Tells join =
         told_both laws (AsksAgain n) (λ accesses. accesses ≡ Reading Ghc v ∷ []) Tells join Resetting Resetting (λ uses. uses) (λ uses. uses) (λ access may. may) (λ uses any. tt) start d e w.told
         (laws.fragments.reads Resetting Ghc v d e tt call)
@@ -78,7 +78,7 @@ module _ (laws : Laws) (start : Device) where
     pub resetting_goes_on : bit v 0 ≡ true → IsResetting start (n + 1) e
     resetting_goes_on shows = record {
       told = with_reading (AsksAgain (n + 1)) (λ early late a is. asks_more n v early late a is shows);
-      pending = (laws.hr_told v d e call).0 ∙ shows;
+      pending = (laws.ghc_reading_tells_hr_and_ae v d e call).0 ∙ shows;
       same = same;
     }
 
@@ -86,14 +86,14 @@ module _ (laws : Laws) (start : Device) where
     resetting_ends few clear =
         let told = with_reading (λ accesses. AwaitsHr false accesses × (length accesses ≤ 65))
         (λ early late a is. (asks_shown n v early late a is false clear, asked_few n v early late a is few)) in
-        record { followed = told.followed; awaited = told.tells.0; count_is = told.tells.1; idle = laws.reset_idle v d e w.pending call clear; adapter_is_kept = same }
+        record { followed = told.is_simulated; awaited = told.accesses_are_such.0; count_is_allowed = told.accesses_are_such.1; idle = laws.ended_reset_is_idle v d e w.pending call clear; adapter_is_kept = same }
 
   -- it was read 64 times
   pub resetting_sticks : (n : ℕ) (d : Device) → n ≡ MOST_READINGS → IsResetting start n d → ResetStaysPending start d
   resetting_sticks n d all w = record {
-    followed = w.told.followed;
-    awaited = w.told.tells.last (omega (arith, all));
-    count_is = let here = ap length w.told.tells.here in let long = w.told.tells.long in omega (arith, here, long, all);
+    followed = w.told.is_simulated;
+    awaited = w.told.accesses_are_such.last (omega (arith, all));
+    count_is = let here = ap length w.told.accesses_are_such.here in let long = w.told.accesses_are_such.long in omega (arith, here, long, all);
     hr_is_set = w.pending;
     adapter_is_kept = w.same;
   }

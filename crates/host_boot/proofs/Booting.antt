@@ -9,18 +9,18 @@ use Rattle.adapter.specs.Access.{Access, Reads}
 use Rattle.adapter.specs.Access.Access.{Reading, Writing, Loading, Storing}
 use Rattle.adapter.specs.Device.{Device, DevicePort}
 use Rattle.adapter.specs.Rules.{HasPort, IsOn}
-use Rattle.refinement.specs.Fragments.{AnyUse, IsPortAccessWriting, IsDrivenBy, IsSimulated, IsSimulatedAlong, LeavesPort}
+use Rattle.refinement.specs.Fragments.{AnySlotStates, ReadsPortOrWrites, IsDrivenBy, IsSimulated, IsSimulatedAlong, LeavesPort}
 use Rattle.refinement.specs.Driver.{AllFree}
 use Rattle.identify.specs.declared.wanted.Wanted.{Wanted}
 use Rattle.identify.specs.declared.wanted.Wanted.TheVariants.{Nothing}
-use Rattle.port_control.specs.Engines.{Stops, StopsBoth}
-use Rattle.port_control.specs.Ports.{IsErrorRegister, IsStopped, BacksFault, IsCommandRegister}
+use Rattle.port_control.specs.Engines.{Stops, StopsBothEngines}
+use Rattle.port_control.specs.Ports.{IsSerrOrIs, IsStopped, BacksFault, IsCommandRegister}
 use Rattle.port_control.specs.declared.PortFault.TheVariants.{NoDevice}
 use Rattle.port_boot.specs.States.{IsBootTo, IsBootable, IsBootAccess}
 use Rattle.host_boot.specs.Reboots.{RebootsPort, RebootsIfPresent, BootsStopped, IsCapPiOrBootAccess}
 use Rattle.host_boot.specs.Laws.{Laws}
-use Rattle.host_boot.specs.Laws.AccessPurpose.{Clearing, Starting, Surveying}
-use Rattle.host_boot.specs.TakeOver.{Boots, StopsAndBootsPort, ReadyHaltOfTaken, ReadsCapOrPi, BacksProbeResult, WroteSctl}
+use Rattle.host_boot.specs.Laws.AccessPurpose.{Clearing, Rebooting, ReadingCapAndPi}
+use Rattle.host_boot.specs.TakeOver.{BootsAndTellsEngines, StopsAndBootsPort, ReadyHaltOfTaken, ReadsCapOrPi, BacksProbeResult, WroteSctl}
 use Rattle.host_boot.specs.declared.Booted.{Booted}
 use Rattle.host_boot.specs.declared.ProbeResult.{ProbeResult}
 use Rattle.host_boot.specs.declared.ProbeResult.TheVariants.{Unserved, Ready, Unready}
@@ -32,13 +32,13 @@ use Rattle.host_boot.proofs.Taking.{boots_same}
 -- a port that is left to the device stays stopped
 stopped_on : (old new : DevicePort) → LeavesPort old new → IsStopped old → IsStopped new
 stopped_on old new l is = record {
-  halted = record {
-    st = l.keeps.st is.halted.st;
-    cr = l.keeps.cr is.halted.cr;
-    ci = λ slot. l.keeps.ci slot (is.halted.ci slot);
-    taken = l.keeps.stays_without_commands is.halted.cr is.halted.taken;
+  engine_is_stopped = record {
+    st_is_clear = l.port_is_kept_by_device.st_stays_clear is.engine_is_stopped.st_is_clear;
+    cr_is_clear = l.port_is_kept_by_device.cr_stays_clear is.engine_is_stopped.cr_is_clear;
+    no_command_is_issued = λ slot. l.port_is_kept_by_device.ci_stays_clear slot (is.engine_is_stopped.no_command_is_issued slot);
+    no_command_is_taken = l.port_is_kept_by_device.stays_without_commands is.engine_is_stopped.cr_is_clear is.engine_is_stopped.no_command_is_taken;
   };
-  sact = λ slot. l.keeps.sact slot (is.sact slot);
+  sact_is_clear = λ slot. l.port_is_kept_by_device.sact_stays_clear slot (is.sact_is_clear slot);
 }
 
 -- what halts a port that is ready then
@@ -46,7 +46,7 @@ pub found_halts : (wanted : Wanted) (port : Port) (old new : Device) (found : Pr
 found_halts wanted port old new found b info is = (subst (λ (f : ProbeResult). BootsStopped wanted port f old new) is b).halt_is_of_taken
 
 -- looking at a port is of its boot
-clearing_of_start : (port : Port) (access : Access) → IsPortAccessWriting IsErrorRegister port access → IsCapPiOrBootAccess port access
+clearing_of_start : (port : Port) (access : Access) → ReadsPortOrWrites IsSerrOrIs port access → IsCapPiOrBootAccess port access
 clearing_of_start port (Reading (Px at r) v) is = inr (inl is)
 clearing_of_start port (Writing (Px at r) v) (here, kind) = inr (inl (here, inr (inl (inr kind))))
 clearing_of_start port (Reading r v) is = absurd is
@@ -56,26 +56,26 @@ clearing_of_start port (Storing at bytes) is = absurd is
 
 -- a port was booted, once this was read of CAP, which is as it was
 abbrev boots_again : (port : Port) (v : ℕ) (booted : Booted) (wanted : Wanted) (old asked new : Device) → IsSimulated (IsCapPiOrBootAccess port) (λ uses. AllFree uses port.0) old asked →
-    BootsStopped wanted port booted.found asked new → booted.slots ≡ field v 8 5 + 1 → booted.queued ≡ bit v 30 → v ≡ new.cap → RebootsPort wanted port booted old new
+    BootsStopped wanted port booted.found asked new → booted.slot_count ≡ field v 8 5 + 1 → booted.supports_ncq ≡ bit v 30 → v ≡ new.cap → RebootsPort wanted port booted old new
 boots_again port v booted wanted old asked new asks boots slots queued cap = record {
-  surveyed = asked;
+  device_after_survey = asked;
   surveys = asks;
   boots = boots;
-  slots = slots ∙ ap (λ (k : ℕ). field k 8 5 + 1) cap;
-  queued = queued ∙ ap (λ (k : ℕ). bit k 30) cap;
+  slot_count_is_of_cap = slots ∙ ap (λ (k : ℕ). field k 8 5 + 1) cap;
+  ncq_is_of_cap = queued ∙ ap (λ (k : ℕ). bit k 30) cap;
 }
 
 module _ (laws : Laws) where
   -- the accesses of a boot
   pub booted_driven : (wanted : Wanted) (port : Port) (found : ProbeResult) (old new : Device) → BootsStopped wanted port found old new → IsDrivenBy (IsBootAccess port) old new
   booted_driven wanted port Unserved old new b = absurd b
-  booted_driven wanted port (Ready info) old new b = b.boots.followed.is_driven
-  booted_driven wanted port (Unready state) old new b = laws.boots_driven port state old new b.boots
+  booted_driven wanted port (Ready info) old new b = b.boots.is_simulated.is_driven
+  booted_driven wanted port (Unready state) old new b = laws.boot_on_way_is_driven port state old new b.boots
 
   -- ---- when the adapter is taken over: the port was stopped before
 
-  module _ (port : Port) (old mid : Device) (stops : IsSimulatedAlong (Stops port) (IsPortAccessWriting IsCommandRegister port) AnyUse old mid) (wanted : Wanted) (new : Device) where
-    pub found_boots : (found : ProbeResult) → BootsStopped wanted port found mid new → Boots port found old new
+  module _ (port : Port) (old mid : Device) (stops : IsSimulatedAlong (Stops port) (ReadsPortOrWrites IsCommandRegister port) AnySlotStates old mid) (wanted : Wanted) (new : Device) where
+    pub found_boots : (found : ProbeResult) → BootsStopped wanted port found mid new → BootsAndTellsEngines port found old new
     found_boots Unserved b = absurd b
     found_boots (Ready info) b = then_boot laws port old mid stops new b.boots
     found_boots (Unready state) b = then_boot_to laws port old mid stops new state b.boots
@@ -92,21 +92,21 @@ module _ (laws : Laws) where
 
     pub found_way : (found : ProbeResult) → BootsStopped wanted port found mid new → StopsAndBootsPort port found old new
     found_way Unserved b = absurd b
-    found_way (Ready info) b = (mid, stops.followed.is_driven, b.boots.followed.is_driven, b.brings_ready, b.shows_only_new_errors)
+    found_way (Ready info) b = (mid, stops.is_simulated.is_driven, b.boots.is_simulated.is_driven, b.brings_ready, b.shows_only_new_errors)
     found_way (Unready state) b = (
       mid,
-      stops.followed.is_driven,
-      laws.boots_driven port state mid new b.boots,
+      stops.is_simulated.is_driven,
+      laws.boot_on_way_is_driven port state mid new b.boots,
       b.ends_before_start,
       b.ends_after_start,
-      λ dead. boot_sticks (StopsBoth port) port old new (subst (λ (s : ShownState). IsBootTo (StopsBoth port) port s old new) dead (then_boot_to laws port old mid stops new state b.boots)),
+      λ dead. boot_sticks (StopsBothEngines port) port old new (subst (λ (s : ShownState). IsBootTo (StopsBothEngines port) port s old new) dead (then_boot_to laws port old mid stops new state b.boots)),
     )
 
   -- ---- later: CAP is read before
 
   module _ (v : ℕ) (old asked : Device) (asks : Reads Cap v old asked) where
-    asked_followed : IsSimulated ReadsCapOrPi AnyUse old asked
-    asked_followed = (laws.fragments.reads Surveying Cap v old asked tt asks).followed
+    asked_followed : IsSimulated ReadsCapOrPi AnySlotStates old asked
+    asked_followed = (laws.fragments.reads ReadingCapAndPi Cap v old asked tt asks).is_simulated
 
     -- what was read is what the adapter is capable of, whatever is done then
     pub asked_cap : (May : Access → Type 0) (new : Device) → IsDrivenBy May asked new → v ≡ new.cap
@@ -114,33 +114,33 @@ module _ (laws : Laws) where
 
     module _ (port : Port) where
       pub asked_starts : IsSimulated (IsCapPiOrBootAccess port) (λ uses. AllFree uses port.0) old asked
-      asked_starts = (laws.fragments.wider Surveying (Starting port) (λ uses. uses) (λ access is. inl is) (λ uses free. tt) old asked asked_followed).followed
+      asked_starts = (laws.fragments.is_of_wider_kind ReadingCapAndPi (Rebooting port) (λ uses. uses) (λ access is. inl is) (λ uses free. tt) old asked asked_followed).is_simulated
 
       pub asked_bootable : IsBootable port old → IsBootable port asked
-      asked_bootable b = bootable_over laws Surveying port old asked (λ uses free. tt) asked_followed b.has_port b.driver_memory_fits b.machine_is_related (cap_on laws v old asked b.adapter_is_on asks)
+      asked_bootable b = bootable_over laws ReadingCapAndPi port old asked (λ uses free. tt) asked_followed b.has_port b.driver_memory_fits b.machine_is_related (cap_on laws v old asked b.adapter_is_on asks)
 
       pub asked_stopped : LeavesPort (old.port port.0) (asked.port port.0) → IsStopped (old.port port.0) → IsStopped (asked.port port.0)
       asked_stopped = stopped_on (old.port port.0) (asked.port port.0)
 
-      pub asked_boots : (booted : Booted) (wanted : Wanted) (new : Device) → BootsStopped wanted port booted.found asked new → booted.slots ≡ field v 8 5 + 1 → booted.queued ≡ bit v 30 →
+      pub asked_boots : (booted : Booted) (wanted : Wanted) (new : Device) → BootsStopped wanted port booted.found asked new → booted.slot_count ≡ field v 8 5 + 1 → booted.supports_ncq ≡ bit v 30 →
           RebootsPort wanted port booted old new
       asked_boots booted wanted new boots slots queued =
           boots_again port v booted wanted old asked new asked_starts boots slots queued (asked_cap (IsBootAccess port) new (booted_driven wanted port booted.found asked new boots))
 
       -- and then the port is looked at
-      module _ (seen : Device) (looks : IsSimulated (IsPortAccessWriting IsErrorRegister port) AnyUse asked seen) where
+      module _ (seen : Device) (looks : IsSimulated (ReadsPortOrWrites IsSerrOrIs port) AnySlotStates asked seen) where
         pub seen_starts : IsSimulated (IsCapPiOrBootAccess port) (λ uses. AllFree uses port.0) old seen
-        seen_starts = (laws.fragments.both (Starting port) (Clearing port) (λ uses. uses) (λ uses. uses) (clearing_of_start port) (λ uses free. tt) old asked seen asked_starts looks).followed
+        seen_starts = (laws.fragments.fragments_join (Rebooting port) (Clearing port) (λ uses. uses) (λ uses. uses) (clearing_of_start port) (λ uses free. tt) old asked seen asked_starts looks).is_simulated
 
         pub seen_bootable : IsOn seen → IsBootable port asked → IsBootable port seen
         seen_bootable on b = bootable_over laws (Clearing port) port asked seen (λ uses free. tt) looks b.has_port b.driver_memory_fits b.machine_is_related on
 
         -- it shows a device, and is booted
         pub seen_boots : (booted : Booted) (wanted : Wanted) (new : Device) → (seen.port port.0).ssts_det ≡ 3 → BootsStopped wanted port booted.found seen new →
-            booted.slots ≡ field v 8 5 + 1 → booted.queued ≡ bit v 30 → RebootsIfPresent wanted port booted old new
+            booted.slot_count ≡ field v 8 5 + 1 → booted.supports_ncq ≡ bit v 30 → RebootsIfPresent wanted port booted old new
         seen_boots booted wanted new there boots slots queued =
             let its : IsDrivenBy (IsCapPiOrBootAccess port) seen new = driven_as (IsBootAccess port) (IsCapPiOrBootAccess port) seen new (λ access is. inr is) (booted_driven wanted port booted.found seen new boots) in
-            let all : IsDrivenBy (IsCapPiOrBootAccess port) asked new = by_then laws (driven_as (IsPortAccessWriting IsErrorRegister port) (IsCapPiOrBootAccess port) asked seen (clearing_of_start port) looks.is_driven) its in
+            let all : IsDrivenBy (IsCapPiOrBootAccess port) asked new = by_then laws (driven_as (ReadsPortOrWrites IsSerrOrIs port) (IsCapPiOrBootAccess port) asked seen (clearing_of_start port) looks.is_driven) its in
             inl (boots_again port v booted wanted old seen new seen_starts boots slots queued (asked_cap (IsCapPiOrBootAccess port) new all), there)
 
         -- or it shows none, and is absent

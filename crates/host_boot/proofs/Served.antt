@@ -10,14 +10,14 @@ use Rattle.adapter.specs.Access.{Access}
 use Rattle.adapter.specs.Access.Access.{Reading, Writing, Loading, Storing}
 use Rattle.adapter.specs.Device.{Device}
 use Rattle.adapter.specs.Rules.{IsOn}
-use Rattle.refinement.specs.Fragments.{IsPortAccessWriting, IsDrivenBy, SparesOtherPorts}
-use Rattle.refinement.specs.Links.{ShowsDiskIfIn}
+use Rattle.refinement.specs.Fragments.{ReadsPortOrWrites, IsDrivenBy, SparesOtherPorts}
+use Rattle.refinement.specs.PreservedParts.{ShowsDiskIfIn}
 use Rattle.identify.specs.declared.wanted.Wanted.{Wanted}
 use Rattle.port_control.specs.Ports.{IsCommandRegister}
 use Rattle.port_boot.specs.States.{IsBootTo, IsBootAccess, StopsOnWay}
 use Rattle.host_boot.specs.Reboots.{RebootsPort, RebootsIfPresent, BootsStopped, IsCapPiOrBootAccess}
 use Rattle.host_boot.specs.Laws.{Laws}
-use Rattle.host_boot.specs.TakeOver.{FoundBadDisk, IsServed, ReadsCapOrPi, BacksProbeResult}
+use Rattle.host_boot.specs.TakeOver.{FoundUnusableDevice, IsServed, ReadsCapOrPi, BacksProbeResult}
 use Rattle.host_boot.specs.declared.Booted.{Booted}
 use Rattle.host_boot.specs.declared.ProbeResult.{ProbeResult}
 use Rattle.host_boot.specs.declared.ProbeResult.TheVariants.{Unserved, Ready, Unready}
@@ -38,7 +38,7 @@ survey_of port (Storing at bytes) is = absurd is
 module _ (laws : Laws) where
   pub start_of : (port : Port) (access : Access) → IsCapPiOrBootAccess port access → SparesOtherPorts port access
   start_of port access (inl is) = survey_of port access is
-  start_of port access (inr is) = laws.of_boot port access is
+  start_of port access (inr is) = laws.boot_access_is_of_port port access is
 
   start_driven : (port : Port) (old new : Device) → IsDrivenBy (IsCapPiOrBootAccess port) old new → IsDrivenBy (SparesOtherPorts port) old new
   start_driven port old new = driven_as (IsCapPiOrBootAccess port) (SparesOtherPorts port) old new (start_of port)
@@ -48,11 +48,11 @@ module _ (laws : Laws) where
   served_over wanted port old new driven served = (served.0, ap (λ (pi : ℕ). bit pi port.0) (same_over laws (SparesOtherPorts port) old new driven).pi ∙ served.1)
 
   module _ (wanted : Wanted) (port : Port) (booted : Booted) (old new : Device) (b : RebootsPort wanted port booted old new) where
-    surveyed : IsDrivenBy (SparesOtherPorts port) old b.surveyed
-    surveyed = start_driven port old b.surveyed b.surveys.is_driven
+    surveyed : IsDrivenBy (SparesOtherPorts port) old b.device_after_survey
+    surveyed = start_driven port old b.device_after_survey b.surveys.is_driven
 
-    its : IsDrivenBy (SparesOtherPorts port) b.surveyed new
-    its = driven_as (IsBootAccess port) (SparesOtherPorts port) b.surveyed new (laws.of_boot port) (booted_driven laws wanted port booted.found b.surveyed new b.boots)
+    its : IsDrivenBy (SparesOtherPorts port) b.device_after_survey new
+    its = driven_as (IsBootAccess port) (SparesOtherPorts port) b.device_after_survey new (laws.boot_access_is_of_port port) (booted_driven laws wanted port booted.found b.device_after_survey new b.boots)
 
     pub again_driven : IsDrivenBy (SparesOtherPorts port) old new
     again_driven = by_then laws surveyed its
@@ -63,22 +63,22 @@ module _ (laws : Laws) where
         still : IsServed wanted port.0 new
         still = served_over wanted port old new again_driven served
 
-        by : (found : ProbeResult) → BootsStopped wanted port found b.surveyed new → BacksProbeResult wanted found port.0 new
+        by : (found : ProbeResult) → BootsStopped wanted port found b.device_after_survey new → BacksProbeResult wanted found port.0 new
         by Unserved none = absurd none
         by (Ready info) is = (still, is.ready)
         by (Unready state) is = (still, is.state_is_backed)
 
-    pub again_shown : (state : PortState) → IsOn old → FoundBadDisk state → booted.found ≡ Unready state → ShowsDiskIfIn (new.port port.0)
+    pub again_shown : (state : PortState) → IsOn old → FoundUnusableDevice state → booted.found ≡ Unready state → ShowsDiskIfIn (new.port port.0)
     again_shown state on bad is =
-        let boots : BootsStopped wanted port (Unready state) b.surveyed new = subst (λ (found : ProbeResult). BootsStopped wanted port found b.surveyed new) is b.boots in
-        let asked : IsOn b.surveyed = on_over laws (SparesOtherPorts port) old b.surveyed surveyed (laws.of_spares_ghc port) on in
-        way_shown laws port state b.surveyed new bad asked (
-          b.surveyed,
-          by_none (IsPortAccessWriting IsCommandRegister port) b.surveyed,
-          booted_driven laws wanted port (Unready state) b.surveyed new boots,
+        let boots : BootsStopped wanted port (Unready state) b.device_after_survey new = subst (λ (found : ProbeResult). BootsStopped wanted port found b.device_after_survey new) is b.boots in
+        let asked : IsOn b.device_after_survey = on_over laws (SparesOtherPorts port) old b.device_after_survey surveyed (laws.one_port_spares_ghc port) on in
+        way_shown laws port state b.device_after_survey new bad asked (
+          b.device_after_survey,
+          by_none (ReadsPortOrWrites IsCommandRegister port) b.device_after_survey,
+          booted_driven laws wanted port (Unready state) b.device_after_survey new boots,
           boots.ends_before_start,
           boots.ends_after_start,
-          λ dead. boot_sticks (StopsOnWay port Dead) port b.surveyed new (subst (λ (s : PortState). IsBootTo (StopsOnWay port s) port s b.surveyed new) dead boots.boots),
+          λ dead. boot_sticks (StopsOnWay port Dead) port b.device_after_survey new (subst (λ (s : PortState). IsBootTo (StopsOnWay port s) port s b.device_after_survey new) dead boots.boots),
         )
 
   -- ---- or it is booted only if a device shows
@@ -93,13 +93,13 @@ module _ (laws : Laws) where
     there_stands (inr is) served =
         subst (λ (found : ProbeResult). BacksProbeResult wanted found port.0 new) (sym is.0) (served_over wanted port old new (start_driven port old new is.1.is_driven) served, is.2)
 
-    pub there_shown : (state : PortState) → IsOn old → RebootsIfPresent wanted port booted old new → FoundBadDisk state → booted.found ≡ Unready state → ShowsDiskIfIn (new.port port.0)
+    pub there_shown : (state : PortState) → IsOn old → RebootsIfPresent wanted port booted old new → FoundUnusableDevice state → booted.found ≡ Unready state → ShowsDiskIfIn (new.port port.0)
     there_shown state on (inl is) bad found = again_shown wanted port booted old new is.0 state on bad found
     there_shown state on (inr is) bad found =
         let absent : Absent ≡ state = let k : Unready Absent ≡ Unready state = sym is.0 ∙ found in cc in
-        absurd (subst FoundBadDisk (sym absent) bad)
+        absurd (subst FoundUnusableDevice (sym absent) bad)
 
   pub beside_shown : (port other : Port) (old new : Device) → port.0 ≢ other.0 → IsOn old → IsDrivenBy (SparesOtherPorts other) old new → ShowsDiskIfIn (old.port port.0) → ShowsDiskIfIn (new.port port.0)
   beside_shown port other old new apart on driven =
       gently laws port old new on
-      (driven_as (SparesOtherPorts other) _ old new (λ access is. (laws.of_spares_ghc other access is, laws.of_spares other port Sctl apart access is)) driven)
+      (driven_as (SparesOtherPorts other) _ old new (λ access is. (laws.one_port_spares_ghc other access is, laws.one_port_spares_registers other port Sctl apart access is)) driven)

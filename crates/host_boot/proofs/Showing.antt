@@ -13,14 +13,14 @@ use Rattle.adapter.specs.Access.Access.{Reading, Writing, Loading, Storing}
 use Rattle.adapter.specs.Device.{Device}
 use Rattle.adapter.specs.Idle.{IsIdle}
 use Rattle.adapter.specs.Rules.{IsOn}
-use Rattle.refinement.specs.Fragments.{IsPortAccessWriting, IsDrivenBy, SparesOtherPorts}
-use Rattle.refinement.specs.Links.{ShowsDiskIfIn, DoesNotWrite}
+use Rattle.refinement.specs.Fragments.{ReadsPortOrWrites, IsDrivenBy, SparesOtherPorts}
+use Rattle.refinement.specs.PreservedParts.{ShowsDiskIfIn, DoesNotWrite}
 use Rattle.disk_page.specs.PageRequests.{IsPageAccess}
-use Rattle.port_control.specs.Ports.{FindsLink, FindsSignature, HasLink, IsPlacingRegister, SeesResetFault, IsVainReading, ReadsUntil, ReadsInVain, ShowsIdle, SendsComresetThen, IsCommandRegister}
+use Rattle.port_control.specs.Ports.{FindsLinkAndClearsErrors, FindsSignature, HasLink, IsPlacingRegister, SeesResetFault, IsVainReading, ReadsUntil, ReadsInVain, ShowsIdle, SendsComresetThen, IsCommandRegister}
 use Rattle.port_control.specs.declared.PortFault.{PortFault}
 use Rattle.port_control.specs.declared.PortFault.TheVariants.{NoDevice, Busy, EngineStuck, NotAta}
 use Rattle.port_boot.specs.States.{EndsBeforeStart, EndsAfterStart, IsStateOfFault}
-use Rattle.host_boot.specs.TakeOver.{FoundBadDisk, SwitchesOnAndBoots, StopsAndBootsPort, probe_result_of}
+use Rattle.host_boot.specs.TakeOver.{FoundUnusableDevice, SwitchesOnAndBoots, StopsAndBootsPort, probe_result_of}
 use Rattle.host_boot.specs.declared.ProbeResult.{ProbeResult}
 use Rattle.host_boot.specs.declared.ProbeResult.TheVariants.{Unserved, Unready}
 use Rattle.host_boot.proofs.Running.{IsOfOther, other_spares, taken_last}
@@ -61,8 +61,8 @@ module _ (laws : Laws) where
     gently_over [] old new on all is h = subst Shown (sym is) h
     gently_over (access ∷ accesses) old new on all (mid, does, rest) h =
         let gentle = All-head (IsGentle port) access accesses all in
-        let later = laws.access_on access old mid on (λ v is. absurd (subst (DoesNotWrite Ghc) is gentle.0 refl)) does in
-        gently_over accesses mid new later (All-tail (IsGentle port) access accesses all) rest (laws.keeps_device port access old mid on.no_reset gentle.1 does h)
+        let later = laws.access_keeps_adapter_on access old mid on (λ v is. absurd (subst (DoesNotWrite Ghc) is gentle.0 refl)) does in
+        gently_over accesses mid new later (All-tail (IsGentle port) access accesses all) rest (laws.shown_device_stays port access old mid on.no_reset gentle.1 does h)
 
     pub gently : (old new : Device) → IsOn old → IsDrivenBy (IsGentle port) old new → Shown old → Shown new
     gently old new on driven = gently_over driven.accesses old new on driven.accesses_are_of_kind driven.all_are_done
@@ -71,30 +71,30 @@ module _ (laws : Laws) where
     still_on old new on driven = on_over laws (IsGentle port) old new driven (λ access is. is.0) on
 
     -- PxSSTS showed it, and it was left so
-    link_shown : (old new : Device) → IsOn old → FindsLink port old new → Shown new
+    link_shown : (old new : Device) → IsOn old → FindsLinkAndClearsErrors port old new → Shown new
     link_shown old new on l =
-        let before : IsDrivenBy (IsGentle port) old l.seen = until_gentle port Ssts HasLink old l.seen l.sees in
-        let clears : IsDrivenBy (IsGentle port) l.seen new = by_then laws
-        (by_one (IsGentle port) (Writing (Px port Serr) 0xffffffff) l.seen l.clears.between (written_gentle port Serr 0xffffffff (λ e. absurd (let z : Serr ≡ Sctl = e in cc))) l.clears.errors)
-        (by_one (IsGentle port) (Writing (Px port Is) 0xffffffff) l.clears.between new (written_gentle port Is 0xffffffff (λ e. absurd (let z : Is ≡ Sctl = e in cc))) l.clears.causes) in
-        gently l.seen new (still_on old l.seen on before) clears (laws.shows_device port l.sees.value l.sees.waited l.seen l.sees.reads l.sees.shown)
+        let before : IsDrivenBy (IsGentle port) old l.after_link_is_seen = until_gentle port Ssts HasLink old l.after_link_is_seen l.reads_until_link in
+        let clears : IsDrivenBy (IsGentle port) l.after_link_is_seen new = by_then laws
+        (by_one (IsGentle port) (Writing (Px port Serr) 0xffffffff) l.after_link_is_seen l.clears.between (written_gentle port Serr 0xffffffff (λ e. absurd (let z : Serr ≡ Sctl = e in cc))) l.clears.clears_serr)
+        (by_one (IsGentle port) (Writing (Px port Is) 0xffffffff) l.clears.between new (written_gentle port Is 0xffffffff (λ e. absurd (let z : Is ≡ Sctl = e in cc))) l.clears.clears_is) in
+        gently l.after_link_is_seen new (still_on old l.after_link_is_seen on before) clears (laws.ssts_reading_shows_disk port l.reads_until_link.value l.reads_until_link.waited l.after_link_is_seen l.reads_until_link.reads l.reads_until_link.shown)
 
-    link_on : (old new : Device) → IsOn old → FindsLink port old new → IsOn new
+    link_on : (old new : Device) → IsOn old → FindsLinkAndClearsErrors port old new → IsOn new
     link_on old new on l =
-        still_on old new on (by_then laws (until_gentle port Ssts HasLink old l.seen l.sees) (by_then laws
-        (by_one (IsGentle port) (Writing (Px port Serr) 0xffffffff) l.seen l.clears.between (written_gentle port Serr 0xffffffff (λ e. absurd (let z : Serr ≡ Sctl = e in cc))) l.clears.errors)
-        (by_one (IsGentle port) (Writing (Px port Is) 0xffffffff) l.clears.between new (written_gentle port Is 0xffffffff (λ e. absurd (let z : Is ≡ Sctl = e in cc))) l.clears.causes)))
+        still_on old new on (by_then laws (until_gentle port Ssts HasLink old l.after_link_is_seen l.reads_until_link) (by_then laws
+        (by_one (IsGentle port) (Writing (Px port Serr) 0xffffffff) l.after_link_is_seen l.clears.between (written_gentle port Serr 0xffffffff (λ e. absurd (let z : Serr ≡ Sctl = e in cc))) l.clears.clears_serr)
+        (by_one (IsGentle port) (Writing (Px port Is) 0xffffffff) l.clears.between new (written_gentle port Is 0xffffffff (λ e. absurd (let z : Is ≡ Sctl = e in cc))) l.clears.clears_is)))
 
     signature_shown : (signature : ℕ) (old new : Device) → IsOn old → FindsSignature port signature old new → Shown new
     signature_shown signature old new on f =
-        gently f.linked new (link_on old f.linked on f.links)
+        gently f.linked new (link_on old f.linked on f.finds_link)
         (by_then laws (until_gentle port Tfd ShowsIdle f.linked f.idle f.waits) (read_gentle port Sig signature f.idle new f.reads))
-        (link_shown old f.linked on f.links)
+        (link_shown old f.linked on f.finds_link)
 
     looks_shown : (fault : PortFault) (old new : Device) → fault ≢ NoDevice → IsOn old → SeesResetFault port fault old new → Shown new
     looks_shown NoDevice old new other on l = absurd (other refl)
     looks_shown Busy old new other on l =
-        gently l.linked new (link_on old l.linked on l.links) (without_gentle port Tfd ShowsIdle MOST_READINGS l.linked new l.waits) (link_shown old l.linked on l.links)
+        gently l.linked new (link_on old l.linked on l.finds_link) (without_gentle port Tfd ShowsIdle MOST_READINGS l.linked new l.waits) (link_shown old l.linked on l.finds_link)
     looks_shown (NotAta signature) old new other on l = signature_shown signature old new on l
     looks_shown EngineStuck old new other on l = absurd l
 
@@ -103,20 +103,20 @@ module _ (laws : Laws) where
     reset_on Then old new on w =
         on_over laws (SparesOtherPorts port) old w.ended
         (by_then laws (by_one (SparesOtherPorts port) (Writing (Px port Sctl) 1) old w.sent refl w.sends) (by_one (SparesOtherPorts port) (Writing (Px port Sctl) 0) w.sent w.ended refl w.ends))
-        (laws.of_spares_ghc port) on
+        (laws.one_port_spares_ghc port) on
 
-    placing_on : (old new : Device) → IsOn old → IsDrivenBy (IsPortAccessWriting IsPlacingRegister port) old new → IsOn new
-    placing_on old new on driven = on_over laws (SparesOtherPorts port) old new (placing_driven laws port old new driven) (laws.of_spares_ghc port) on
+    placing_on : (old new : Device) → IsOn old → IsDrivenBy (ReadsPortOrWrites IsPlacingRegister port) old new → IsOn new
+    placing_on old new on driven = on_over laws (SparesOtherPorts port) old new (placing_driven laws port old new driven) (laws.one_port_spares_ghc port) on
 
     early_shown : (state : PortState) (old new : Device) → state ≢ Absent → IsOn old → EndsBeforeStart port state old new → Shown new
     early_shown state old new other on e =
         looks_shown e.fault e.resets.ended new (λ none. other (subst (IsStateOfFault state) none e.state_is))
         (reset_on (SeesResetFault port e.fault) e.placed new (placing_on old e.placed on e.places) e.resets) e.resets.does_rest
 
-    stop_gentle : (old new : Device) → IsDrivenBy (IsPortAccessWriting IsCommandRegister port) old new → IsDrivenBy (IsGentle port) old new
+    stop_gentle : (old new : Device) → IsDrivenBy (ReadsPortOrWrites IsCommandRegister port) old new → IsDrivenBy (IsGentle port) old new
     stop_gentle old new driven =
-        driven_as (IsPortAccessWriting IsCommandRegister port) (IsGentle port) old new
-        (λ access is. let c = laws.commanding port access is in (laws.of_spares_ghc port access c.0, c.1)) driven
+        driven_as (ReadsPortOrWrites IsCommandRegister port) (IsGentle port) old new
+        (λ access is. let c = laws.cmd_access_is_of_port port access is in (laws.one_port_spares_ghc port access c.0, c.1)) driven
 
     asking_gentle : (access : Access) → IsPageAccess port access → IsGentle port access
     asking_gentle (Reading r v) is = (tt, tt)
@@ -137,13 +137,13 @@ module _ (laws : Laws) where
       where
         signature_on : (a b : Device) → IsOn a → FindsSignature port 0x101 a b → IsOn b
         signature_on a b on_a f =
-            still_on f.linked b (link_on a f.linked on_a f.links)
+            still_on f.linked b (link_on a f.linked on_a f.finds_link)
             (by_then laws (until_gentle port Tfd ShowsIdle f.linked f.idle f.waits) (read_gentle port Sig 0x101 f.idle b f.reads))
 
     -- where a disk was found that isn't served, its way ends so
-    pub way_shown : (state : PortState) (old new : Device) → FoundBadDisk state → IsOn old → StopsAndBootsPort port (Unready state) old new → Shown new
+    pub way_shown : (state : PortState) (old new : Device) → FoundUnusableDevice state → IsOn old → StopsAndBootsPort port (Unready state) old new → Shown new
     way_shown Foreign old new bad on (stopped, stop, boot, early, late, sticks) =
-        late_shown stopped new (on_over laws (SparesOtherPorts port) old stopped (stop_driven laws port old stopped stop) (laws.of_spares_ghc port) on) (late tt)
+        late_shown stopped new (on_over laws (SparesOtherPorts port) old stopped (stop_driven laws port old stopped stop) (laws.one_port_spares_ghc port) on) (late tt)
     way_shown (Unfit n) old new bad on (stopped, stop, boot, early, late, sticks) = ⊎_elim
         (λ (seven : n ≡ 7). early_shown (Unfit n) stopped new (λ e. let z : Unfit n ≡ Absent = e in absurd cc) begun (early (inl seven)))
         (λ (a : n ≢ 7). ⊎_elim
@@ -153,18 +153,18 @@ module _ (laws : Laws) where
         (cases_eq n 7)
       where
         begun : IsOn stopped
-        begun = on_over laws (SparesOtherPorts port) old stopped (stop_driven laws port old stopped stop) (laws.of_spares_ghc port) on
+        begun = on_over laws (SparesOtherPorts port) old stopped (stop_driven laws port old stopped stop) (laws.one_port_spares_ghc port) on
     way_shown Absent old new bad on way = absurd bad
     way_shown Ready old new bad on way = absurd bad
     way_shown Dead old new bad on way = absurd bad
 
   -- and so it is once all were booted
-  pub taken_shown : (port : Port) (state : PortState) (ports : List ProbeResult) (old new : Device) → IsIdle old → FoundBadDisk state → probe_result_of ports port.0 ≡ Unready state
+  pub taken_shown : (port : Port) (state : PortState) (ports : List ProbeResult) (old new : Device) → IsIdle old → FoundUnusableDevice state → probe_result_of ports port.0 ≡ Unready state
       → SwitchesOnAndBoots ports old new → ShowsDiskIfIn (new.port port.0)
   taken_shown port state ports old new idle bad is way =
       taken_last laws (λ d. ShowsDiskIfIn (d.port port.0)) port (Unready state) (λ e. absurd (let z : Unready state ≡ Unserved = e in cc))
       (λ a b on through. way_shown port state a b bad on through)
       (λ a b on driven h. gently port a b on
-      (driven_as (IsOfOther port.0) (IsGentle port) a b (λ access is. (laws.of_spares_ghc is.0 access is.2, other_spares laws port Sctl access is)) driven) h)
-      (λ a b on does h. laws.keeps_device port (Writing Ghc 0x80000002) a b on.no_reset (λ (e : Ghc ≡ Px port Sctl). absurd cc) does h)
+      (driven_as (IsOfOther port.0) (IsGentle port) a b (λ access is. (laws.one_port_spares_ghc is.0 access is.2, other_spares laws port Sctl access is)) driven) h)
+      (λ a b on does h. laws.shown_device_stays port (Writing Ghc 0x80000002) a b on.no_reset (λ (e : Ghc ≡ Px port Sctl). absurd cc) does h)
       ports old new idle is way

@@ -6,9 +6,9 @@ use Rattle.hba_regs.specs.declared.reg.Reg.TheVariants.{Ghc}
 use Rattle.adapter.specs.Access.{Access, Does}
 use Rattle.adapter.specs.Device.{Device}
 use Rattle.adapter.specs.Rules.{IsOn}
-use Rattle.refinement.specs.Fragments.{AnyAccess, TapeGrows, IsPortAccessWriting, IsDrivenBy, SparesOtherPorts, IsSimulatedAlongChangingUses, NoneWrites}
+use Rattle.refinement.specs.Fragments.{AnyAccess, TapeGrows, ReadsPortOrWrites, IsDrivenBy, SparesOtherPorts, IsSimulatedAlongChangingUses, NoneWrites}
 use Rattle.refinement.specs.PortFacts.{Undisturbed}
-use Rattle.refinement.specs.Links.{SameAdapter, DoesNotWrite}
+use Rattle.refinement.specs.PreservedParts.{SameAdapter, DoesNotWrite}
 use Rattle.refinement.specs.Slots.{SlotStates}
 use Rattle.port_control.specs.Ports.{IsPlacingRegister, IsCommandRegister}
 use Rattle.host_boot.specs.Laws.{Laws, AccessPurpose, slot_uses_for, accesses_for}
@@ -28,7 +28,7 @@ driven_as May More old new kind a = record { accesses = a.accesses; all_are_done
 -- more is told of a list
 pub told_more : (Tells More : List Access → Type 0) (May : Access → Type 0) (Fits : SlotStates → Type 0) (next : SlotStates → SlotStates) (old new : Device) → ((accesses : List Access) → Tells accesses → More accesses) →
     IsSimulatedAlongChangingUses Tells May Fits next old new → IsSimulatedAlongChangingUses More May Fits next old new
-told_more Tells More May Fits next old new more a = record { followed = a.followed; tells = more a.followed.is_driven.accesses a.tells }
+told_more Tells More May Fits next old new more a = record { is_simulated = a.is_simulated; accesses_are_such = more a.is_simulated.is_driven.accesses a.accesses_are_such }
 
 module _ (laws : Laws) where
   -- one after another
@@ -46,23 +46,23 @@ module _ (laws : Laws) where
     any = driven_as May AnyAccess old new (λ access may. tt) driven
 
     pub same_over : SameAdapter old new
-    same_over = laws.same_any old new any
+    same_over = laws.accesses_keep_adapter old new any
 
     pub tape_over : TapeGrows old new
-    tape_over = laws.tape_any old new any
+    tape_over = laws.accesses_extend_tape old new any
 
     pub on_over : NoneWrites May Ghc → IsOn old → IsOn new
-    on_over spares on = laws.on_all driven.accesses old new on (All-weaker May (DoesNotWrite Ghc) spares driven.accesses driven.accesses_are_of_kind) driven.all_are_done
+    on_over spares on = laws.accesses_keep_adapter_on driven.accesses old new on (All-weaker May (DoesNotWrite Ghc) spares driven.accesses driven.accesses_are_of_kind) driven.all_are_done
 
   pub calm_in_parts : (port : ℕ) (old mid new : Device) → TapeGrows old mid → TapeGrows mid new → Undisturbed port old new → Undisturbed port old mid × Undisturbed port mid new
-  calm_in_parts port old mid new early late calm = laws.tape.calm_parts port old mid new early.0 late.0 early.1 late.1 calm
+  calm_in_parts port old mid new early late calm = laws.tape.undisturbed_in_parts port old mid new early.0 late.0 early.1 late.1 calm
 
   -- those that stop a port, or put its areas into their places, are of the port
-  pub stop_driven : (port : Port) (old new : Device) → IsDrivenBy (IsPortAccessWriting IsCommandRegister port) old new → IsDrivenBy (SparesOtherPorts port) old new
-  stop_driven port old new = driven_as (IsPortAccessWriting IsCommandRegister port) (SparesOtherPorts port) old new (λ access is. (laws.commanding port access is).0)
+  pub stop_driven : (port : Port) (old new : Device) → IsDrivenBy (ReadsPortOrWrites IsCommandRegister port) old new → IsDrivenBy (SparesOtherPorts port) old new
+  stop_driven port old new = driven_as (ReadsPortOrWrites IsCommandRegister port) (SparesOtherPorts port) old new (λ access is. (laws.cmd_access_is_of_port port access is).0)
 
-  pub placing_driven : (port : Port) (old new : Device) → IsDrivenBy (IsPortAccessWriting IsPlacingRegister port) old new → IsDrivenBy (SparesOtherPorts port) old new
-  placing_driven port old new = driven_as (IsPortAccessWriting IsPlacingRegister port) (SparesOtherPorts port) old new (λ access is. (laws.placing port access is).0)
+  pub placing_driven : (port : Port) (old new : Device) → IsDrivenBy (ReadsPortOrWrites IsPlacingRegister port) old new → IsDrivenBy (SparesOtherPorts port) old new
+  placing_driven port old new = driven_as (ReadsPortOrWrites IsPlacingRegister port) (SparesOtherPorts port) old new (λ access is. (laws.placing_access_is_of_port port access is).0)
 
   -- ---- stretches that are followed
 
@@ -70,8 +70,8 @@ module _ (laws : Laws) where
   pub told_wider : (Tells : List Access → Type 0) (kind more : AccessPurpose) (next : SlotStates → SlotStates) (old new : Device) → ((access : Access) → accesses_for kind access → accesses_for more access) →
       ((uses : SlotStates) → slot_uses_for more uses → slot_uses_for kind uses) → IsSimulatedAlongChangingUses Tells (accesses_for kind) (slot_uses_for kind) next old new → IsSimulatedAlongChangingUses Tells (accesses_for more) (slot_uses_for more) next old new
   told_wider Tells kind more next old new wider fits a =
-      let f = laws.fragments.wider kind more next wider fits old new a.followed in
-      record { followed = f.followed; tells = subst Tells (sym f.tells) a.tells }
+      let f = laws.fragments.is_of_wider_kind kind more next wider fits old new a.is_simulated in
+      record { is_simulated = f.is_simulated; accesses_are_such = subst Tells (sym f.accesses_are_such) a.accesses_are_such }
 
   -- of two, one after another
   module _ (First Second Tells : List Access → Type 0) (join : (early late : List Access) → First early → Second late → Tells (early ++ late)) where
@@ -79,5 +79,5 @@ module _ (laws : Laws) where
         (old mid new : Device) → IsSimulatedAlongChangingUses First (accesses_for kind) (slot_uses_for kind) first old mid → IsSimulatedAlongChangingUses Second (accesses_for then) (slot_uses_for then) second mid new →
         IsSimulatedAlongChangingUses Tells (accesses_for kind) (slot_uses_for kind) (λ uses. second (first uses)) old new
     told_both kind then first second wider on old mid new a b =
-        let f = laws.fragments.both kind then first second wider on old mid new a.followed b.followed in
-        record { followed = f.followed; tells = subst Tells (sym f.tells) (join a.followed.is_driven.accesses b.followed.is_driven.accesses a.tells b.tells) }
+        let f = laws.fragments.fragments_join kind then first second wider on old mid new a.is_simulated b.is_simulated in
+        record { is_simulated = f.is_simulated; accesses_are_such = subst Tells (sym f.accesses_are_such) (join a.is_simulated.is_driven.accesses b.is_simulated.is_driven.accesses a.accesses_are_such b.accesses_are_such) }

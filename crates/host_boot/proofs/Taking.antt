@@ -20,31 +20,31 @@ use Rattle.adapter.specs.Rules.{IsOn}
 use Rattle.adapter.specs.declared.command.Operation.{Operation}
 use Rattle.adapter.specs.declared.command.Operation.TheVariants.{Identify}
 use Rattle.refinement.specs.Relation.{port_at}
-use Rattle.refinement.specs.Fragments.{AnyUse, IsRelated, IsDrivenBy, IsSimulated, IsSimulatedChangingUses, SparesOtherPorts, IsSimulatedAlongChangingUses, SameUses, LeavesPort, NoneWrites, GainsNoMove, OnlyDeviceActs}
+use Rattle.refinement.specs.Fragments.{AnySlotStates, SomeMachineAgrees, IsDrivenBy, IsSimulated, IsSimulatedChangingUses, SparesOtherPorts, IsSimulatedAlongChangingUses, SameSlotStates, LeavesPort, NoneWrites, GainsNoMove, DeviceStepsKeepSlots}
 use Rattle.refinement.specs.Driver.{AllFree}
 use Rattle.refinement.specs.Halting.{HaltOfTakenIfSt}
-use Rattle.refinement.specs.Links.{SameAdapter, DoesNotWrite}
+use Rattle.refinement.specs.PreservedParts.{SameAdapter, DoesNotWrite}
 use Rattle.refinement.specs.Slots.{Free, Own, SlotStates, set_slot_state}
 use Rattle.identify.specs.declared.wanted.Wanted.{Wanted}
 use Rattle.identify.specs.declared.wanted.Wanted.TheVariants.{Nothing}
-use Rattle.port_control.specs.Engines.{StopsBoth}
+use Rattle.port_control.specs.Engines.{StopsBothEngines}
 use Rattle.port_boot.specs.States.{IsBoot, IsBootTo, IsBootAccess}
-use Rattle.host_boot.specs.TakeOver.{Boots, SwitchesOnAndBoots, ReadyHaltOfTaken, IsUnusedOrDead, IsHostAccess, IsTakeOverAccess, LeavesPorts, BacksProbeResult, TakesOver, TellsEngines, WroteSctl, probe_result_of, unused_slots, wanted_of}
+use Rattle.host_boot.specs.TakeOver.{BootsAndTellsEngines, SwitchesOnAndBoots, ReadyHaltOfTaken, IsUnusedOrDead, IsHostAccess, IsTakeOverAccess, LeavesPorts, BacksProbeResult, TakesOver, TellsEngines, WroteSctl, probe_result_of, unused_slots, wanted_of}
 use Rattle.host_boot.specs.declared.Host.{Host}
 use Rattle.host_boot.specs.declared.ProbeResult.{ProbeResult}
 use Rattle.host_boot.specs.declared.ProbeResult.TheVariants.{Unserved, Ready, Unready}
 use Rattle.host_boot.proofs.Stopping.{tells_then, tells_since}
 use Rattle.host_boot.proofs.Leaving.{idle_on, is_served, stands_on, reset_on}
-use Rattle.refinement.specs.Acts.{ActsReach, DriverSlots, driver_state}
+use Rattle.refinement.specs.Acts.{ActsReach, DriverSlots, driver_state_of_slots}
 use Rattle.host_boot.specs.Laws.{Laws, SlotCondition, slot_uses_meeting}
 use Rattle.refinement.specs.Tape.{TapeTells}
 use Rattle.host_boot.proofs.Stretching.{driven_as, same_over, tape_over, told_both, told_more, told_wider}
-use Rattle.host_boot.specs.Laws.SlotCondition.{AnyUses, PortUnused, Only}
-use Rattle.host_boot.specs.Laws.AccessPurpose.{Booting, Hosting, Taking}
+use Rattle.host_boot.specs.Laws.SlotCondition.{AnyUses, PortUnused, ExactUses}
+use Rattle.host_boot.specs.Laws.AccessPurpose.{Booting, AccessingHostRegisters, TakingOver}
 
 -- the uses are these at last
 abbrev GoesTo : (Access → Type 0) → SlotStates → SlotStates → Device → Device → Type 0
-GoesTo May first uses old new = IsSimulatedChangingUses May (SameUses first) (λ _. uses) old new
+GoesTo May first uses old new = IsSimulatedChangingUses May (SameSlotStates first) (λ _. uses) old new
 
 -- what they tell of the first ports
 abbrev TellsFirst : List ProbeResult → ℕ → List Access → Type 0
@@ -58,8 +58,8 @@ pub record IsUnderway (wanted : List Wanted) (ports : List ProbeResult) (n : ℕ
   pub uses : SlotStates
   pub left : (port slot : ℕ) → IsUnusedOrDead ports uses port slot
   pub free : (port slot : ℕ) → n ≤ port → uses port slot ≡ Free
-  pub told : IsSimulatedAlongChangingUses (TellsFirst ports n) (IsTakeOverAccess wanted) (SameUses unused_slots) (λ _. uses) start d
-  pub agreed : IsRelated uses d
+  pub told : IsSimulatedAlongChangingUses (TellsFirst ports n) (IsTakeOverAccess wanted) (SameSlotStates unused_slots) (λ _. uses) start d
+  pub agreed : SomeMachineAgrees uses d
   pub stands : (port : ℕ) → port < n → BacksProbeResult (wanted_of wanted port) (probe_result_of ports port) port d
   pub reset : (port : ℕ) → port < n → WroteSctl (probe_result_of ports port) port (length start.tape) d
   pub halts : (port : ℕ) → port < n → ReadyHaltOfTaken (probe_result_of ports port) port d
@@ -67,8 +67,8 @@ pub record IsUnderway (wanted : List Wanted) (ports : List ProbeResult) (n : ℕ
 
 host_spares : (q : Port) (r : PortReg) → NoneWrites IsHostAccess (Px q r)
 host_spares q r (Reading x v) is = tt
-host_spares q r (Loading driver_state bytes) is = absurd is
-host_spares q r (Storing driver_state bytes) is = absurd is
+host_spares q r (Loading driver_state_of_slots bytes) is = absurd is
+host_spares q r (Storing driver_state_of_slots bytes) is = absurd is
 host_spares q r (Writing Ghc v) is = λ (e : Ghc ≡ Px q r). absurd cc
 host_spares q r (Writing Cap v) is = absurd is
 host_spares q r (Writing Is v) is = absurd is
@@ -81,30 +81,30 @@ host_spares q r (Writing (Px p x) v) is = absurd is
 module _ (laws : Laws) where
   -- what halts a port is of a taken command still, over what was followed without a write of its PxCMD, where it was found ready
   still_halts : (May : Access → Type 0) (Fits : SlotStates → Type 0) (next : SlotStates → SlotStates) (uses : SlotStates) (q : ℕ) (old new : Device) → NoneWrites May (Px (port_at q) Cmd) → Fits uses
-      → IsSimulatedChangingUses May Fits next old new → IsRelated uses old → (wanted : Wanted) (found : ProbeResult) → BacksProbeResult wanted found q new → ReadyHaltOfTaken found q old → ReadyHaltOfTaken found q new
+      → IsSimulatedChangingUses May Fits next old new → SomeMachineAgrees uses old → (wanted : Wanted) (found : ProbeResult) → BacksProbeResult wanted found q new → ReadyHaltOfTaken found q old → ReadyHaltOfTaken found q new
   still_halts May Fits next uses q old new spares fits f a wanted found stands halts info is =
-      let slots : DriverSlots = record { uses = uses; parked = a.parked } in
+      let slots : DriverSlots = record { slot_states = uses; awaiting_disposition = a.parked } in
       let c = f.acts_reach slots a.machine a.reached a.driver_relation fits in
       let then : HaltOfTakenIfSt (new.port q) =
-      laws.halts_acts (port_at q) c.acts (driver_state slots old) (driver_state (record slots { uses = next uses }) new) a.machine a.reached a.driver_relation c.acts_are_done
-      (subst (All (DoesNotWrite (Px (port_at q) Cmd))) (sym c.accesses_are) (All-weaker May (DoesNotWrite (Px (port_at q) Cmd)) spares f.is_driven.accesses f.is_driven.accesses_are_of_kind)) (λ _. halts info is) in
-      then (subst (λ (x : ProbeResult). BacksProbeResult wanted x q new) is stands).1.runs.st
+      laws.halt_of_taken_stays_over_acts (port_at q) c.acts (driver_state_of_slots slots old) (driver_state_of_slots (record slots { slot_states = next uses }) new) a.machine a.reached a.driver_relation c.acts_are_done
+      (subst (All (DoesNotWrite (Px (port_at q) Cmd))) (sym c.accesses_match_acts) (All-weaker May (DoesNotWrite (Px (port_at q) Cmd)) spares f.is_driven.accesses f.is_driven.accesses_are_of_kind)) (λ _. halts info is) in
+      then (subst (λ (x : ProbeResult). BacksProbeResult wanted x q new) is stands).1.runs.st_is_set
 
   module _ (wanted : List Wanted) (first : SlotStates) where
     -- nothing is put to use
-    pub goes_on : (old new : Device) → IsSimulated (IsTakeOverAccess wanted) AnyUse old new → GoesTo (IsTakeOverAccess wanted) first first old new
+    pub goes_on : (old new : Device) → IsSimulated (IsTakeOverAccess wanted) AnySlotStates old new → GoesTo (IsTakeOverAccess wanted) first first old new
     goes_on old new a = record {
       is_driven = a.is_driven;
       acts_reach = λ s m reached x is.
-          subst (λ (u : SlotStates). ActsReach a.is_driven.accesses (driver_state s old) m (driver_state (record s { uses = u }) new) (OnlyDeviceActs (IsTakeOverAccess wanted) s.uses)) is (a.acts_reach s m reached x tt);
+          subst (λ (u : SlotStates). ActsReach a.is_driven.accesses (driver_state_of_slots s old) m (driver_state_of_slots (record s { slot_states = u }) new) (DeviceStepsKeepSlots (IsTakeOverAccess wanted) s.slot_states)) is (a.acts_reach s m reached x tt);
     }
 
     -- and then others, with what is told of both
     pub then_told : (Before Here TapeTells : List Access → Type 0) → ((early late : List Access) → Before early → Here late → TapeTells (early ++ late)) → (fitting : SlotCondition) (next : SlotStates → SlotStates) (uses : SlotStates)
-        (old mid new : Device) → slot_uses_meeting fitting uses → IsSimulatedAlongChangingUses Before (IsTakeOverAccess wanted) (SameUses first) (λ _. uses) old mid → IsSimulatedAlongChangingUses Here (IsTakeOverAccess wanted) (slot_uses_meeting fitting) next mid new →
-        IsSimulatedAlongChangingUses TapeTells (IsTakeOverAccess wanted) (SameUses first) (λ _. next uses) old new
+        (old mid new : Device) → slot_uses_meeting fitting uses → IsSimulatedAlongChangingUses Before (IsTakeOverAccess wanted) (SameSlotStates first) (λ _. uses) old mid → IsSimulatedAlongChangingUses Here (IsTakeOverAccess wanted) (slot_uses_meeting fitting) next mid new →
+        IsSimulatedAlongChangingUses TapeTells (IsTakeOverAccess wanted) (SameSlotStates first) (λ _. next uses) old new
     then_told Before Here TapeTells join fitting next uses old mid new fits a b =
-        told_both laws Before Here TapeTells join (Taking wanted (Only first)) (Taking wanted fitting) (λ _. uses) next (λ access may. may) (λ were is. fits) old mid new a b
+        told_both laws Before Here TapeTells join (TakingOver wanted (ExactUses first)) (TakingOver wanted fitting) (λ _. uses) next (λ access may. may) (λ were is. fits) old mid new a b
 
   module _ (wanted : List Wanted) (ports : List ProbeResult) (port : Port) (below : port.0 < 4) (start old new : Device) (found : ProbeResult)
       (u : IsUnderway wanted ports port.0 start old) (on : IsOn new) (stands : BacksProbeResult (wanted_of wanted port.0) found port.0 new)
@@ -132,16 +132,16 @@ module _ (laws : Laws) where
     module _ (driven : IsDrivenBy (IsBootAccess port) old new)
         (quiet : (q : Port) → q.0 ≢ port.0 → (u.uses q.0 0 ≡ Own Identify → ⊥) → GainsNoMove q.0 Identify old new) where
       alone : (q : ℕ) → q ≢ port.0 → LeavesPort (old.port q) (new.port q)
-      alone q other = laws.left port q old new other u.on (driven_as (IsBootAccess port) (SparesOtherPorts port) old new (laws.of_boot port) driven)
+      alone q other = laws.other_ports_are_left port q old new other u.on (driven_as (IsBootAccess port) (SparesOtherPorts port) old new (laws.boot_access_is_of_port port) driven)
 
       pub later_same : SameAdapter start new
-      later_same = laws.same_more start old new u.same (same_over laws (IsBootAccess port) old new driven)
+      later_same = laws.same_adapter_is_transitive start old new u.same (same_over laws (IsBootAccess port) old new driven)
 
       at_other : (q : ℕ) → q ≢ port.0 → q < port.0 → BacksProbeResult (wanted_of wanted q) (probe_result_of (slice_set ports port.0 found) q) q new
       at_other q other less =
           let P : ProbeResult → Type 0 = λ f. BacksProbeResult (wanted_of wanted q) f q new in
           subst P (sym (other_is q other))
-          (stands_on laws.found q old new (alone q other) (same_over laws (IsBootAccess port) old new driven) (wanted_of wanted q) (probe_result_of ports q)
+          (stands_on laws.probe_results q old new (alone q other) (same_over laws (IsBootAccess port) old new driven) (wanted_of wanted q) (probe_result_of ports q)
           (λ alive. quiet (port_at q) other (λ own. elim (u.left q 0) [
             | inl free ↦ absurd (let e : Own Identify ≡ Free = sym own ∙ free in cc)
             | inr (head, is, dead) ↦ alive dead
@@ -160,7 +160,7 @@ module _ (laws : Laws) where
       -- the tape only grew before it
       longer : length start.tape ≤ length old.tape
       longer =
-          let g = tape_over laws (IsTakeOverAccess wanted) start old u.told.followed.is_driven in
+          let g = tape_over laws (IsTakeOverAccess wanted) start old u.told.is_simulated.is_driven in
           let n : length old.tape ≡ length start.tape + length g.0 = ap (λ es. length es) g.1 ∙ length-append start.tape g.0 in
           omega (arith, n)
 
@@ -234,17 +234,17 @@ module _ (laws : Laws) where
           subst P (sym e) (subst Q (sym here_is) halts)
       | inr other ↦
           let Q : ProbeResult → Type 0 = λ f. ReadyHaltOfTaken f q old in
-          still_halts (IsBootAccess port) (λ uses. AllFree uses port.0) next u.uses q old new (λ access may. laws.of_spares port (port_at q) Cmd other access (laws.of_boot port access may)) unused_here f u.agreed
+          still_halts (IsBootAccess port) (λ uses. AllFree uses port.0) next u.uses q old new (λ access may. laws.one_port_spares_registers port (port_at q) Cmd other access (laws.boot_access_is_of_port port access may)) unused_here f u.agreed
           (wanted_of wanted q) (probe_result_of (slice_set ports port.0 found) q) (stand q less) (subst Q (sym (other_is q other)) (u.halts q (omega (arith, less, other))))
     ]
 
     pub booted : found ≢ Unserved → IsBoot (TellsEngines port found) port old new → Later
     booted served told =
-        let f : IsSimulated (IsBootAccess port) (λ uses. AllFree uses port.0) old new = told.followed in
+        let f : IsSimulated (IsBootAccess port) (λ uses. AllFree uses port.0) old new = told.is_simulated in
         let quiet : (q : Port) → q.0 ≢ port.0 → (u.uses q.0 0 ≡ Own Identify → ⊥) → GainsNoMove q.0 Identify old new =
         λ (q : Port) (other : q.0 ≢ port.0) (not : u.uses q.0 0 ≡ Own Identify → ⊥).
-        laws.fragments.silent (Booting port) (λ uses. uses) u.uses q Identify old new unused_here (λ access may. laws.of_spares port q Ci other access (laws.of_boot port access may))
-        (λ access may. laws.of_spares port q Sact other access (laws.of_boot port access may)) refl not f u.agreed in
+        laws.fragments.unused_slot_gains_no_move (Booting port) (λ uses. uses) u.uses q Identify old new unused_here (λ access may. laws.one_port_spares_registers port q Ci other access (laws.boot_access_is_of_port port access may))
+        (λ access may. laws.one_port_spares_registers port q Sact other access (laws.boot_access_is_of_port port access may)) refl not f u.agreed in
         record {
           on = on;
           same = later_same f.is_driven quiet;
@@ -257,8 +257,8 @@ module _ (laws : Laws) where
           free = λ q slot more. u.free q slot (omega (arith, more));
           told = then_told wanted unused_slots (TellsFirst ports port.0) (TellsEngines port found) (TellsFirst (slice_set ports port.0 found) (port.0 + 1)) later_engines (PortUnused port) (λ uses. uses)
               u.uses start old new unused_here u.told
-              (told_wider laws (TellsEngines port found) (Booting port) (Taking wanted (PortUnused port)) (λ uses. uses) old new (taking f.is_driven quiet served) (λ uses free. free) told);
-          agreed = laws.fragments.agreed (Booting port) (λ uses. uses) u.uses old new unused_here f u.agreed;
+              (told_wider laws (TellsEngines port found) (Booting port) (TakingOver wanted (PortUnused port)) (λ uses. uses) old new (taking f.is_driven quiet served) (λ uses free. free) told);
+          agreed = laws.fragments.some_machine_agrees (Booting port) (λ uses. uses) u.uses old new unused_here f u.agreed;
           stands = later_stands f.is_driven quiet;
           halts = later_halts (λ uses. uses) f (later_stands f.is_driven quiet);
           reset = later_reset f.is_driven quiet;
@@ -272,15 +272,15 @@ module _ (laws : Laws) where
 
     pub died : found ≡ Unready Dead → IsSimulatedAlongChangingUses (TellsEngines port found) (IsBootAccess port) (λ uses. AllFree uses port.0) Asked old new → Later
     died dead told =
-        let f : IsSimulatedChangingUses (IsBootAccess port) (λ uses. AllFree uses port.0) Asked old new = told.followed in
+        let f : IsSimulatedChangingUses (IsBootAccess port) (λ uses. AllFree uses port.0) Asked old new = told.is_simulated in
         let served : found ≢ Unserved = λ (e : found ≡ Unserved). absurd (let k : Unready Dead ≡ Unserved = sym dead ∙ e in cc) in
         let quiet : (q : Port) → q.0 ≢ port.0 → (u.uses q.0 0 ≡ Own Identify → ⊥) → GainsNoMove q.0 Identify old new =
         λ (q : Port) (other : q.0 ≢ port.0) (not : u.uses q.0 0 ≡ Own Identify → ⊥).
-        laws.fragments.silent (Booting port) Asked u.uses q Identify old new unused_here (λ access may. laws.of_spares port q Ci other access (laws.of_boot port access may))
-        (λ access may. laws.of_spares port q Sact other access (laws.of_boot port access may)) refl not f u.agreed in
+        laws.fragments.unused_slot_gains_no_move (Booting port) Asked u.uses q Identify old new unused_here (λ access may. laws.one_port_spares_registers port q Ci other access (laws.boot_access_is_of_port port access may))
+        (λ access may. laws.one_port_spares_registers port q Sact other access (laws.boot_access_is_of_port port access may)) refl not f u.agreed in
         let stays : (q : ℕ) (o : Operation) → u.uses q 0 ≡ Own o → Asked u.uses q 0 ≡ Own o =
         λ (q : ℕ) (o : Operation) (e : u.uses q 0 ≡ Own o).
-        laws.put_other u.uses port.0 0 (Own Identify) q 0 (λ driver_state head. absurd (let k : Own o ≡ Free = sym e ∙ u.free q 0 (omega (arith, driver_state)) in cc)) ∙ e in
+        laws.setting_slot_keeps_others u.uses port.0 0 (Own Identify) q 0 (λ driver_state_of_slots head. absurd (let k : Own o ≡ Free = sym e ∙ u.free q 0 (omega (arith, driver_state_of_slots)) in cc)) ∙ e in
         record {
           on = on;
           same = later_same f.is_driven quiet;
@@ -290,21 +290,21 @@ module _ (laws : Laws) where
             | inl e ↦ elim (cases_eq slot 0) [
               | inl head ↦ inr (
                 head,
-                let P : ℕ → Type 0 = λ k. Asked u.uses k 0 ≡ Own Identify in subst P (sym e) (laws.put_same u.uses port.0 0 (Own Identify)),
+                let P : ℕ → Type 0 = λ k. Asked u.uses k 0 ≡ Own Identify in subst P (sym e) (laws.set_slot_has_state u.uses port.0 0 (Own Identify)),
                 let P : ℕ → Type 0 = λ k. probe_result_of (slice_set ports port.0 found) k ≡ Unready Dead in subst P (sym e) (here_is ∙ dead),
               )
-              | inr tail ↦ inl (laws.put_other u.uses port.0 0 (Own Identify) q slot (λ driver_state head. tail head) ∙ u.free q slot (omega (arith, e)))
+              | inr tail ↦ inl (laws.setting_slot_keeps_others u.uses port.0 0 (Own Identify) q slot (λ driver_state_of_slots head. tail head) ∙ u.free q slot (omega (arith, e)))
             ]
             | inr other ↦ elim (was_left q slot other) [
-              | inl free ↦ inl (laws.put_other u.uses port.0 0 (Own Identify) q slot (λ driver_state head. other driver_state) ∙ free)
+              | inl free ↦ inl (laws.setting_slot_keeps_others u.uses port.0 0 (Own Identify) q slot (λ driver_state_of_slots head. other driver_state_of_slots) ∙ free)
               | inr (head, own, is) ↦ inr (head, stays q Identify own, is)
             ]
           ];
-          free = λ q slot more. laws.put_other u.uses port.0 0 (Own Identify) q slot (λ driver_state head. absurd (omega (arith, driver_state, more))) ∙ u.free q slot (omega (arith, more));
+          free = λ q slot more. laws.setting_slot_keeps_others u.uses port.0 0 (Own Identify) q slot (λ driver_state_of_slots head. absurd (omega (arith, driver_state_of_slots, more))) ∙ u.free q slot (omega (arith, more));
           told = then_told wanted unused_slots (TellsFirst ports port.0) (TellsEngines port found) (TellsFirst (slice_set ports port.0 found) (port.0 + 1)) later_engines (PortUnused port) Asked
               u.uses start old new unused_here u.told
-              (told_wider laws (TellsEngines port found) (Booting port) (Taking wanted (PortUnused port)) Asked old new (taking f.is_driven quiet served) (λ uses free. free) told);
-          agreed = laws.fragments.agreed (Booting port) Asked u.uses old new unused_here f u.agreed;
+              (told_wider laws (TellsEngines port found) (Booting port) (TakingOver wanted (PortUnused port)) Asked old new (taking f.is_driven quiet served) (λ uses free. free) told);
+          agreed = laws.fragments.some_machine_agrees (Booting port) Asked u.uses old new unused_here f u.agreed;
           stands = later_stands f.is_driven quiet;
           halts = later_halts Asked f (later_stands f.is_driven quiet);
           reset = later_reset f.is_driven quiet;
@@ -326,7 +326,7 @@ module _ (laws : Laws) where
             | inr other ↦ was_left q slot other
           ];
           free = λ q slot more. u.free q slot (omega (arith, more));
-          told = told_more (TellsFirst ports port.0) (TellsFirst (slice_set ports port.0 found) (port.0 + 1)) (IsTakeOverAccess wanted) (SameUses unused_slots) (λ _. u.uses) start old (same_engines is) u.told;
+          told = told_more (TellsFirst ports port.0) (TellsFirst (slice_set ports port.0 found) (port.0 + 1)) (IsTakeOverAccess wanted) (SameSlotStates unused_slots) (λ _. u.uses) start old (same_engines is) u.told;
           agreed = u.agreed;
           stands = λ q less. elim (cases_eq q port.0) [
             | inl e ↦
@@ -360,13 +360,13 @@ module _ (laws : Laws) where
         })
 
     -- whatever it was found to be
-    pub next : Boots port found old new → Later
+    pub next : BootsAndTellsEngines port found old new → Later
     next boots = by found refl boots
       where
         booted_as : (f : ProbeResult) → found ≡ f → f ≢ Unserved → IsBoot (TellsEngines port f) port old new → Later
         booted_as f is served b = booted (λ e. served (sym is ∙ e)) (subst (λ (x : ProbeResult). IsBoot (TellsEngines port x) port old new) (sym is) b)
 
-        by_state : (state : PortState) → found ≡ Unready state → IsBootTo (StopsBoth port) port state old new → Later
+        by_state : (state : PortState) → found ≡ Unready state → IsBootTo (StopsBothEngines port) port state old new → Later
         by_state Dead is (inl b) = booted_as (Unready Dead) is (λ e. absurd cc) b
         by_state Dead is (inr b) = died is (subst (λ (x : ProbeResult). IsSimulatedAlongChangingUses (TellsEngines port x) (IsBootAccess port) (λ uses. AllFree uses port.0) Asked old new) (sym is) b)
         by_state Absent is b = booted_as (Unready Absent) is (λ e. absurd cc) b
@@ -374,23 +374,23 @@ module _ (laws : Laws) where
         by_state Foreign is b = booted_as (Unready Foreign) is (λ e. absurd cc) b
         by_state (Unfit n) is b = booted_as (Unready (Unfit n)) is (λ e. absurd cc) b
 
-        by : (f : ProbeResult) → found ≡ f → Boots port f old new → Later
+        by : (f : ProbeResult) → found ≡ f → BootsAndTellsEngines port f old new → Later
         by Unserved is same = passed is same
         by (Ready info) is b = booted_as (Ready info) is (λ e. absurd cc) b
         by (Unready state) is b = by_state state is b
 
   -- the adapter is what it was
-  pub boots_same : (port : Port) (old new : Device) (found : ProbeResult) → Boots port found old new → SameAdapter old new
-  boots_same port old new Unserved is = subst (SameAdapter old) (sym is) (laws.same_refl old)
-  boots_same port old new (Ready info) f = same_over laws (IsBootAccess port) old new f.followed.is_driven
-  boots_same port old new (Unready state) f = same_over laws (IsBootAccess port) old new (laws.stops_driven port state old new f)
+  pub boots_same : (port : Port) (old new : Device) (found : ProbeResult) → BootsAndTellsEngines port found old new → SameAdapter old new
+  boots_same port old new Unserved is = subst (SameAdapter old) (sym is) (laws.same_adapter_is_reflexive old)
+  boots_same port old new (Ready info) f = same_over laws (IsBootAccess port) old new f.is_simulated.is_driven
+  boots_same port old new (Unready state) f = same_over laws (IsBootAccess port) old new (laws.boot_with_stops_is_driven port state old new f)
 
-  hosting : (wanted : List Wanted) (old new : Device) → IsSimulated IsHostAccess AnyUse old new → IsSimulated (IsTakeOverAccess wanted) AnyUse old new
-  hosting wanted old new f = (laws.fragments.wider Hosting (Taking wanted AnyUses) (λ uses. uses) (λ access may. inl may) (λ uses is. is) old new f).followed
+  hosting : (wanted : List Wanted) (old new : Device) → IsSimulated IsHostAccess AnySlotStates old new → IsSimulated (IsTakeOverAccess wanted) AnySlotStates old new
+  hosting wanted old new f = (laws.fragments.is_of_wider_kind AccessingHostRegisters (TakingOver wanted AnyUses) (λ uses. uses) (λ access may. inl may) (λ uses is. is) old new f).is_simulated
 
   module _ (wanted : List Wanted) (start : Device) where
     -- no port was booted yet
-    pub begins : (ports : List ProbeResult) (d : Device) → length ports ≡ 4 → IsIdle start → IsRelated unused_slots start → IsOn d → LeavesPorts start d → IsSimulated IsHostAccess AnyUse start d →
+    pub begins : (ports : List ProbeResult) (d : Device) → length ports ≡ 4 → IsIdle start → SomeMachineAgrees unused_slots start → IsOn d → LeavesPorts start d → IsSimulated IsHostAccess AnySlotStates start d →
         IsUnderway wanted ports 0 start d
     begins ports d long idle agreed on leaves f = record {
       on = on;
@@ -399,8 +399,8 @@ module _ (laws : Laws) where
       uses = unused_slots;
       left = λ port slot. inl refl;
       free = λ port slot more. refl;
-      told = record { followed = goes_on wanted unused_slots start d (hosting wanted start d f); tells = λ port less. absurd (omega (arith, less)) };
-      agreed = laws.fragments.agreed Hosting (λ uses. uses) unused_slots start d tt f agreed;
+      told = record { is_simulated = goes_on wanted unused_slots start d (hosting wanted start d f); accesses_are_such = λ port less. absurd (omega (arith, less)) };
+      agreed = laws.fragments.some_machine_agrees AccessingHostRegisters (λ uses. uses) unused_slots start d tt f agreed;
       stands = λ port less. absurd (omega (arith, less));
       reset = λ port less. absurd (omega (arith, less));
       halts = λ port less. absurd (omega (arith, less));
@@ -408,42 +408,42 @@ module _ (laws : Laws) where
     }
 
     -- all were
-    module _ (ports : List ProbeResult) (d new : Device) (u : IsUnderway wanted ports 4 start d) (leaves : LeavesPorts d new) (f : IsSimulated IsHostAccess AnyUse d new) where
+    module _ (ports : List ProbeResult) (d new : Device) (u : IsUnderway wanted ports 4 start d) (leaves : LeavesPorts d new) (f : IsSimulated IsHostAccess AnySlotStates d new) where
       abbrev Silent : ℕ → Type 0
       Silent port = GainsNoMove port Identify d new
 
       silent : (port : ℕ) → probe_result_of ports port ≢ Unready Dead → Silent port
-      silent port alive = laws.fragments.silent Hosting (λ uses. uses) u.uses (port_at port) Identify d new tt (host_spares (port_at port) Ci) (host_spares (port_at port) Sact) refl
+      silent port alive = laws.fragments.unused_slot_gains_no_move AccessingHostRegisters (λ uses. uses) u.uses (port_at port) Identify d new tt (host_spares (port_at port) Ci) (host_spares (port_at port) Sact) refl
           (λ own. elim (u.left port 0) [
             | inl free ↦ absurd (let e : Own Identify ≡ Free = sym own ∙ free in cc)
             | inr (head, is, dead) ↦ alive dead
           ]) f u.agreed
 
-      all_told : IsSimulatedAlongChangingUses (TellsFirst ports 4) (IsTakeOverAccess wanted) (SameUses unused_slots) (λ _. u.uses) start new
+      all_told : IsSimulatedAlongChangingUses (TellsFirst ports 4) (IsTakeOverAccess wanted) (SameSlotStates unused_slots) (λ _. u.uses) start new
       all_told = then_told wanted unused_slots (TellsFirst ports 4) (λ late. Unit {0}) (TellsFirst ports 4) (λ early late is any port less. tells_then laws (port_at port) (probe_result_of ports port) early late (is port less))
-          AnyUses (λ uses. uses) u.uses start d new tt u.told (record { followed = hosting wanted d new f; tells = tt })
+          AnyUses (λ uses. uses) u.uses start d new tt u.told (record { is_simulated = hosting wanted d new f; accesses_are_such = tt })
 
-      pub ends : (host : Host) → host.ports ≡ ports → host.slots ≡ new.cap / 256 % 32 + 1 → host.queued ≡ bit new.cap 30 → IsOn new → new.ie ≡ true → SwitchesOnAndBoots ports start new → TakesOver wanted host start new
+      pub ends : (host : Host) → host.ports ≡ ports → host.slot_count ≡ new.cap / 256 % 32 + 1 → host.supports_ncq ≡ bit new.cap 30 → IsOn new → new.ie ≡ true → SwitchesOnAndBoots ports start new → TakesOver wanted host start new
       ends host is slots queued on tells way = record {
         adapter_is_on = on;
         ie_is_set = tells;
-        adapter_is_kept = laws.same_more start d new u.same (same_over laws IsHostAccess d new f.is_driven);
-        slots = slots;
-        queued = queued;
+        adapter_is_kept = laws.same_adapter_is_transitive start d new u.same (same_over laws IsHostAccess d new f.is_driven);
+        slot_count_is_of_cap = slots;
+        ncq_is_of_cap = queued;
         results_are_backed = λ port less.
             let P : List ProbeResult → Type 0 = λ ps. BacksProbeResult (wanted_of wanted port) (probe_result_of ps port) port new in
-            subst P (sym is) (stands_on laws.found port d new (leaves port) (same_over laws IsHostAccess d new f.is_driven) (wanted_of wanted port) (probe_result_of ports port) (silent port) (u.stands port less));
+            subst P (sym is) (stands_on laws.probe_results port d new (leaves port) (same_over laws IsHostAccess d new f.is_driven) (wanted_of wanted port) (probe_result_of ports port) (silent port) (u.stands port less));
         sctl_was_written = λ port less.
             let P : List ProbeResult → Type 0 = λ ps. WroteSctl (probe_result_of ps port) port (length start.tape) new in
             subst P (sym is) (reset_on port d new (leaves port) (probe_result_of ports port) (length start.tape) (u.reset port less));
         halt_is_of_taken = λ port less.
             let P : List ProbeResult → Type 0 = λ ps. ReadyHaltOfTaken (probe_result_of ps port) port new in
-            subst P (sym is) (still_halts IsHostAccess AnyUse (λ uses. uses) u.uses port d new (host_spares (port_at port) Cmd) tt f u.agreed (wanted_of wanted port) (probe_result_of ports port)
-            (stands_on laws.found port d new (leaves port) (same_over laws IsHostAccess d new f.is_driven) (wanted_of wanted port) (probe_result_of ports port) (silent port) (u.stands port less)) (u.halts port less));
+            subst P (sym is) (still_halts IsHostAccess AnySlotStates (λ uses. uses) u.uses port d new (host_spares (port_at port) Cmd) tt f u.agreed (wanted_of wanted port) (probe_result_of ports port)
+            (stands_on laws.probe_results port d new (leaves port) (same_over laws IsHostAccess d new f.is_driven) (wanted_of wanted port) (probe_result_of ports port) (silent port) (u.stands port less)) (u.halts port less));
         switches_on_and_boots = let P : List ProbeResult → Type 0 = λ ps. SwitchesOnAndBoots ps start new in subst P (sym is) way;
         uses = u.uses;
         slots_are_unused = λ port slot. let P : List ProbeResult → Type 0 = λ ps. IsUnusedOrDead ps u.uses port slot in subst P (sym is) (u.left port slot);
-        followed = all_told.followed;
-        engines_are_told = let P : List ProbeResult → Type 0 = λ ps. TellsFirst ps 4 all_told.followed.is_driven.accesses in subst P (sym is) all_told.tells;
-        machine_is_related = laws.fragments.agreed Hosting (λ uses. uses) u.uses d new tt f u.agreed;
+        followed = all_told.is_simulated;
+        engines_are_told = let P : List ProbeResult → Type 0 = λ ps. TellsFirst ps 4 all_told.is_simulated.is_driven.accesses in subst P (sym is) all_told.accesses_are_such;
+        machine_is_related = laws.fragments.some_machine_agrees AccessingHostRegisters (λ uses. uses) u.uses d new tt f u.agreed;
       }

@@ -7,7 +7,7 @@ use Rattle.adapter.specs.Access.{Writes}
 use Rattle.adapter.specs.Device.{Device}
 use Rattle.refinement.specs.Relation.{port_at}
 use Rattle.refinement.specs.Fragments.{IsDrivenBy}
-use Rattle.host_boot.specs.TakeOver.{StopsAndBootsPort, FindsEachPort, SwitchesOnAndBoots, ReadsCapOrPi}
+use Rattle.host_boot.specs.TakeOver.{StopsAndBootsPort, StopsAndBootsEachPort, SwitchesOnAndBoots, ReadsCapOrPi}
 use Rattle.host_boot.specs.declared.ProbeResult.{ProbeResult}
 
 -- the adapter was switched on and surveyed, and so many ports have gone their way
@@ -16,11 +16,11 @@ pub record IsOnWay (ports : List ProbeResult) (n : ℕ) (old d : Device) : Type 
   pub switches : Writes Ghc 0x80000000 old switched
   pub surveyed : Device
   pub surveys : IsDrivenBy ReadsCapOrPi switched surveyed
-  pub boots : FindsEachPort 0 (take n ports) surveyed d
+  pub boots : StopsAndBootsEachPort 0 (take n ports) surveyed d
 
 -- one more port goes its way
-pub go_more : (ports : List ProbeResult) (first next : ℕ) (found : ProbeResult) (old mid new : Device) → next ≡ first + length ports → FindsEachPort first ports old mid →
-    StopsAndBootsPort (port_at next) found mid new → FindsEachPort first (ports ++ found ∷ []) old new
+pub go_more : (ports : List ProbeResult) (first next : ℕ) (found : ProbeResult) (old mid new : Device) → next ≡ first + length ports → StopsAndBootsEachPort first ports old mid →
+    StopsAndBootsPort (port_at next) found mid new → StopsAndBootsEachPort first (ports ++ found ∷ []) old new
 go_more [] first next found old mid new at so way =
     let P : ℕ → Device → Type 0 = λ n d. StopsAndBootsPort (port_at n) found d new in
     let is : next ≡ first = omega (arith, at) in
@@ -38,17 +38,17 @@ way_more ports n found old d new long less w way = record {
       let small : n ≤ length ports = omega (arith, long, less) in
       let is = length-take-le n ports small in
       let number : n ≡ 0 + length (take n ports) = omega (arith, is) in
-      subst (λ (ps : List ProbeResult). FindsEachPort 0 ps w.surveyed new) (sym (take_more_set ports n found (omega (arith, long, less))))
+      subst (λ (ps : List ProbeResult). StopsAndBootsEachPort 0 ps w.surveyed new) (sym (take_more_set ports n found (omega (arith, long, less))))
       (go_more (take n ports) 0 n found w.surveyed d new number w.boots way);
 }
 
 pub way_over : (ports : List ProbeResult) (old d new : Device) → length ports ≡ 4 → IsOnWay ports 4 old d → Writes Ghc 0x80000002 d new → SwitchesOnAndBoots ports old new
 way_over ports old d new long w call = record {
-  switched = w.switched;
+  device_switched_on = w.switched;
   switches = w.switches;
-  surveyed = w.surveyed;
+  device_after_survey = w.surveyed;
   surveys = w.surveys;
-  booted = d;
-  boots = subst (λ (ps : List ProbeResult). FindsEachPort 0 ps w.surveyed d) (take_all 4 ports (omega (arith, long))) w.boots;
-  enables = call;
+  device_after_boots = d;
+  boots = subst (λ (ps : List ProbeResult). StopsAndBootsEachPort 0 ps w.surveyed d) (take_all 4 ports (omega (arith, long))) w.boots;
+  enables_interrupts = call;
 }

@@ -28,16 +28,16 @@ IsCapPiOrBootAccess port access = ReadsCapOrPi access ⊎ IsBootAccess port acce
 
 -- The adapter was asked what it is capable of (CAP), the port was looked at, if at all, and then it was booted.
 pub record RebootsPort (wanted : Wanted) (port : Port) (booted : Booted) (old new : Device) : Type 0 where
-  pub surveyed : Device
-  pub surveys : IsSimulated (IsCapPiOrBootAccess port) (λ uses. AllFree uses port.0) old surveyed
-  pub boots : BootsStopped wanted port booted.found surveyed new
-  pub slots : booted.slots ≡ new.cap / 256 % 32 + 1
-  pub queued : booted.queued ≡ bit new.cap 30
+  pub device_after_survey : Device
+  pub surveys : IsSimulated (IsCapPiOrBootAccess port) (λ uses. AllFree uses port.0) old device_after_survey
+  pub boots : BootsStopped wanted port booted.found device_after_survey new
+  pub slot_count_is_of_cap : booted.slot_count ≡ new.cap / 256 % 32 + 1
+  pub ncq_is_of_cap : booted.supports_ncq ≡ bit new.cap 30
 
 -- A port is booted if a device shows: PxSSTS.DET is 3 where its boot begins; or it is found absent, and is left as an
 -- absent one is.
 abbrev pub RebootsIfPresent : Wanted → Port → Booted → Device → Device → Type 0
 RebootsIfPresent wanted port booted old new =
-    ((b : RebootsPort wanted port booted old new) × ((b.surveyed.port port.0).ssts_det ≡ 3))
+    ((b : RebootsPort wanted port booted old new) × ((b.device_after_survey.port port.0).ssts_det ≡ 3))
     ⊎ ((booted.found ≡ Unready Absent) × IsSimulated (IsCapPiOrBootAccess port) (λ uses. AllFree uses port.0) old new
     × BacksState (serial_of wanted) Absent port.0 new)

@@ -6,8 +6,8 @@ use Rattle.adapter.specs.Access.{Access}
 use Rattle.adapter.specs.Access.Access.{Reading, Writing}
 use Rattle.adapter.specs.Device.{Device}
 use Rattle.adapter.specs.Idle.{IsIdle}
-use Rattle.refinement.specs.Fragments.{AnyUse, IsSimulated}
-use Rattle.refinement.specs.Links.{SameAdapter}
+use Rattle.refinement.specs.Fragments.{AnySlotStates, IsSimulated}
+use Rattle.refinement.specs.PreservedParts.{SameAdapter}
 
 -- ---- accesses
 
@@ -44,16 +44,16 @@ AwaitsResetInVain accesses = AwaitsHr true accesses
 -- The adapter was reset: GHC was read 64 times at most, and HR was read 0 at last. It is idle: none of its slots has a
 -- command any more. A machine that agreed followed, by steps of the device alone.
 pub record Resets (old new : Device) : Type 0 where
-  pub followed : IsSimulated IsResetAccess AnyUse old new
+  pub followed : IsSimulated IsResetAccess AnySlotStates old new
   pub awaited : AwaitsHr false followed.is_driven.accesses
-  pub count_is : length followed.is_driven.accesses ≤ 65
+  pub count_is_allowed : length followed.is_driven.accesses ≤ 65
   pub idle : IsIdle new
   pub adapter_is_kept : SameAdapter old new
 
 -- The adapter didn't end its reset: GHC was read 64 times, at last with HR one, and it is one still. A machine that
 -- agreed followed.
 pub record ResetStaysPending (old new : Device) : Type 0 where
-  pub followed : IsSimulated IsResetAccess AnyUse old new
+  pub followed : IsSimulated IsResetAccess AnySlotStates old new
   pub awaited : AwaitsResetInVain followed.is_driven.accesses
   pub count_is : length followed.is_driven.accesses ≡ 65
   pub hr_is_set : new.hr ≡ true

@@ -14,18 +14,18 @@ use Rattle.adapter.specs.Idle.{IsIdlePort}
 use Rattle.adapter.specs.Rules.{IsOn}
 use Rattle.adapter.specs.declared.command.Operation.TheVariants.{Identify}
 use Rattle.refinement.specs.Relation.{port_at}
-use Rattle.refinement.specs.Fragments.{RelatesWith, IsRelated, IsPortAccessWriting, IsDrivenBy, IsSimulatedChangingUses, SameUses, LeavesPort}
+use Rattle.refinement.specs.Fragments.{SomeMachineAgreesWith, SomeMachineAgrees, ReadsPortOrWrites, IsDrivenBy, IsSimulatedChangingUses, SameSlotStates, LeavesPort}
 use Rattle.refinement.specs.Driver.{AllFree}
 use Rattle.refinement.specs.Halting.{HaltIsOfTaken}
-use Rattle.refinement.specs.Links.{SameAdapter}
+use Rattle.refinement.specs.PreservedParts.{SameAdapter}
 use Rattle.refinement.specs.Slots.{Free, Own, SlotStates}
 use Rattle.identify.specs.Wanted.{serial_of}
 use Rattle.identify.specs.declared.DiskInfo.{DiskInfo}
 use Rattle.identify.specs.declared.wanted.Wanted.{Wanted}
 use Rattle.identify.specs.declared.wanted.Wanted.TheVariants.{Nothing}
-use Rattle.port_control.specs.Engines.{StopsBoth, EngineSticks}
+use Rattle.port_control.specs.Engines.{StopsBothEngines, EngineSticks}
 use Rattle.port_control.specs.Ports.{IsCommandRegister}
-use Rattle.port_boot.specs.States.{BacksState, EndsBeforeStart, EndsAfterStart, BringsReady, HasFitDisk, IsBoot, IsBootTo, IsBeforeStart, IsAfterStart, IsBootAccess, IsReady, ShowsOnlyNewErrors}
+use Rattle.port_boot.specs.States.{BacksState, EndsBeforeStart, EndsAfterStart, BringsReady, HasFitDiskAndInterrupts, IsBoot, IsBootTo, IsBeforeStart, IsAfterStart, IsBootAccess, IsReadyAfterBoot, ShowsOnlyNewErrors}
 use Rattle.host_boot.specs.declared.ProbeResult.{ProbeResult}
 use Rattle.host_boot.specs.declared.ProbeResult.TheVariants.{Unserved, Ready, Unready}
 use Rattle.host_boot.specs.declared.Host.{Host}
@@ -45,22 +45,23 @@ abbrev pub IsServed : Wanted → ℕ → Device → Type 0
 IsServed wanted port d = (wanted ≢ Nothing) × (bit d.pi port ≡ true)
 
 -- in the port a disk was found that isn't served
-abbrev pub FoundBadDisk : ShownState → Type 0
-FoundBadDisk Foreign = Unit {0}
-FoundBadDisk (Unfit n) = Unit {0}
-FoundBadDisk _ = ⊥
+abbrev pub FoundUnusableDevice : ShownState → Type 0
+FoundUnusableDevice Foreign = Unit {0}
+FoundUnusableDevice (Unfit n) = Unit {0}
+FoundUnusableDevice _ = ⊥
 
 -- What stands behind what a port was found to be. One that isn't served is as idle as it was; what stands behind the
 -- others is what their boot found.
 abbrev pub BacksProbeResult : Wanted → ProbeResult → ℕ → Device → Type 0
 BacksProbeResult wanted Unserved port d = (IsServed wanted port d → ⊥) × IsIdlePort (d.port port)
-BacksProbeResult wanted (Ready info) port d = IsServed wanted port d × IsReady (serial_of wanted) port d info
+BacksProbeResult wanted (Ready info) port d = IsServed wanted port d × IsReadyAfterBoot (serial_of wanted) port d info
 BacksProbeResult wanted (Unready state) port d = IsServed wanted port d × BacksState (serial_of wanted) state port d
 
 -- What still stands behind it as long as the port isn't booted anew: behind a ready port, which takes commands, a disk
 -- that fits.
 abbrev pub StillBacksProbeResult : Wanted → ProbeResult → ℕ → Device → Type 0
-StillBacksProbeResult wanted (Ready info) port d = IsServed wanted port d × HasFitDisk (serial_of wanted) port d info
+StillBacksProbeResult wanted (Ready info) port d = IsServed wanted port d
+    × HasFitDiskAndInterrupts (serial_of wanted) port d info
 StillBacksProbeResult wanted found port d = BacksProbeResult wanted found port d
 
 -- What has to be left of a port for that: of a ready one, DET of PxSCTL, PxIE, and when PxSCTL was written; any other
@@ -85,13 +86,13 @@ ReadyHaltOfTaken found port d = (info : DiskInfo) → found ≡ Ready info → H
 abbrev pub TellsEngines : Port → ProbeResult → List Access → Type 0
 TellsEngines port Unserved accesses = Unit {0}
 TellsEngines port (Unready Dead) accesses = EngineSticks port accesses
-TellsEngines port _ accesses = StopsBoth port accesses
+TellsEngines port _ accesses = StopsBothEngines port accesses
 
 -- A port that isn't served isn't touched; another was stopped and booted, and its accesses tell of its engines.
-abbrev pub Boots : Port → ProbeResult → Device → Device → Type 0
-Boots port Unserved old new = new ≡ old
-Boots port (Ready info) old new = IsBoot (StopsBoth port) port old new
-Boots port (Unready state) old new = IsBootTo (StopsBoth port) port state old new
+abbrev pub BootsAndTellsEngines : Port → ProbeResult → Device → Device → Type 0
+BootsAndTellsEngines port Unserved old new = new ≡ old
+BootsAndTellsEngines port (Ready info) old new = IsBoot (StopsBothEngines port) port old new
+BootsAndTellsEngines port (Unready state) old new = IsBootTo (StopsBothEngines port) port state old new
 
 -- ---- accesses
 
@@ -131,10 +132,10 @@ pub record SticksOnWay (port : Port) (old new : Device) : Type 0 where
 abbrev pub StopsAndBootsPort : Port → ProbeResult → Device → Device → Type 0
 StopsAndBootsPort port Unserved old new = new ≡ old
 StopsAndBootsPort port (Ready info) old new = (stopped : Device)
-    × IsDrivenBy (IsPortAccessWriting IsCommandRegister port) old stopped
+    × IsDrivenBy (ReadsPortOrWrites IsCommandRegister port) old stopped
     × IsDrivenBy (IsBootAccess port) stopped new × BringsReady port stopped new × ShowsOnlyNewErrors port.0 stopped new
 StopsAndBootsPort port (Unready state) old new = (stopped : Device)
-    × IsDrivenBy (IsPortAccessWriting IsCommandRegister port) old stopped
+    × IsDrivenBy (ReadsPortOrWrites IsCommandRegister port) old stopped
     × IsDrivenBy (IsBootAccess port) stopped new × (IsBeforeStart state → EndsBeforeStart port state stopped new)
     × (IsAfterStart state → EndsAfterStart port stopped new) × (state ≡ Dead → SticksOnWay port old new)
 
@@ -146,37 +147,37 @@ pub record MayBootIdle (port : Port) (implemented : ℕ) (d : Device) : Type 0 w
   pub adapter_is_on : IsOn d
   pub port_in_range : port.0 < 4
   pub implemented_is_pi : implemented ≡ d.pi
-  pub driver_memory_fits : DRIVER_BYTES ≤ d.size
-  pub machine_is_related : RelatesWith (λ uses. AllFree uses port.0) d
+  pub driver_memory_fits : DRIVER_BYTES ≤ d.memory_size
+  pub machine_is_related : SomeMachineAgreesWith (λ uses. AllFree uses port.0) d
   pub idle : IsIdlePort (d.port port.0)
 
 -- It was found to be this: what stands behind that; PxSCTL was written in it; what halts a ready one is of a command
 -- that is taken; what it is to a machine that agrees; and its way.
-pub record FindsPort (wanted : Wanted) (port : Port) (found : ProbeResult) (old new : Device) : Type 0 where
+pub record BootsAndFindsPort (wanted : Wanted) (port : Port) (found : ProbeResult) (old new : Device) : Type 0 where
   pub result_is_backed : BacksProbeResult wanted found port.0 new
   pub sctl_was_written : WroteSctl found port.0 (length old.tape) new
   pub halt_is_of_taken : ReadyHaltOfTaken found port.0 new
-  pub boots : Boots port found old new
+  pub boots : BootsAndTellsEngines port found old new
   pub stops_and_boots : StopsAndBootsPort port found old new
 
 -- ---- the whole way
 
 -- so it was with these ports, one after another, of which the first has this number
-abbrev pub FindsEachPort : ℕ → List ProbeResult → Device → Device → Type 0
-FindsEachPort port [] old new = new ≡ old
-FindsEachPort port (found ∷ rest) old new = (mid : Device) × StopsAndBootsPort (port_at port) found old mid
-    × FindsEachPort (port + 1) rest mid new
+abbrev pub StopsAndBootsEachPort : ℕ → List ProbeResult → Device → Device → Type 0
+StopsAndBootsEachPort port [] old new = new ≡ old
+StopsAndBootsEachPort port (found ∷ rest) old new = (mid : Device) × StopsAndBootsPort (port_at port) found old mid
+    × StopsAndBootsEachPort (port + 1) rest mid new
 
 -- The adapter was switched on with interrupts off, and CAP and PI were read; then each port went its way, in rising
 -- number; and last of all the adapter was let interrupt (AHCI 1.3.1, 3.1.2 and 10.1.2).
 pub record SwitchesOnAndBoots (ports : List ProbeResult) (old new : Device) : Type 0 where
-  pub switched : Device
-  pub switches : Writes Ghc 0x80000000 old switched
-  pub surveyed : Device
-  pub surveys : IsDrivenBy ReadsCapOrPi switched surveyed
-  pub booted : Device
-  pub boots : FindsEachPort 0 ports surveyed booted
-  pub enables : Writes Ghc 0x80000002 booted new
+  pub device_switched_on : Device
+  pub switches : Writes Ghc 0x80000000 old device_switched_on
+  pub device_after_survey : Device
+  pub surveys : IsDrivenBy ReadsCapOrPi device_switched_on device_after_survey
+  pub device_after_boots : Device
+  pub boots : StopsAndBootsEachPort 0 ports device_after_survey device_after_boots
+  pub enables_interrupts : Writes Ghc 0x80000002 device_after_boots new
 
 -- ---- the whole
 
@@ -196,8 +197,8 @@ pub record TakesOver (wanted : List Wanted) (host : Host) (old new : Device) : T
   pub adapter_is_on : IsOn new
   pub ie_is_set : new.ie ≡ true
   pub adapter_is_kept : SameAdapter old new
-  pub slots : host.slots ≡ new.cap / 256 % 32 + 1
-  pub queued : host.queued ≡ bit new.cap 30
+  pub slot_count_is_of_cap : host.slot_count ≡ new.cap / 256 % 32 + 1
+  pub ncq_is_of_cap : host.supports_ncq ≡ bit new.cap 30
   pub results_are_backed : (port : ℕ) → port < 4 → BacksProbeResult (wanted_of wanted port)
       (probe_result_of host.ports port) port
       new
@@ -206,7 +207,7 @@ pub record TakesOver (wanted : List Wanted) (host : Host) (old new : Device) : T
   pub switches_on_and_boots : SwitchesOnAndBoots host.ports old new
   pub uses : SlotStates
   pub slots_are_unused : (port slot : ℕ) → IsUnusedOrDead host.ports uses port slot
-  pub followed : IsSimulatedChangingUses (IsTakeOverAccess wanted) (SameUses unused_slots) (λ _. uses) old new
+  pub followed : IsSimulatedChangingUses (IsTakeOverAccess wanted) (SameSlotStates unused_slots) (λ _. uses) old new
   pub engines_are_told : (port : ℕ) → port < 4
       → TellsEngines (port_at port) (probe_result_of host.ports port) followed.is_driven.accesses
-  pub machine_is_related : IsRelated uses new
+  pub machine_is_related : SomeMachineAgrees uses new

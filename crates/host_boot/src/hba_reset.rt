@@ -1,8 +1,7 @@
 // The adapter is reset (AHCI 1.3.1, 3.1.2 and 10.4.3).
 ghost use Rattle.std.specs.Prelude.{IfErr, IfOk};
-ghost use Rattle.host_boot.specs.Resets.{Resets, ResetStaysPending};
+ghost use Rattle.host_boot.specs.{Resets.{Resets, ResetStaysPending}, Costs.{RESET_ACCESSES}};
 ghost use Rattle.adapter.specs.AccessBounds.{MakesAtMost};
-ghost use Rattle.host_boot.specs.Costs.{RESET_ACCESSES};
 
 use super::prerequisites::law_prerequisites;
 use adapter::Adapter;

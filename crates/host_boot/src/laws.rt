@@ -1,26 +1,10 @@
 // Laws of the definitions, for callers: the clause is the theorem. Nothing that runs calls these functions.
 ghost use Rattle.std.specs.Prelude.{ℕ, true, false, ◌≡◌, ◌≢◌, ◌<◌, List};
-ghost use Rattle.ata_types.specs.declared.Port.{Port};
-ghost use Rattle.ata_types.specs.declared.PortState.{PortState};
-ghost use Rattle.ata_types.specs.declared.PortState.TheVariants.{Dead};
-ghost use Rattle.adapter.specs.Access.{Access};
-ghost use Rattle.adapter.specs.Device.{Device};
-ghost use Rattle.adapter.specs.Idle.{IsIdle};
-ghost use Rattle.adapter.specs.Rules.{IsOn, HasPort};
-ghost use Rattle.adapter.specs.Steps.{Steps};
-ghost use Rattle.adapter.specs.declared.command.Operation.TheVariants.{Identify};
-ghost use Rattle.refinement.specs.Fragments.{IsDrivenBy, SparesOtherPorts, GainsNoMove};
-ghost use Rattle.refinement.specs.PortFacts.{FaultsOnRecord, RunsWell, Undisturbed};
-ghost use Rattle.refinement.specs.Links.{ShowsDiskIfIn, SameAdapter};
-ghost use Rattle.refinement.specs.MemoryLayout.{list_of};
-ghost use Rattle.identify.specs.declared.DiskInfo.{DiskInfo};
-ghost use Rattle.identify.specs.declared.wanted.Wanted.{Wanted};
-ghost use Rattle.host_boot.specs.Reboots.{RebootsPort, RebootsIfPresent, IsCapPiOrBootAccess};
-ghost use Rattle.host_boot.specs.TakeOver.{FoundBadDisk, IsServed, LeavesFoundPort, LeavesPorts, BacksProbeResult, StillBacksProbeResult, TakesOver, probe_result_of};
-ghost use Rattle.host_boot.specs.declared.Booted.{Booted};
-ghost use Rattle.host_boot.specs.declared.ProbeResult.{ProbeResult};
-ghost use Rattle.host_boot.specs.declared.ProbeResult.TheVariants.{Unserved, Ready, Unready};
-ghost use Rattle.host_boot.specs.declared.Host.{Host};
+ghost use Rattle.ata_types.specs.{declared.Port.{Port}, declared.PortState.{PortState}, declared.PortState.TheVariants.{Dead}};
+ghost use Rattle.adapter.specs.{Access.{Access}, Device.{Device}, Idle.{IsIdle}, Rules.{IsOn, HasPort}, Steps.{Steps}, declared.command.Operation.TheVariants.{Identify}};
+ghost use Rattle.refinement.specs.{Fragments.{IsDrivenBy, SparesOtherPorts, GainsNoMove}, PortFacts.{RecordsFaultsIfSt, RunsWell, Undisturbed}, PreservedParts.{ShowsDiskIfIn, SameAdapter}, MemoryLayout.{command_list_address}};
+ghost use Rattle.identify.specs.{declared.DiskInfo.{DiskInfo}, declared.wanted.Wanted.{Wanted}};
+ghost use Rattle.host_boot.specs.{Reboots.{RebootsPort, RebootsIfPresent, IsCapPiOrBootAccess}, TakeOver.{FoundUnusableDevice, IsServed, LeavesFoundPort, LeavesPorts, BacksProbeResult, StillBacksProbeResult, TakesOver, probe_result_of}, declared.Booted.{Booted}, declared.ProbeResult.{ProbeResult}, declared.ProbeResult.TheVariants.{Unserved, Ready, Unready}, declared.Host.{Host}};
 ghost use Rattle.port_boot.specs.States.{ShownDiskIsIn};
 
 use super::prerequisites::law_prerequisites;
@@ -42,8 +26,8 @@ pub fn law_what_was_found_still_stands()
 
 /// What the device does by itself leaves every port to it, while no reset is pending; and the adapter is what it was.
 pub fn law_the_device_leaves_ports()
-    ensures ports { (old new : Device) → old.hr ≡ false → Steps old new → LeavesPorts old new }
-    ensures adapter { (old new : Device) → Steps old new → SameAdapter old new }
+    ensures ports_are_left { (old new : Device) → old.hr ≡ false → Steps old new → LeavesPorts old new }
+    ensures adapter_is_kept { (old new : Device) → Steps old new → SameAdapter old new }
 {
     law_prerequisites();
 }
@@ -53,20 +37,24 @@ pub fn law_the_device_leaves_ports()
 /// well; and whatever went wrong, its faults since ST was set are on record; and a disk is in, if it shows one. A port
 /// that was found unfit or foreign shows a device, or has no disk in.
 pub fn law_what_was_taken_over_may_be_served()
-    ensures there { (wanted : List Wanted) (host : Host) (port : ℕ) (old new : Device) → TakesOver wanted host old new
+    ensures served_port_exists { (wanted : List Wanted) (host : Host) (port : ℕ) (old new : Device)
+        → TakesOver wanted host old new
         → port < 4 → probe_result_of host.ports port ≢ Unserved → HasPort new port }
-    ensures ready { (wanted : List Wanted) (host : Host) (port : ℕ) (info : DiskInfo) (old new : Device)
+    ensures ready_port_is_programmed { (wanted : List Wanted) (host : Host) (port : ℕ) (info : DiskInfo)
+        (old new : Device)
         → TakesOver wanted host old new → port < 4 → probe_result_of host.ports port ≡ Ready info
-        → ((new.port port).st ≡ true) × ((new.port port).bases.clb ≡ list_of port) × HasPort new port }
+        → ((new.port port).st ≡ true) × ((new.port port).bases.clb ≡ command_list_address port) × HasPort new port }
     ensures healthy_port_runs_well { (wanted : List Wanted) (host : Host) (port : ℕ) (info : DiskInfo)
         (old new : Device) → IsIdle old
         → TakesOver wanted host old new → probe_result_of host.ports port ≡ Ready info → Undisturbed port old new
         → RunsWell (new.port port) }
-    ensures recorded { (wanted : List Wanted) (host : Host) (port : ℕ) (info : DiskInfo) (old new : Device) → IsIdle old
+    ensures faults_are_on_record { (wanted : List Wanted) (host : Host) (port : ℕ) (info : DiskInfo) (old new : Device)
+        → IsIdle old
         → TakesOver wanted host old new → probe_result_of host.ports port ≡ Ready info
-        → FaultsOnRecord new.tape (new.port port) port }
-    ensures shown { (wanted : List Wanted) (host : Host) (port : ℕ) (state : PortState) (old new : Device) → IsIdle old
-        → TakesOver wanted host old new → FoundBadDisk state → probe_result_of host.ports port ≡ Unready state
+        → RecordsFaultsIfSt new.tape (new.port port) port }
+    ensures bad_disk_shows_if_in { (wanted : List Wanted) (host : Host) (port : ℕ) (state : PortState)
+        (old new : Device) → IsIdle old
+        → TakesOver wanted host old new → FoundUnusableDevice state → probe_result_of host.ports port ≡ Unready state
         → ShowsDiskIfIn (new.port port) }
     ensures disk_is_in_if_shown { (wanted : List Wanted) (host : Host) (port : ℕ) (info : DiskInfo) (old new : Device)
         → IsIdle old
@@ -90,25 +78,28 @@ pub fn law_other_ports_run_well()
 /// does after accesses of another port. The same is so of a port that was booted if a device showed; and so are the
 /// accesses of either of the port, one by one.
 pub fn law_what_was_booted_again_may_be_served()
-    ensures driven { (wanted : Wanted) (port : Port) (booted : Booted) (old new : Device)
+    ensures reboot_is_of_port { (wanted : Wanted) (port : Port) (booted : Booted) (old new : Device)
         → RebootsPort wanted port booted old new → IsDrivenBy (SparesOtherPorts port) old new }
-    ensures stands { (wanted : Wanted) (port : Port) (booted : Booted) (old new : Device)
+    ensures reboot_backs_result { (wanted : Wanted) (port : Port) (booted : Booted) (old new : Device)
         → RebootsPort wanted port booted old new → IsServed wanted port.0 old
         → BacksProbeResult wanted booted.found port.0 new }
-    ensures shown { (wanted : Wanted) (port : Port) (booted : Booted) (state : PortState) (old new : Device) → IsOn old
-        → RebootsPort wanted port booted old new → FoundBadDisk state → booted.found ≡ Unready state
+    ensures reboot_shows_bad_disk { (wanted : Wanted) (port : Port) (booted : Booted) (state : PortState)
+        (old new : Device) → IsOn old
+        → RebootsPort wanted port booted old new → FoundUnusableDevice state → booted.found ≡ Unready state
         → ShowsDiskIfIn (new.port port.0) }
-    ensures there_driven { (wanted : Wanted) (port : Port) (booted : Booted) (old new : Device)
+    ensures conditional_boot_is_of_port { (wanted : Wanted) (port : Port) (booted : Booted) (old new : Device)
         → RebootsIfPresent wanted port booted old new → IsDrivenBy (SparesOtherPorts port) old new }
-    ensures there_stands { (wanted : Wanted) (port : Port) (booted : Booted) (old new : Device)
+    ensures conditional_boot_backs_result { (wanted : Wanted) (port : Port) (booted : Booted) (old new : Device)
         → RebootsIfPresent wanted port booted old new → IsServed wanted port.0 old
         → BacksProbeResult wanted booted.found port.0 new }
-    ensures there_shown { (wanted : Wanted) (port : Port) (booted : Booted) (state : PortState) (old new : Device)
-        → IsOn old → RebootsIfPresent wanted port booted old new → FoundBadDisk state → booted.found ≡ Unready state
+    ensures conditional_boot_shows_bad_disk { (wanted : Wanted) (port : Port) (booted : Booted) (state : PortState)
+        (old new : Device)
+        → IsOn old → RebootsIfPresent wanted port booted old new → FoundUnusableDevice state
+        → booted.found ≡ Unready state
         → ShowsDiskIfIn (new.port port.0) }
-    ensures start_of { (port : Port) (access : Access) → IsCapPiOrBootAccess port access
+    ensures boot_start_access_is_of_port { (port : Port) (access : Access) → IsCapPiOrBootAccess port access
         → SparesOtherPorts port access }
-    ensures beside { (port other : Port) (old new : Device) → port.0 ≢ other.0 → IsOn old
+    ensures other_port_keeps_shown_disk { (port other : Port) (old new : Device) → port.0 ≢ other.0 → IsOn old
         → IsDrivenBy (SparesOtherPorts other) old new → ShowsDiskIfIn (old.port port.0)
         → ShowsDiskIfIn (new.port port.0) }
 {

@@ -8,19 +8,12 @@
 #![tactic(auto)]
 
 ghost use Rattle.std.specs.Prelude.{◌≡◌, ◌<◌, ◌≤◌, ◌+◌, length, true};
-ghost use Rattle.hba_regs.specs.Bits.{bit, field};
-ghost use Rattle.hba_regs.specs.declared.reg.Reg.TheVariants.{Ghc};
-ghost use Rattle.adapter.specs.Access.{Writes};
-ghost use Rattle.adapter.specs.Idle.{IsIdle};
-ghost use Rattle.adapter.specs.Rules.{IsOn};
-ghost use Rattle.refinement.specs.Fragments.{AnyUse, IsDrivenBy, IsSimulated};
-ghost use Rattle.port_boot.specs.States.{IsBootable};
+ghost use Rattle.hba_regs.specs.{Bits.{bit, field}, declared.reg.Reg.TheVariants.{Ghc}};
+ghost use Rattle.adapter.specs.{Access.{Writes}, Idle.{IsIdle}, Rules.{IsOn}, AccessBounds.{MakesAtMost}};
+ghost use Rattle.refinement.specs.Fragments.{AnySlotStates, IsDrivenBy, IsSimulated};
+ghost use Rattle.port_boot.specs.{States.{IsBootable}, Costs.{BOOT_ACCESSES}};
 ghost use Rattle.port_control.specs.Ports.{IsStopped};
-ghost use Rattle.host_boot.specs.Reboots.{RebootsPort, RebootsIfPresent, BootsStopped};
-ghost use Rattle.host_boot.specs.TakeOver.{FindsPort, IsHostAccess, ReadsCapOrPi, MayBootIdle, LeavesPorts, TakesOver};
-ghost use Rattle.adapter.specs.AccessBounds.{MakesAtMost};
-ghost use Rattle.port_boot.specs.Costs.{BOOT_ACCESSES};
-ghost use Rattle.host_boot.specs.Costs.{REBOOT_ACCESSES, REBOOT_IF_PRESENT_ACCESSES, STOP_AND_BOOT_ACCESSES, TAKE_OVER_ACCESSES};
+ghost use Rattle.host_boot.specs.{Reboots.{RebootsPort, RebootsIfPresent, BootsStopped}, TakeOver.{BootsAndFindsPort, IsHostAccess, ReadsCapOrPi, MayBootIdle, LeavesPorts, TakesOver}, Costs.{REBOOT_ACCESSES, REBOOT_IF_PRESENT_ACCESSES, STOP_AND_BOOT_ACCESSES, TAKE_OVER_ACCESSES}};
 
 use adapter::Adapter;
 use ata_types::{DRIVER_BYTES, MOST_READINGS, PORTS, Port, PortState};
@@ -51,9 +44,9 @@ pub enum ProbeResult {
 #[derive(Clone, Copy, Debug)]
 pub struct Host {
     /// How many command slots a port has, 1 to 32 (CAP.NCS).
-    pub slots: u8,
+    pub slot_count: u8,
     /// Whether it has native command queuing (CAP.SNCQ).
-    pub queued: bool,
+    pub supports_ncq: bool,
     /// Its ports, by number.
     pub ports: [ProbeResult; PORTS],
 }
@@ -62,9 +55,9 @@ pub struct Host {
 #[derive(Clone, Copy, Debug)]
 pub struct Booted {
     /// How many command slots a port has, 1 to 32 (CAP.NCS).
-    pub slots: u8,
+    pub slot_count: u8,
     /// Whether the adapter has native command queuing (CAP.SNCQ).
-    pub queued: bool,
+    pub supports_ncq: bool,
     /// What the port was found to be. It is served still.
     pub found: ProbeResult,
 }
@@ -72,10 +65,10 @@ pub struct Booted {
 /// Switches an idle adapter on, with interrupts off (AHCI 1.3.1, 10.1.2).
 fn power_on<A: Adapter>(adapter: &mut A)
     requires idle { IsIdle (A.device adapter.old) }
-    ensures on { IsOn (A.device adapter.new) }
+    ensures adapter_is_on { IsOn (A.device adapter.new) }
     ensures switches { Writes Ghc 0x80000000 (A.device adapter.old) (A.device adapter.new) }
     ensures leaves { LeavesPorts (A.device adapter.old) (A.device adapter.new) }
-    ensures followed { IsSimulated IsHostAccess AnyUse (A.device adapter.old) (A.device adapter.new) }
+    ensures followed { IsSimulated IsHostAccess AnySlotStates (A.device adapter.old) (A.device adapter.new) }
     ensures cost { MakesAtMost 1 (A.access_count adapter.old) (A.access_count adapter.new) }
 {
     law_prerequisites();
@@ -84,10 +77,10 @@ fn power_on<A: Adapter>(adapter: &mut A)
 
 /// What the adapter is capable of (AHCI 1.3.1, 3.1.1), and the ports that it has, by bit (3.1.4).
 fn survey<A: Adapter>(adapter: &mut A) -> (Capabilities, u32)
-    requires on { IsOn (A.device adapter.old) }
-    ensures on { IsOn (A.device adapter.new) }
+    requires adapter_is_on { IsOn (A.device adapter.old) }
+    ensures adapter_is_on { IsOn (A.device adapter.new) }
     ensures leaves { LeavesPorts (A.device adapter.old) (A.device adapter.new) }
-    ensures followed { IsSimulated IsHostAccess AnyUse (A.device adapter.old) (A.device adapter.new) }
+    ensures followed { IsSimulated IsHostAccess AnySlotStates (A.device adapter.old) (A.device adapter.new) }
     ensures surveys { IsDrivenBy ReadsCapOrPi (A.device adapter.old) (A.device adapter.new) }
     ensures told { (result.0.0 ≡ (A.device adapter.new).cap) × (result.1 ≡ (A.device adapter.new).pi) }
     ensures cost { MakesAtMost 2 (A.access_count adapter.old) (A.access_count adapter.new) }
@@ -102,7 +95,7 @@ fn survey<A: Adapter>(adapter: &mut A) -> (Capabilities, u32)
 fn boot_stopped<A: Adapter>(adapter: &mut A, stopped: Stopped, wanted: &Wanted) -> ProbeResult
     requires bootable { IsBootable stopped.port (A.device adapter.old) }
     requires stopped { IsStopped ((A.device adapter.old).port stopped.port.0) }
-    ensures on { IsOn (A.device adapter.new) }
+    ensures adapter_is_on { IsOn (A.device adapter.new) }
     ensures boots { BootsStopped wanted.now stopped.port result (A.device adapter.old) (A.device adapter.new) }
     ensures cost { MakesAtMost BOOT_ACCESSES (A.access_count adapter.old) (A.access_count adapter.new) }
 {
@@ -120,8 +113,8 @@ fn boot_port<A: Adapter>(
     wanted: &Wanted,
 ) -> ProbeResult
     requires may { MayBootIdle port implemented (A.device adapter.old) }
-    ensures on { IsOn (A.device adapter.new) }
-    ensures finds { FindsPort wanted.now port result (A.device adapter.old) (A.device adapter.new) }
+    ensures adapter_is_on { IsOn (A.device adapter.new) }
+    ensures finds { BootsAndFindsPort wanted.now port result (A.device adapter.old) (A.device adapter.new) }
     ensures cost { MakesAtMost STOP_AND_BOOT_ACCESSES (A.access_count adapter.old) (A.access_count adapter.new) }
 {
     law_prerequisites();
@@ -136,12 +129,12 @@ fn boot_port<A: Adapter>(
 
 /// Lets the adapter interrupt (AHCI 1.3.1, 3.1.2).
 fn enable_interrupts<A: Adapter>(adapter: &mut A)
-    requires on { IsOn (A.device adapter.old) }
-    ensures on { IsOn (A.device adapter.new) }
+    requires adapter_is_on { IsOn (A.device adapter.old) }
+    ensures adapter_is_on { IsOn (A.device adapter.new) }
     ensures tells { (A.device adapter.new).ie ≡ true }
     ensures enables { Writes Ghc 0x80000002 (A.device adapter.old) (A.device adapter.new) }
     ensures leaves { LeavesPorts (A.device adapter.old) (A.device adapter.new) }
-    ensures followed { IsSimulated IsHostAccess AnyUse (A.device adapter.old) (A.device adapter.new) }
+    ensures followed { IsSimulated IsHostAccess AnySlotStates (A.device adapter.old) (A.device adapter.new) }
     ensures cost { MakesAtMost 1 (A.access_count adapter.old) (A.access_count adapter.new) }
 {
     law_prerequisites();
@@ -152,9 +145,9 @@ fn enable_interrupts<A: Adapter>(adapter: &mut A)
 /// in rising number, and lets it interrupt. Ports that aren't served are left idle.
 pub fn take_over<A: Adapter>(adapter: &mut A, wanted: &[Wanted; PORTS]) -> Host
     requires idle { IsIdle (A.device adapter.old) }
-    requires room { DRIVER_BYTES ≤ (A.device adapter.old).size }
-    ensures taken { TakesOver wanted.now result (A.device adapter.old) (A.device adapter.new) }
-    ensures four { length result.ports ≡ 4 }
+    requires driver_memory_fits { DRIVER_BYTES ≤ (A.device adapter.old).memory_size }
+    ensures takes_over { TakesOver wanted.now result (A.device adapter.old) (A.device adapter.new) }
+    ensures has_four_ports { length result.ports ≡ 4 }
     ensures cost { MakesAtMost TAKE_OVER_ACCESSES (A.access_count adapter.old) (A.access_count adapter.new) }
 {
     law_prerequisites();
@@ -166,8 +159,8 @@ pub fn take_over<A: Adapter>(adapter: &mut A, wanted: &[Wanted; PORTS]) -> Host
     }
     enable_interrupts(adapter);
     Host {
-        slots: capabilities.last_slot() as u8 + 1,
-        queued: capabilities.has_ncq(),
+        slot_count: capabilities.last_slot() as u8 + 1,
+        supports_ncq: capabilities.has_ncq(),
         ports,
     }
 }
@@ -175,13 +168,13 @@ pub fn take_over<A: Adapter>(adapter: &mut A, wanted: &[Wanted; PORTS]) -> Host
 /// What a port was found to be by its boot, with what CAP tells of the adapter.
 #[inline(always)]
 fn booted_with(capabilities: Capabilities, found: ProbeResult) -> Booted
-    ensures slots { result.slots ≡ field capabilities.0 8 5 + 1 }
-    ensures queued { result.queued ≡ bit capabilities.0 30 }
+    ensures slots { result.slot_count ≡ field capabilities.0 8 5 + 1 }
+    ensures queued { result.supports_ncq ≡ bit capabilities.0 30 }
     ensures found { result.found ≡ found }
 {
     Booted {
-        slots: capabilities.last_slot() as u8 + 1,
-        queued: capabilities.has_ncq(),
+        slot_count: capabilities.last_slot() as u8 + 1,
+        supports_ncq: capabilities.has_ncq(),
         found,
     }
 }
@@ -191,7 +184,7 @@ fn booted_with(capabilities: Capabilities, found: ProbeResult) -> Booted
 pub fn reboot_port<A: Adapter>(adapter: &mut A, stopped: Stopped, wanted: &Wanted) -> Booted
     requires bootable { IsBootable stopped.port (A.device adapter.old) }
     requires stopped { IsStopped ((A.device adapter.old).port stopped.port.0) }
-    ensures on { IsOn (A.device adapter.new) }
+    ensures adapter_is_on { IsOn (A.device adapter.new) }
     ensures boots { RebootsPort wanted.now stopped.port result (A.device adapter.old) (A.device adapter.new) }
     ensures cost { MakesAtMost REBOOT_ACCESSES (A.access_count adapter.old) (A.access_count adapter.new) }
 {
@@ -207,8 +200,8 @@ pub fn reboot_port<A: Adapter>(adapter: &mut A, stopped: Stopped, wanted: &Wante
 pub fn reboot_if_present<A: Adapter>(adapter: &mut A, stopped: Stopped, wanted: &Wanted) -> Booted
     requires bootable { IsBootable stopped.port (A.device adapter.old) }
     requires stopped { IsStopped ((A.device adapter.old).port stopped.port.0) }
-    requires saw { ((A.device adapter.old).port stopped.port.0).notes.link_count ≡ MOST_READINGS }
-    ensures on { IsOn (A.device adapter.new) }
+    requires device_was_awaited { ((A.device adapter.old).port stopped.port.0).notes.link_wait_count ≡ MOST_READINGS }
+    ensures adapter_is_on { IsOn (A.device adapter.new) }
     ensures boots { RebootsIfPresent wanted.now stopped.port result (A.device adapter.old) (A.device adapter.new) }
     ensures cost { MakesAtMost REBOOT_IF_PRESENT_ACCESSES (A.access_count adapter.old) (A.access_count adapter.new) }
 {

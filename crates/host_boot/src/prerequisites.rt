@@ -8,11 +8,11 @@ use port_boot::laws::{
 };
 use port_control::laws::{law_calls_are_of_one_port, law_what_is_told_of_engines_stays};
 use refinement::access_kinds::law_fragment_prerequisites;
-use refinement::disks::{law_no_disk_comes_in, law_reset_is_idle};
+use refinement::disks::{law_reset_is_idle, law_where_no_disk_comes};
 use refinement::fragments::{
-    law_agreeing_goes_on, law_other_ports_are_left, law_tape_prerequisites,
+    law_agreeing_goes_on, law_other_ports_are_untouched, law_tape_prerequisites,
 };
-use refinement::laws::law_putting_is_of_one_slot;
+use refinement::laws::law_setting_changes_one_slot;
 use refinement::port_facts::{
     law_adapter_stays, law_disk_in_stays_shown, law_reset_is_found, law_writing_ghc_switches_on,
 };
@@ -25,17 +25,17 @@ pub fn law_prerequisites()
 {
     law_accesses_compose();
     law_step_lists_keep_what_steps_keep();
-    law_no_disk_comes_in();
+    law_where_no_disk_comes();
     law_adapter_stays();
     law_disk_in_stays_shown();
     law_reset_is_found();
     law_reset_is_idle();
     law_writing_ghc_switches_on();
     law_fragment_prerequisites::<Brand>();
-    law_putting_is_of_one_slot();
+    law_setting_changes_one_slot();
     law_halts_are_of_taken_commands();
     law_agreeing_goes_on();
-    law_other_ports_are_left();
+    law_other_ports_are_untouched();
     law_tape_prerequisites();
     law_a_boot_is_of_its_port();
     law_a_disk_is_in_where_one_shows();

@@ -3,8 +3,7 @@
 //! (ACS-3, A.14.) It knows no port. A page may lie, so a caller has to see whether the command that
 //! it names is outstanding.
 ghost use Rattle.std.specs.Prelude.{◌≡◌, ◌↔◌, Some, None};
-ghost use Rattle.identify.specs.Log.{TellsError, TellsNoError};
-ghost use Rattle.identify.specs.declared.error_log.FailedSlot.{FailedSlot};
+ghost use Rattle.identify.specs.{ErrorLog.{NamesQueuedCommand, NamesNoQueuedCommand}, declared.error_log.FailedSlot.{FailedSlot}};
 
 use super::sum_of;
 use ata_types::Slot;
@@ -30,9 +29,10 @@ const TAGS: u8 = 32;
 /// byte 0 are its tag, byte 2 is the status and byte 3 the error. `None` where the bytes don't sum to 0 modulo 256, or
 /// NQ (bit 7 of byte 0) is one. No other byte is looked at but for the sum.
 pub fn parse_log(page: &[u8; 512]) -> Option<FailedSlot>
-    ensures told { (failure : FailedSlot) → result ≡ Some failure ↔ TellsError page.now failure.slot.0 failure.status
+    ensures failure_is_named { (failure : FailedSlot) → result ≡ Some failure
+        ↔ NamesQueuedCommand page.now failure.slot.0 failure.status
         failure.error }
-    ensures none { result ≡ None ↔ TellsNoError page.now }
+    ensures no_failure_is_named { result ≡ None ↔ NamesNoQueuedCommand page.now }
 {
     if sum_of(page) % 256 != 0 || page[0] & NOT_QUEUED != 0 {
         return None;

@@ -5,9 +5,8 @@
 //! 10h (ACS-3, A.14). Both take any 512 bytes.
 #![tactic(auto)]
 
-ghost use Rattle.std.specs.Prelude.{◌≡◌, ◌<◌, ◌↔◌, IsTrue, IfOk, IfErr, sum};
-ghost use Rattle.std.specs.Int.{bit_at};
-ghost use Rattle.identify.specs.Page.{AllowsTrim, UnfitApplies, Describes, HasNoUnfit, IsFirstUnfit, IsSerial, unfit_number, sector_count, identity_word};
+ghost use Rattle.std.specs.{Prelude.{◌≡◌, ◌<◌, ◌↔◌, IsTrue, IfOk, IfErr, sum}, Int.{bit_at}};
+ghost use Rattle.identify.specs.IdentityPage.{ZeroesAfterTrim, UnfitApplies, Describes, IsFitPage, IsFirstUnfit, IsSerial, unfit_number, sector_count, identity_word};
 
 mod error_log;
 mod wanted;
@@ -135,7 +134,7 @@ fn sectors_of(page: &[u8; 512]) -> u64
 
 /// Whether the disk trims, and reads zeros after it.
 fn has_trim(page: &[u8; 512]) -> bool
-    ensures { IsTrue result ↔ AllowsTrim page.now }
+    ensures { IsTrue result ↔ ZeroesAfterTrim page.now }
 {
     let support = word_of(page, 69);
     has_bit(word_of(page, 169), 0)
@@ -181,7 +180,7 @@ fn info_of(page: &[u8; 512]) -> DiskInfo
 /// server, the one with the lowest number is told (this project's own).
 pub fn parse(page: &[u8; 512]) -> Result<DiskInfo, Unfit>
     ensures unfit { IfErr result (IsFirstUnfit page.now) }
-    ensures fit { IfOk result (λ _. HasNoUnfit page.now) }
+    ensures fit { IfOk result (λ _. IsFitPage page.now) }
     ensures info { IfOk result (Describes page.now) }
 {
     for fault in Unfit::ORDER {

@@ -55,8 +55,8 @@ first_broken_is_one rows owner lent r one other a b =
     same_rule one other n.0 n.1
 
 -- the first refusal is one
-pub law_first_refusal_is_one : (s : AdmissionContext) (r : Request) (one other : Refusal) → AllPairs DifferInName s.rows
+pub law_first_refusal_is_unique : (s : AdmissionContext) (r : Request) (one other : Refusal) → AllPairs DifferInName s.rows
     → IsFirstRefusal s r one → IsFirstRefusal s r other → one ≡ other
-law_first_refusal_is_one s r one other differ a b =
+law_first_refusal_is_unique s r one other differ a b =
     let n = same_rank (refusal_rank one) (refusal_rank other) (λ p. b.1 one p a.0) (λ p. a.1 other p b.0) in
     same_refusal s r differ one other a.0 b.0 n.0 n.1

@@ -10,15 +10,15 @@ use Rattle.ata_types.specs.declared.refusal.Refusal.{Refusal}
 use Rattle.ata_types.specs.declared.refusal.Refusal.TheVariants as refused
 use Rattle.block_machine.specs.Rules.{Breaks, IsFirstBroken, BreaksNone, refusal_rank}
 use Rattle.block_machine.specs.Refusals.{AdmissionContext, IsAcceptable, IsFirstRefusal}
-use Rattle.machine_rules.specs.ReferenceSituations.{SomeRowTriggersCause}
+use Rattle.machine_rules.specs.ReferenceSituations.{SomeNamedRowMeetsCause}
 use Rattle.machine_rules.proofs.Firsts.{early}
 
 -- that no row is named is tested on the rows
-pub no_grant_test : (b : Bool) (s : AdmissionContext) (r : Request) (rule : Rule) → rule ≡ NoGrant → (IsTrue b ↔ SomeRowTriggersCause s r (refused.Rule rule))
+pub no_grant_test : (b : Bool) (s : AdmissionContext) (r : Request) (rule : Rule) → rule ≡ NoGrant → (IsTrue b ↔ SomeNamedRowMeetsCause s r (refused.Rule rule))
     → IsTrue (not b) ↔ Breaks s.rows s.owner s.lent r rule
-no_grant_test b s r rule is test = subst (λ (x : Rule). IsTrue (not b) ↔ Breaks s.rows s.owner s.lent r x) (sym is) (go b (subst (λ (x : Rule). IsTrue b ↔ SomeRowTriggersCause s r (refused.Rule x)) is test))
+no_grant_test b s r rule is test = subst (λ (x : Rule). IsTrue (not b) ↔ Breaks s.rows s.owner s.lent r x) (sym is) (go b (subst (λ (x : Rule). IsTrue b ↔ SomeNamedRowMeetsCause s r (refused.Rule x)) is test))
   where
-    go : (b : Bool) → (IsTrue b ↔ SomeRowTriggersCause s r (refused.Rule NoGrant)) → IsTrue (not b) ↔ Breaks s.rows s.owner s.lent r NoGrant
+    go : (b : Bool) → (IsTrue b ↔ SomeNamedRowMeetsCause s r (refused.Rule NoGrant)) → IsTrue (not b) ↔ Breaks s.rows s.owner s.lent r NoGrant
     go true t = ((λ f. absurd (false≢true f)), λ none. let w = t.0 refl in absurd (none w.0 w.1))
     go false t = ((λ _ row named. false≢true (t.1 (row, named, tt))), λ _. refl)
 

@@ -7,7 +7,7 @@ use Rattle.machine_rules.specs.declared.history.DiskEvent.TheVariants.{Touched, 
 use Rattle.block_machine.specs.DueRequests.{changes_sectors}
 use Rattle.block_machine.specs.State.{Accepted, Machine}
 use Rattle.block_machine.specs.Steps.{Step, Touch, Replace, newly_accepted}
-use Rattle.block_machine.specs.Expected.{IsTouch, Wrote}
+use Rattle.block_machine.specs.Expected.{IsTouch, ChangedSector}
 
 -- the byte in all places of sector number n of what has this fill
 abbrev pub fill_byte : ℕ → ℕ → ℕ
@@ -26,7 +26,7 @@ accepted_of r = record {
     count = r.range.count;
     frames = record { items = [] };
   };
-  held_blocks = λ i b. fill_byte r.fill i;
+  blocks_at_acceptance = λ i b. fill_byte r.fill i;
 }
 
 -- a happening as a step
@@ -39,13 +39,13 @@ abbrev pub history_of : List DiskEvent → List Step
 history_of happened = map step_of happened
 
 -- a machine whose disks have this fill: sector k has the byte of k
-abbrev pub start_filled : ℕ → Machine
-start_filled fill = record {
+abbrev pub machine_filled_with : ℕ → Machine
+machine_filled_with fill = record {
   present = λ p. true;
   disk_ids = λ p. 0;
   sizes = λ p. 0;
-  disks = λ p k b. fill_byte fill k;
-  blocks_since_flush = λ p k. [];
+  disk_bytes = λ p k b. fill_byte fill k;
+  overwritten_since_flush = λ p k. [];
   book = [];
   kept = [];
   lent = λ f. None;
@@ -70,7 +70,7 @@ IsLaterOf (Some old) new found = (new.id.0 ≤ found.id.0) × (old.id.0 ≤ foun
 -- the last in order of acceptance of those that wrote the sector, or none did
 pub record IsLastWriter (port : Port) (k n before : ℕ) (history : List Step)
     (found : Option HistoryRequest) : Type 0 where
-  pub has_written : IfSome found (λ w. Wrote port k n before history (accepted_of w))
-  pub no_later_writer : IfSome found (λ w. (other : Accepted) → Wrote port k n before history other
+  pub has_written : IfSome found (λ w. ChangedSector port k n before history (accepted_of w))
+  pub no_later_writer : IfSome found (λ w. (other : Accepted) → ChangedSector port k n before history other
       → other.id.0 ≤ w.id.0)
-  pub none_has_written : IfNone found ((other : Accepted) → Wrote port k n before history other → ⊥)
+  pub none_has_written : IfNone found ((other : Accepted) → ChangedSector port k n before history other → ⊥)

@@ -9,7 +9,7 @@ use Rattle.ata_types.specs.declared.refusal.Refusal.{Refusal}
 use Rattle.ata_types.specs.declared.refusal.Refusal.TheVariants as refused
 use Rattle.ata_types.specs.declared.refusal.Rule.TheVariants.{NoRight, OutsideGrant}
 use Rattle.ata_types.specs.SectorGrants.{AllowsOp, CoversSectors}
-use Rattle.machine_rules.specs.declared.refuse.PortShown.{PortShown}
+use Rattle.machine_rules.specs.declared.refuse.ShownPort.{ShownPort}
 use Rattle.machine_rules.specs.declared.refuse.ReferenceSituation.{ReferenceSituation}
 use Rattle.block_machine.specs.Rules.{IsNamed, refusal_rank}
 use Rattle.block_machine.specs.Refusals.{AdmissionContext, RefusalApplies}
@@ -19,34 +19,34 @@ abbrev pub frame_or_none : {X : Type 0} → List (Option X) → Frame → Option
 frame_or_none table f = slice_index_or table f.0 None
 
 -- a port past the table's end is absent
-abbrev pub port_or_absent : List PortShown → Port → PortShown
-port_or_absent ports p = slice_index_or ports p.0 (record { state = Absent; sectors = 0; trims = false })
+abbrev pub port_or_absent : List ShownPort → Port → ShownPort
+port_or_absent ports p = slice_index_or ports p.0 (record { state = Absent; sectors = 0; zeroes_after_trim = false })
 
 -- what a request meets by these tables
-abbrev pub situation_in : ReferenceSituation → AdmissionContext
-situation_in t = record {
+abbrev pub reference_admission_context : ReferenceSituation → AdmissionContext
+reference_admission_context t = record {
   rows = t.rows.items;
   owner = frame_or_none t.owners.items;
   lent = frame_or_none t.lent.items;
   state = λ p. (port_or_absent t.ports.items p).state;
   sectors = λ p. (port_or_absent t.ports.items p).sectors;
-  trims = λ p. (port_or_absent t.ports.items p).trims;
-  unanswered = λ client. count_by (λ c. c.0 == client.0) t.unanswered.items;
-  next_id = t.last + 1;
+  zeroes_after_trim = λ p. (port_or_absent t.ports.items p).zeroes_after_trim;
+  unanswered_count = λ client. count_by (λ c. c.0 == client.0) t.unanswered_clients.items;
+  next_id = t.last_id + 1;
 }
 
 -- the row has what the cause says of a row that the request names
-abbrev pub RowTriggersCause : AdmissionContext → Request → Refusal → GrantRow → Type 0
-RowTriggersCause s r (refused.Rule NoRight) row = AllowsOp row.rights r.op → ⊥
-RowTriggersCause s r (refused.Rule OutsideGrant) row = CoversSectors row r.first.0 r.count → ⊥
-RowTriggersCause s r (refused.PortNotReady state) row = s.state row.port ≡ state
-RowTriggersCause s r refused.OutsideDisk row = s.sectors row.port < r.first.0 + r.count
-RowTriggersCause s r refused.TrimUnsupported row = IsTrue (s.trims row.port) → ⊥
-RowTriggersCause s r refusal row = Unit {0}
+abbrev pub RowMeetsCause : AdmissionContext → Request → Refusal → GrantRow → Type 0
+RowMeetsCause s r (refused.Rule NoRight) row = AllowsOp row.rights r.op → ⊥
+RowMeetsCause s r (refused.Rule OutsideGrant) row = CoversSectors row r.first.0 r.count → ⊥
+RowMeetsCause s r (refused.PortNotReady state) row = s.state row.port ≡ state
+RowMeetsCause s r refused.OutsideDisk row = s.sectors row.port < r.first.0 + r.count
+RowMeetsCause s r refused.TrimUnsupported row = IsTrue (s.zeroes_after_trim row.port) → ⊥
+RowMeetsCause s r refusal row = Unit {0}
 
 -- a row that the request names has it
-abbrev pub SomeRowTriggersCause : AdmissionContext → Request → Refusal → Type 0
-SomeRowTriggersCause s r refusal = (row : GrantRow) × IsNamed s.rows r row × RowTriggersCause s r refusal row
+abbrev pub SomeNamedRowMeetsCause : AdmissionContext → Request → Refusal → Type 0
+SomeNamedRowMeetsCause s r refusal = (row : GrantRow) × IsNamed s.rows r row × RowMeetsCause s r refusal row
 
 -- of the causes with this number, the first that applies, or that none does
 pub record IsFirstOfNumber (s : AdmissionContext) (r : Request) (number : ℕ) (found : Option Refusal) : Type 0 where

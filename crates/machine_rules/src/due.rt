@@ -1,6 +1,5 @@
-// Which requests are due, as a plain and slow program: each function is its definition in specs/Due.antt.
-ghost use Rattle.std.specs.Prelude.{◌≡◌, ◌≤◌, length, filter};
-ghost use Rattle.std.specs.List.{list_any};
+// Which requests are due, as a plain and slow program: each function is its definition in specs/DueRequests.antt.
+ghost use Rattle.std.specs.{Prelude.{◌≡◌, ◌≤◌, length, filter}, List.{list_any}};
 ghost use Rattle.block_machine.specs.DueRequests as due;
 
 use arrayvec::ArrayVec;
@@ -27,7 +26,7 @@ pub fn is_unblocked(mode: QueueMode, book: &[Unanswered], r: &Unanswered) -> boo
 }
 
 /// How many earlier requests of its port are clear to go.
-pub fn ahead(mode: QueueMode, book: &[Unanswered], r: &Unanswered) -> usize
+pub fn unblocked_ahead_count(mode: QueueMode, book: &[Unanswered], r: &Unanswered) -> usize
     ensures { result ≡ due.unblocked_ahead_count mode book.now r.now }
 {
     let mut count = 0;
@@ -50,7 +49,7 @@ pub fn free_slots(mode: QueueMode, book: &[Unanswered], port: Port) -> usize
             issued += 1;
         }
     }
-    (mode.usable as usize).saturating_sub(issued)
+    (mode.usable_slots as usize).saturating_sub(issued)
 }
 
 /// Whether the request of the book is due.
@@ -58,7 +57,8 @@ pub fn is_due(mode: QueueMode, book: &[Unanswered], r: &Unanswered) -> bool
     ensures { result ≡ due.is_due mode book.now r.now }
 {
     is_unblocked(mode, book, r)
-        && (is_plain(mode, r.op) || ahead(mode, book, r) < free_slots(mode, book, r.port))
+        && (is_plain(mode, r.op)
+            || unblocked_ahead_count(mode, book, r) < free_slots(mode, book, r.port))
 }
 
 /// The due requests of the book, in its order, for a port that takes commands in this mode.

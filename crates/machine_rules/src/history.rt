@@ -1,9 +1,9 @@
 // What is left on a sector, as a plain and slow program over small histories.
 ghost use Rattle.std.specs.Prelude.{◌≡◌, ◌≤◌, ◌-◌, ℕ, length, IfSome, IfNone};
-ghost use Rattle.block_machine.specs.Expected as expected_byte;
 ghost use Rattle.block_machine.specs.State.{Block, block_written};
+ghost use Rattle.machine_rules.specs.ReferenceHistories.{history_of, step_of, accepted_of, machine_filled_with, IsTouchOfWriter, IsLaterOf, IsLastWriter};
+ghost use Rattle.block_machine.specs.Expected as expected_byte;
 ghost use Rattle.machine_rules.specs.ReferenceHistories as plain_left;
-ghost use Rattle.machine_rules.specs.ReferenceHistories.{history_of, step_of, accepted_of, start_filled, IsTouchOfWriter, IsLaterOf, IsLastWriter};
 
 use ata_types::{Op, Port, Range, RequestId};
 use block_machine::changes_sectors;
@@ -84,7 +84,7 @@ fn fill_byte(fill: u8, number: u64) -> u8
 /// The fill that the disk with this number had when it was put in.
 fn fill_when_plugged(start: u8, port: Port, number: usize, history: &[DiskEvent]) -> u8
     ensures { (k b : ℕ)
-        → expected_byte.bytes_when_plugged (start_filled start) port number
+        → expected_byte.bytes_when_plugged (machine_filled_with start) port number
         (history_of history.now) k b ≡ plain_left.fill_byte result k }
 {
     match history.split_first() {
@@ -152,7 +152,7 @@ fn last_writer(
 /// What a write or trim puts on the sector: its own byte, or zeros.
 fn written(writer: HistoryRequest, sector: u64) -> u8
     ensures { (b : ℕ)
-        → block_written writer.op (accepted_of writer).held_blocks (sector - writer.range.first.0) b ≡ result }
+        → block_written writer.op (accepted_of writer).blocks_at_acceptance (sector - writer.range.first.0) b ≡ result }
 {
     match writer.op {
         Op::Write => fill_byte(writer.fill, sector.saturating_sub(writer.range.first.0)),
@@ -163,7 +163,7 @@ fn written(writer: HistoryRequest, sector: u64) -> u8
 /// What the writes and trims accepted before the read left on the sector, as the byte in all its places. The newest
 /// happening stands first, and the disks had the fill `start` before the first.
 pub fn expected_byte(start: u8, history: &[DiskEvent], read: &HistoryRequest, sector: u64) -> u8
-    ensures { (block : Block) × expected_byte.IsExpectedBlock (start_filled start) (history_of history.now)
+    ensures { (block : Block) × expected_byte.IsExpectedBlock (machine_filled_with start) (history_of history.now)
         (accepted_of read.now) sector block
         × ((b : ℕ) → block b ≡ result) }
 {

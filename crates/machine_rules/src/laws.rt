@@ -2,21 +2,11 @@
 //! nothing calls them.
 
 ghost use Rattle.std.specs.Prelude.{◌≡◌, ◌↔◌, List, Option, AllPairs, IsTrue};
-ghost use Rattle.ata_types.specs.declared.request.ClientId.{ClientId};
-ghost use Rattle.ata_types.specs.declared.request.Frame.{Frame};
-ghost use Rattle.ata_types.specs.declared.request.RequestId.{RequestId};
-ghost use Rattle.ata_types.specs.declared.request.Request.{Request};
-ghost use Rattle.ata_types.specs.declared.refusal.Rule.{Rule};
-ghost use Rattle.ata_types.specs.declared.refusal.Refusal.{Refusal};
-ghost use Rattle.ata_types.specs.declared.grant.GrantRow.{GrantRow};
-ghost use Rattle.ata_types.specs.declared.range.Range.{Range};
-ghost use Rattle.ata_types.specs.Range.{Overlaps};
-ghost use Rattle.block_machine.specs.Rules.{DifferInName, IsFirstBroken};
-ghost use Rattle.block_machine.specs.Refusals.{AdmissionContext, IsFirstRefusal};
-ghost use Rattle.block_machine.specs.DueRequests.{are_overlapping};
+ghost use Rattle.ata_types.specs.{declared.request.ClientId.{ClientId}, declared.request.Frame.{Frame}, declared.request.RequestId.{RequestId}, declared.request.Request.{Request}, declared.refusal.Rule.{Rule}, declared.refusal.Refusal.{Refusal}, declared.grant.GrantRow.{GrantRow}, declared.range.Range.{Range}, Range.{Overlaps}};
+ghost use Rattle.block_machine.specs.{Rules.{DifferInName, IsFirstBroken}, Refusals.{AdmissionContext, IsFirstRefusal}, DueRequests.{are_overlapping}};
 
 /// One rule is the first that a request breaks.
-pub fn law_first_broken_rule_is_one()
+pub fn law_first_broken_is_unique()
     ensures { (rows : List GrantRow) (owner : Frame → Option ClientId)
         (lent : Frame → Option RequestId)
         (r : Request) (one other : Rule) → IsFirstBroken rows owner lent r one
@@ -24,7 +14,7 @@ pub fn law_first_broken_rule_is_one()
 {}
 
 /// One cause is the first that applies to a request.
-pub fn law_first_refusal_is_one()
+pub fn law_first_refusal_is_unique()
     ensures { (s : AdmissionContext) (r : Request) (one other : Refusal) → AllPairs DifferInName s.rows
         → IsFirstRefusal s r one → IsFirstRefusal s r other → one ≡ other }
 {}

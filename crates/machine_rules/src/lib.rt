@@ -11,4 +11,4 @@ mod refuse;
 
 pub use due::{due_list, is_due};
 pub use history::{DiskEvent, HistoryRequest, expected_byte};
-pub use refuse::{PortShown, ReferenceSituation};
+pub use refuse::{ReferenceSituation, ShownPort};

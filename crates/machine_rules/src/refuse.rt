@@ -2,9 +2,8 @@
 // then the first that applies.
 ghost use Rattle.std.specs.Prelude.{false, ◌≡◌, ◌⊎◌, ◌<◌, ◌≤◌, ◌↔◌, IsTrue, IfSome, IfNone, slice_get, count_by, ◌==◌};
 ghost use Rattle.ata_types.specs.SectorGrants.{AllowsOp, CoversSectors};
-ghost use Rattle.block_machine.specs.Rules.{IsNamed, HasGrantName, Breaks, HasFault, BreaksNone, IsFirstBroken, refusal_rank};
-ghost use Rattle.block_machine.specs.Refusals.{RefusalApplies, IsAcceptable, IsFirstRefusal, MemFaultApplies, MayAccessFrame, IsFirstMemFault};
-ghost use Rattle.machine_rules.specs.ReferenceSituations.{frame_or_none, port_or_absent, situation_in, RowTriggersCause, SomeRowTriggersCause, IsFirstOfNumber};
+ghost use Rattle.block_machine.specs.{Rules.{IsNamed, HasGrantName, Breaks, HasFault, BreaksNone, IsFirstBroken, refusal_rank}, Refusals.{RefusalApplies, IsAcceptable, IsFirstRefusal, MemFaultApplies, MayAccessFrame, IsFirstMemFault}};
+ghost use Rattle.machine_rules.specs.ReferenceSituations.{frame_or_none, port_or_absent, reference_admission_context, RowMeetsCause, SomeNamedRowMeetsCause, IsFirstOfNumber};
 
 use arrayvec::ArrayVec;
 use ata_types::{
@@ -15,23 +14,23 @@ use block_machine::{frame_count, is_allowed_count};
 
 /// What a port shows of itself.
 #[derive(Clone, Copy, Debug, PartialEq, Eq)]
-pub struct PortShown {
+pub struct ShownPort {
     pub state: PortState,
     /// The size of its disk.
     pub sectors: u64,
     /// Whether its disk promises zeros after a trim.
-    pub trims: bool,
+    pub zeroes_after_trim: bool,
 }
 
-impl Default for PortShown {
+impl Default for ShownPort {
     /// A port that isn't there.
     fn default() -> Self
-        ensures { result ≡ record { state = PortState.Absent; sectors = 0; trims = false } }
+        ensures { result ≡ record { state = PortState.Absent; sectors = 0; zeroes_after_trim = false } }
     {
-        PortShown {
+        ShownPort {
             state: PortState::Absent,
             sectors: 0,
-            trims: false,
+            zeroes_after_trim: false,
         }
     }
 }
@@ -45,11 +44,11 @@ pub struct ReferenceSituation {
     pub owners: ArrayVec<Option<ClientId>, 128>,
     /// The request that each frame is lent to.
     pub lent: ArrayVec<Option<RequestId>, 128>,
-    pub ports: ArrayVec<PortShown, 4>,
+    pub ports: ArrayVec<ShownPort, 4>,
     /// The client of each unanswered request.
-    pub unanswered: ArrayVec<ClientId, 128>,
+    pub unanswered_clients: ArrayVec<ClientId, 128>,
     /// The last id that was handed out; 0 where none was.
-    pub last: u64,
+    pub last_id: u64,
 }
 
 /// The fault with this number at this place.
@@ -101,21 +100,21 @@ impl ReferenceSituation {
     }
 
     /// What the port shows.
-    fn shown(&self, port: Port) -> PortShown
+    fn shown(&self, port: Port) -> ShownPort
         ensures { result ≡ port_or_absent self.now.ports.items port }
     {
         match self.ports.as_slice().get(port.0 as usize) {
             Some(shown) => *shown,
-            None => PortShown::default(),
+            None => ShownPort::default(),
         }
     }
 
     /// How many unanswered requests the client has.
     fn count_of(&self, client: ClientId) -> usize
-        ensures { result ≡ count_by (λ c. c.0 == client.0) self.now.unanswered.items }
+        ensures { result ≡ count_by (λ c. c.0 == client.0) self.now.unanswered_clients.items }
     {
         let mut count = 0;
-        for other in self.unanswered.as_slice() {
+        for other in self.unanswered_clients.as_slice() {
             if other.0 == client.0 {
                 count += 1;
             }
@@ -125,7 +124,7 @@ impl ReferenceSituation {
 
     /// Whether the row, which the request names, has what the cause says of it.
     fn row_has(&self, request: &Request, cause: Refusal, row: &GrantRow) -> bool
-        ensures { IsTrue result ↔ RowTriggersCause (situation_in self.now) request.now cause row.now }
+        ensures { IsTrue result ↔ RowMeetsCause (reference_admission_context self.now) request.now cause row.now }
     {
         match cause {
             Refusal::Rule(Rule::NoRight) => !row.rights.allows(request.op),
@@ -135,14 +134,14 @@ impl ReferenceSituation {
                 let end = request.first.0 as u128 + request.count as u128;
                 (self.shown(row.port).sectors as u128) < end
             }
-            Refusal::TrimUnsupported => !self.shown(row.port).trims,
+            Refusal::TrimUnsupported => !self.shown(row.port).zeroes_after_trim,
             _ => true,
         }
     }
 
     /// Whether a row that the request names has what the cause says of it.
     fn some_row_has(&self, request: &Request, cause: Refusal) -> bool
-        ensures { IsTrue result ↔ SomeRowTriggersCause (situation_in self.now) request.now cause }
+        ensures { IsTrue result ↔ SomeNamedRowMeetsCause (reference_admission_context self.now) request.now cause }
     {
         for row in self.rows.as_slice() {
             let named = row.client == request.client && row.number == request.grant;
@@ -194,7 +193,7 @@ impl ReferenceSituation {
 
     /// Whether the cause applies to the request.
     pub fn applies(&self, request: &Request, cause: Refusal) -> bool
-        ensures { IsTrue result ↔ RefusalApplies (situation_in self.now) request.now cause }
+        ensures { IsTrue result ↔ RefusalApplies (reference_admission_context self.now) request.now cause }
     {
         match cause {
             Refusal::Rule(rule) => self.breaks(request, rule),
@@ -204,14 +203,14 @@ impl ReferenceSituation {
             Refusal::OutsideDisk => request.op != Op::Flush && self.some_row_has(request, cause),
             Refusal::TrimUnsupported => request.op == Op::Trim && self.some_row_has(request, cause),
             Refusal::ClientFull => 16 <= self.count_of(request.client),
-            Refusal::IdsSpent => self.last == u64::MAX,
+            Refusal::IdsSpent => self.last_id == u64::MAX,
         }
     }
 
     /// The cause, if it applies.
     fn if_applies(&self, request: &Request, cause: Refusal) -> Option<Refusal>
         requires { ((refusal_rank cause).0 < 6) ⊎ (9 < (refusal_rank cause).0) }
-        ensures { IsFirstOfNumber (situation_in self.now) request.now
+        ensures { IsFirstOfNumber (reference_admission_context self.now) request.now
             (refusal_rank cause).0 result }
     {
         if self.applies(request, cause) {
@@ -225,7 +224,7 @@ impl ReferenceSituation {
     fn first_fault(&self, request: &Request, number: u8) -> Option<Refusal>
         requires low { 6 ≤ number }
         requires high { number ≤ 8 }
-        ensures { IsFirstOfNumber (situation_in self.now) request.now number result }
+        ensures { IsFirstOfNumber (reference_admission_context self.now) request.now number result }
     {
         for place in 0..request.frames.len() {
             let cause = Refusal::Rule(Rule::Frames(fault_at(number, place)));
@@ -238,7 +237,7 @@ impl ReferenceSituation {
 
     /// The state of the request's port, if it isn't ready.
     fn not_ready(&self, request: &Request) -> Option<Refusal>
-        ensures { IsFirstOfNumber (situation_in self.now) request.now 9 result }
+        ensures { IsFirstOfNumber (reference_admission_context self.now) request.now 9 result }
     {
         for row in self.rows.as_slice() {
             let named = row.client == request.client && row.number == request.grant;
@@ -254,7 +253,7 @@ impl ReferenceSituation {
     fn first_numbered(&self, request: &Request, number: u8) -> Option<Refusal>
         requires low { 1 ≤ number }
         requires high { number ≤ 13 }
-        ensures { IsFirstOfNumber (situation_in self.now) request.now number result }
+        ensures { IsFirstOfNumber (reference_admission_context self.now) request.now number result }
     {
         match number {
             1 => self.if_applies(request, Refusal::Rule(Rule::NoGrant)),
@@ -273,8 +272,8 @@ impl ReferenceSituation {
 
     /// The first cause that applies to the request, or none where it is acceptable.
     pub fn first_refusal(&self, request: &Request) -> Option<Refusal>
-        ensures some { IfSome result (IsFirstRefusal (situation_in self.now) request.now) }
-        ensures none { IfNone result (IsAcceptable (situation_in self.now) request.now) }
+        ensures some { IfSome result (IsFirstRefusal (reference_admission_context self.now) request.now) }
+        ensures none { IfNone result (IsAcceptable (reference_admission_context self.now) request.now) }
     {
         for number in 1..14 {
             if let Some(cause) = self.first_numbered(request, number) {

@@ -9,7 +9,7 @@ use Rattle.block_machine.specs.Ports.{Ports}
 use Rattle.block_machine.specs.State.{Accepted, Pending, Machine}
 use Rattle.block_machine.specs.Steps.{Step, Accept, Issue, Touch, End, Age, WaitAgain, Answer, Release, Revoke, Unplug, Replace, Store, Load, MayAccept, after_step, newly_issued, touch, mark_ended, requeued, aged_pending}
 use Rattle.block_machine.specs.Expected.{after, IsAccept}
-use Rattle.block_machine.specs.Events.{AbstractCall, Submit, StoreAt, LoadAt, Service, Tick, Reset, State, Device, RevokeOf, AllEnabled, IsByDevice, IsByServer, AreStepsOfCall, accepts_of, issues_id, IsIssuedIn}
+use Rattle.block_machine.specs.Events.{AbstractCall, Submit, StoreAt, LoadAt, Service, Tick, Reset, State, StepDevice, RevokeOf, AllEnabled, IsByDevice, IsByServer, AreStepsOfCall, accepts_of, issues_id, IsIssuedIn}
 use Rattle.block_machine.proofs.Members.{contains_none, contains_here, contains_there, contains_cases, map_in, at_cases, without_in, append_in}
 use Rattle.block_machine.proofs.Keeps.{older_keeps, older_issued}
 use Rattle.block_machine.proofs.Counting.{count_cons}
@@ -236,9 +236,9 @@ servers_fit (LoadAt c f o n) ports Release h = absurd h
 servers_fit (State p) ports (Accept r) h = absurd h
 servers_fit (State p) ports (Age ready) h = absurd h
 servers_fit (State p) ports Release h = absurd h
-servers_fit (Device d) ports (Accept r) h = absurd h
-servers_fit (Device d) ports (Age ready) h = absurd h
-servers_fit (Device d) ports Release h = absurd h
+servers_fit (StepDevice d) ports (Accept r) h = absurd h
+servers_fit (StepDevice d) ports (Age ready) h = absurd h
+servers_fit (StepDevice d) ports Release h = absurd h
 servers_fit (RevokeOf c n) ports (Accept r) h = absurd h
 servers_fit (RevokeOf c n) ports (Age ready) h = absurd h
 servers_fit (RevokeOf c n) ports Release h = absurd h

@@ -8,7 +8,7 @@ use Rattle.ata_types.specs.declared.request.Op.TheVariants.{Read, Write, Trim, F
 use Rattle.ata_types.specs.declared.refusal.MemFault.TheVariants as fault
 use Rattle.block_machine.specs.DueRequests.{changes_sectors}
 use Rattle.block_machine.specs.State.{Block, DiskBytes, Memory, Machine, frame_at, sector_of, is_reader, block_written}
-use Rattle.block_machine.specs.Steps.{Step, Touch, Replace, Store, after_step, put_bytes, put_sector, disks_after}
+use Rattle.block_machine.specs.Steps.{Step, Touch, Replace, Store, after_step, put_bytes, put_sector, disks_after_touch}
 use Rattle.block_machine.specs.Expected.{after, IsLegal, IsInitial}
 use Rattle.block_machine.specs.Confinement.{MayChangeByte, MayChangeSector}
 use Rattle.block_machine.proofs.Trace.{runs_lives}
@@ -58,26 +58,26 @@ law_bytes_change_by_touch_or_store start h (Store client frame offset bytes) f b
     )
 law_bytes_change_by_touch_or_store start h _ f b s legal ne = ne refl
 
-pub law_sectors_change_by_touch_or_plug : (m : Machine) (step : Step) (port : Port) (k b : ℕ) → (after_step m step).disks port k b ≢ m.disks port k b → MayChangeSector step port k
+pub law_sectors_change_by_touch_or_plug : (m : Machine) (step : Step) (port : Port) (k b : ℕ) → (after_step m step).disk_bytes port k b ≢ m.disk_bytes port k b → MayChangeSector step port k
 law_sectors_change_by_touch_or_plug m (Touch e i block) port k b ne = by (changes_sectors e.request.asked.op) refl
   where
     by : (t : Bool) → changes_sectors e.request.asked.op ≡ t → MayChangeSector (Touch e i block) port k
     by false t = absurd (ne (ap (λ (d : Port → DiskBytes). d port k b)
-        (cond-false (changes_sectors e.request.asked.op) (put_sector e.request.port (sector_of e.request i) (block_written e.request.asked.op e.request.held_blocks i) m.disks) m.disks t)))
+        (cond-false (changes_sectors e.request.asked.op) (put_sector e.request.port (sector_of e.request i) (block_written e.request.asked.op e.request.blocks_at_acceptance i) m.disk_bytes) m.disk_bytes t)))
     by true t = go ((port.0 == e.request.port.0) && (k == sector_of e.request i)) refl
       where
-        put : disks_after e.request i m.disks ≡ put_sector e.request.port (sector_of e.request i) (block_written e.request.asked.op e.request.held_blocks i) m.disks
-        put = cond-true (changes_sectors e.request.asked.op) (put_sector e.request.port (sector_of e.request i) (block_written e.request.asked.op e.request.held_blocks i) m.disks) m.disks t
+        put : disks_after_touch e.request i m.disk_bytes ≡ put_sector e.request.port (sector_of e.request i) (block_written e.request.asked.op e.request.blocks_at_acceptance i) m.disk_bytes
+        put = cond-true (changes_sectors e.request.asked.op) (put_sector e.request.port (sector_of e.request i) (block_written e.request.asked.op e.request.blocks_at_acceptance i) m.disk_bytes) m.disk_bytes t
 
         go : (u : Bool) → ((port.0 == e.request.port.0) && (k == sector_of e.request i)) ≡ u → MayChangeSector (Touch e i block) port k
         go true u =
             let p = and_parts (port.0 == e.request.port.0) (k == sector_of e.request i) u in
             (t, sym (ap (λ (n : ℕ). record { 0 = n }) (eqb-true port.0 e.request.port.0 p.0)), sym (eqb-true k (sector_of e.request i) p.1))
         go false u = absurd (ne (ap (λ (d : Port → DiskBytes). d port k b) put
-            ∙ ap (λ (x : Block). x b) (cond-false ((port.0 == e.request.port.0) && (k == sector_of e.request i)) (block_written e.request.asked.op e.request.held_blocks i) (m.disks port k) u)))
+            ∙ ap (λ (x : Block). x b) (cond-false ((port.0 == e.request.port.0) && (k == sector_of e.request i)) (block_written e.request.asked.op e.request.blocks_at_acceptance i) (m.disk_bytes port k) u)))
 law_sectors_change_by_touch_or_plug m (Replace p id size disk) port k b ne = go (port.0 == p.0) refl
   where
     go : (u : Bool) → (port.0 == p.0) ≡ u → p ≡ port
     go true u = sym (ap (λ (n : ℕ). record { 0 = n }) (eqb-true port.0 p.0 u))
-    go false u = absurd (ne (ap (λ (d : DiskBytes). d k b) (cond-false (port.0 == p.0) disk (m.disks port) u)))
+    go false u = absurd (ne (ap (λ (d : DiskBytes). d k b) (cond-false (port.0 == p.0) disk (m.disk_bytes port) u)))
 law_sectors_change_by_touch_or_plug m _ port k b ne = ne refl

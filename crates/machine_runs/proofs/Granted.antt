@@ -13,7 +13,7 @@ use Rattle.block_machine.specs.Rules.{HasRow, IsSameGrantName, is_same_grant_nam
 use Rattle.block_machine.specs.State.{Accepted, Pending, Machine}
 use Rattle.block_machine.specs.Steps.{Step, Accept, Issue, Touch, End, Age, WaitAgain, Answer, Revoke, HasGrant, IsEnabled, MayStillMove, after_step, update_pending, newly_issued, touch, mark_ended, requeued, aged_pending, newly_accepted}
 use Rattle.block_machine.specs.Expected.{after}
-use Rattle.block_machine.specs.Events.{AbstractState, AbstractCall, RevokeOf, CallResult, WasRevoked, CallRecord, AllEnabled, AreStepsOfCall, IsAnswered, IsByDevice, IsRun, IsByServer, abstract_after_all, steps_of}
+use Rattle.block_machine.specs.Events.{AbstractState, AbstractCall, RevokeOf, AbstractCallResult, WasRevoked, CallRecord, AllEnabled, AreStepsOfCall, ResultMatchesSteps, IsByDevice, IsRun, IsByServer, abstract_after_all, steps_of}
 use Rattle.block_machine.proofs.Accepts.{law_accepted_is_granted}
 use Rattle.block_machine.proofs.EventLemmas.{moment_is, run_legal, run_starts}
 use Rattle.block_machine.proofs.Keeps.{keeps, older_issued}
@@ -169,7 +169,7 @@ in_filter {A} passes (y ∷ ys) x h is = ⊎_elim
 
 -- ---- each call
 
-granted_event : {D : Type 0} (ask : AbstractCall D) (said : CallResult) (old : AbstractState) (evidence : Evidence) (steps : List Step) (ports : Ports) → IsAnswered ask said old evidence steps (record { machine = after old.machine steps; ports = ports })
+granted_event : {D : Type 0} (ask : AbstractCall D) (said : AbstractCallResult) (old : AbstractState) (evidence : Evidence) (steps : List Step) (ports : Ports) → ResultMatchesSteps ask said old evidence steps (record { machine = after old.machine steps; ports = ports })
     → Sound old.machine → AllEnabled old.machine steps → AreStepsOfCall ask ports steps → IsGrantedAll old.machine → IsGrantedAll (after old.machine steps)
 granted_event {D} (RevokeOf client number) (WasRevoked (Some replies)) old evidence steps ports a s may b g e h waits =
     let here = waited D client number ports old.machine s steps may b e h waits in
@@ -183,7 +183,7 @@ granted_event {D} (RevokeOf client number) (WasRevoked (Some replies)) old evide
         let under : IsSameGrantName client number e.request.asked.client e.request.asked.grant = (sym had.2.0 ∙ its_client, sym had.2.1 ∙ eqb-true had.0.number number parts.1) in
         absurd (answered_gone D client number ports old.machine s steps may b e e Revoked ((a.waiting_are_revoked e).1 (here, waits, under)) h waits refl)
     by had false is here =
-        (had.0, subst (λ (rows : List GrantRow). Contains rows had.0) (sym a.rows) (in_filter (λ (row : GrantRow). not (is_same_grant_name client number row.client row.number)) old.machine.rows had.0 had.1 (ap not is)), had.2)
+        (had.0, subst (λ (rows : List GrantRow). Contains rows had.0) (sym a.row_is_removed) (in_filter (λ (row : GrantRow). not (is_same_grant_name client number row.client row.number)) old.machine.rows had.0 had.1 (ap not is)), had.2)
 granted_event (RevokeOf client number) (WasRevoked None) old evidence steps ports a s may b g e h waits = subst (λ (list : List Step). IsGrantedAll (after old.machine list)) (sym a.1) g e h waits
 granted_event (RevokeOf client number) said old evidence steps ports a s may b g e h waits = absurd a
 granted_event ask said old evidence steps ports a s may b g e h waits = granted_after old.machine steps s may (all_leave ask ports steps refl b) g e h waits
@@ -192,4 +192,4 @@ pub law_what_waits_has_its_grant : {D : Type 0} (first : AbstractState) (run : L
 law_what_waits_has_its_grant first [] e r h waits = absurd (nobody first.machine r.0 e (inl h))
 law_what_waits_has_its_grant first (event ∷ past) e r h waits =
     let sound = subst Sound (sym (moment_is first past)) (traced first.machine (steps_of past) (run_starts first past r.0) (run_legal first past r.0)).sound in
-    granted_event event.ask event.said (abstract_after_all first past) event.evidence event.steps event.ports r.1.is_answered sound r.1.steps_are_enabled r.1.steps_are_of_call (λ x i w. law_what_waits_has_its_grant first past x r.0 i w) e h waits
+    granted_event event.call event.result (abstract_after_all first past) event.evidence event.steps event.ports r.1.result_matches_steps sound r.1.steps_are_enabled r.1.steps_are_of_call (λ x i w. law_what_waits_has_its_grant first past x r.0 i w) e h waits

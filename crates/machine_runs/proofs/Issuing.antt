@@ -13,14 +13,14 @@ use Rattle.block_machine.specs.State.{Accepted, Pending, Machine}
 use Rattle.block_machine.specs.Steps.{Step, Accept, Issue, Touch, End, Age, WaitAgain, Answer, Release, Revoke, Unplug, Replace, Store, Load, IsEnabled, after_step, update_pending, newly_issued, touch, mark_ended, requeued, aged_pending}
 use Rattle.block_machine.specs.Expected.{after, IsLegal, IsInitial}
 use Rattle.block_machine.specs.Confinement.{WithinLimits}
-use Rattle.block_machine.specs.Events.{AbstractState, CallRecord, AllAnswersLawful, EveryReadHolds, IsLawfulAnswer, IsRun, issues_id, abstract_after_all, steps_of}
+use Rattle.block_machine.specs.Events.{AbstractState, CallRecord, AnswersAndWaitsLawful, EveryReadHoldsExpected, IsLawfulAnswer, IsRun, issues_id, abstract_after_all, steps_of}
 use Rattle.block_machine.proofs.Members.{contains_none, contains_here, contains_there, contains_cases, map_in, into_map, at_cases, without_in, append_in}
 use Rattle.block_machine.proofs.Keeps.{older_keeps, older_issued}
 use Rattle.block_machine.proofs.Limits.{law_limits_hold, older_issues}
 use Rattle.block_machine.proofs.Sound.{Sound}
 use Rattle.block_machine.proofs.Runs.{traced, nobody}
 use Rattle.block_machine.proofs.Counting.{count_cons, count_append, issued_not_due}
-use Rattle.machine_runs.specs.AnswerOrigins.{CallAnswersOk, waits_again}
+use Rattle.machine_runs.specs.AnswerOrigins.{CallAnswersOk, requeues_id}
 use Rattle.block_machine.proofs.EventLemmas.{moment_is, run_starts, run_legal, step_of_run}
 use Rattle.machine_runs.proofs.Once.{law_answered_was_accepted}
 use Rattle.machine_runs.proofs.Touching.{law_ok_was_touched, law_ok_was_ended}
@@ -31,12 +31,12 @@ abbrev IsLawfulStep : AbstractState → Evidence → Ports → Step → Type 0
 IsLawfulStep old evidence ports (Answer e o) = IsLawfulAnswer old evidence ports e o
 IsLawfulStep old evidence ports step = Unit {0}
 
-lawful_first : (old : AbstractState) (evidence : Evidence) (ports : Ports) (step : Step) (before : List Step) → AllAnswersLawful old evidence ports (step ∷ before) → AllAnswersLawful old evidence ports before × IsLawfulStep old evidence ports step
+lawful_first : (old : AbstractState) (evidence : Evidence) (ports : Ports) (step : Step) (before : List Step) → AnswersAndWaitsLawful old evidence ports (step ∷ before) → AnswersAndWaitsLawful old evidence ports before × IsLawfulStep old evidence ports step
 lawful_first old evidence ports (Answer e o) before l = l
 lawful_first old evidence ports (WaitAgain e) before l = (l.0, tt)
 lawful_first old evidence ports _ before l = (l, tt)
 
-lawful_in : (old : AbstractState) (evidence : Evidence) (ports : Ports) (steps : List Step) → AllAnswersLawful old evidence ports steps → (step : Step) → Contains steps step → IsLawfulStep old evidence ports step
+lawful_in : (old : AbstractState) (evidence : Evidence) (ports : Ports) (steps : List Step) → AnswersAndWaitsLawful old evidence ports steps → (step : Step) → Contains steps step → IsLawfulStep old evidence ports step
 lawful_in old evidence ports [] l step h = absurd (contains_none step h)
 lawful_in old evidence ports (x ∷ before) l step h =
     let first = lawful_first old evidence ports x before l in
@@ -53,7 +53,7 @@ law_answers_are_lawful first past event e outcome r h = lawful_in (abstract_afte
 record IsCounted (m : Machine) (id : RequestId) (n : ℕ) : Type 0 where
   most : n ≤ 4
   none : m.next_id ≤ id.0 → n ≡ 0
-  here : (e : Pending) → Contains m.book e → e.request.id.0 ≡ id.0 → n ≡ e.issues
+  here : (e : Pending) → Contains m.book e → e.request.id.0 ≡ id.0 → n ≡ e.issue_count
 
 -- an unanswered request from which this one came, of the same id, and alike in what is looked at
 abbrev CameSo : {X : Type 0} → (Pending → X) → Machine → Pending → Type 0
@@ -78,7 +78,7 @@ came_older seen m ready sees e h =
 
 -- how often it was issued
 abbrev issues_of : Pending → ℕ
-issues_of e = e.issues
+issues_of e = e.issue_count
 
 -- a step that issues nothing
 counted_on : (m n : Machine) (id : RequestId) (k : ℕ) → n.next_id ≡ m.next_id → ((e : Pending) → Contains n.book e → CameSo issues_of m e) → IsCounted m id k → IsCounted n id (0 + k)
@@ -90,7 +90,7 @@ counted_on m n id k next from c =
       here = λ e h same. let o = from e h in let count = c.here o.0 o.1 (o.2 ∙ same) in let issues = o.3 in omega (arith, count, issues);
     }
 
-counted_issue : (m : Machine) (p : Pending) (id : RequestId) (n : ℕ) → Contains m.book p → Sound m → (newly_issued p).issues ≤ 4 → IsCounted m id n
+counted_issue : (m : Machine) (p : Pending) (id : RequestId) (n : ℕ) → Contains m.book p → Sound m → (newly_issued p).issue_count ≤ 4 → IsCounted m id n
     → (b : Bool) → (p.request.id.0 == id.0) ≡ b → IsCounted (record m { book = map (update_pending p.request.id newly_issued) m.book }) id (cond b 1 0 + n)
 counted_issue m p id n here s few c true e =
     let same = eqb-true p.request.id.0 id.0 e in
@@ -102,7 +102,7 @@ counted_issue m p id n here s few c true e =
       here = λ x h is.
           let r = map_in (update_pending p.request.id newly_issued) m.book x h in
           ⊎_elim
-          (λ a. let old = c.here r.0 r.1 (a.0 ∙ same) in let new = ap (λ (y : Pending). y.issues) (r.2 ∙ a.1) in omega (arith, old, new))
+          (λ a. let old = c.here r.0 r.1 (a.0 ∙ same) in let new = ap (λ (y : Pending). y.issue_count) (r.2 ∙ a.1) in omega (arith, old, new))
           (λ a. absurd (a.0 (ap (λ (y : Pending). y.request.id.0) (sym (r.2 ∙ a.1)) ∙ is ∙ sym same)))
           (at_cases p.request.id newly_issued r.0);
     }
@@ -115,27 +115,27 @@ counted_issue m p id n here s few c false e =
           let r = map_in (update_pending p.request.id newly_issued) m.book x h in
           ⊎_elim
           (λ a. let mine = ap (λ (y : Pending). y.request.id.0) (r.2 ∙ a.1) in absurd (eqb-false p.request.id.0 id.0 e (sym a.0 ∙ sym mine ∙ is)))
-          (λ a. let old = c.here r.0 r.1 (ap (λ (y : Pending). y.request.id.0) (sym (r.2 ∙ a.1)) ∙ is) in let new = ap (λ (y : Pending). y.issues) (r.2 ∙ a.1) in omega (arith, old, new))
+          (λ a. let old = c.here r.0 r.1 (ap (λ (y : Pending). y.request.id.0) (sym (r.2 ∙ a.1)) ∙ is) in let new = ap (λ (y : Pending). y.issue_count) (r.2 ∙ a.1) in omega (arith, old, new))
           (at_cases p.request.id newly_issued r.0);
     }
 
 counted_step : (m : Machine) (step : Step) (id : RequestId) (n : ℕ) → IsEnabled m step → Sound m → WithinLimits (after_step m step) → IsCounted m id n → IsCounted (after_step m step) id (cond (issues_id id step) 1 0 + n)
 counted_step m (Issue mode p) id n may s limits c = counted_issue m p id n may.0 s most c (p.request.id.0 == id.0) refl
   where
-    most : (newly_issued p).issues ≤ 4
+    most : (newly_issued p).issue_count ≤ 4
     most = ⊎_elim
-        (λ a. subst (λ (x : Pending). x.issues ≤ 4) a.1 (limits.issues (update_pending p.request.id newly_issued p) (inl (into_map (update_pending p.request.id newly_issued) m.book p may.0))))
+        (λ a. subst (λ (x : Pending). x.issue_count ≤ 4) a.1 (limits.issued_four_times_at_most (update_pending p.request.id newly_issued p) (inl (into_map (update_pending p.request.id newly_issued) m.book p may.0))))
         (λ a. absurd (a.0 refl))
         (at_cases p.request.id newly_issued p)
 counted_step m (Accept r) id n may s limits c =
     let most = c.most in
-    let next : r.id.0 ≡ m.next_id = may.id in
+    let next : r.id.0 ≡ m.next_id = may.id_is_next in
     record {
       most = omega (arith, most);
       none = λ le. let zero = c.none (omega (arith, le)) in omega (arith, zero);
       here = λ x h is. ⊎_elim
           (λ old. let count = c.here x old is in omega (arith, count))
-          (λ new. let mine = ap (λ (y : Pending). y.request.id.0) new in let issues = ap (λ (y : Pending). y.issues) new in let zero = c.none (omega (arith, next, mine, is)) in omega (arith, zero, issues))
+          (λ new. let mine = ap (λ (y : Pending). y.request.id.0) new in let issues = ap (λ (y : Pending). y.issue_count) new in let zero = c.none (omega (arith, next, mine, is)) in omega (arith, zero, issues))
           (append_in m.book _ x h);
     }
 counted_step m (Touch p i block) id n may s limits c = counted_on m (after_step m (Touch p i block)) id n refl (came_at issues_of m p.request.id (touch i) (λ _. refl) (λ _. refl)) c
@@ -216,7 +216,7 @@ cond_same true = refl
 cond_same false = refl
 
 balanced_step : (m : Machine) (step : Step) (id : RequestId) (issues waits : ℕ) → IsEnabled m step → Sound m → IsBalanced m id issues waits
-    → IsBalanced (after_step m step) id (cond (issues_id id step) 1 0 + issues) (cond (waits_again id step) 1 0 + waits)
+    → IsBalanced (after_step m step) id (cond (issues_id id step) 1 0 + issues) (cond (requeues_id id step) 1 0 + waits)
 balanced_step m (Issue mode p) id issues waits may s b =
     let waited : p.issued ≡ false = false_from_ne_true p.issued (λ is. issued_not_due mode _ _ is may.1) in
     subst (IsBalanced (after_step m (Issue mode p)) id (cond (p.request.id.0 == id.0) 1 0 + issues)) (ap (λ (k : ℕ). k + waits) (cond_same (p.request.id.0 == id.0)))
@@ -225,7 +225,7 @@ balanced_step m (WaitAgain p) id issues waits may s b =
     subst (λ (k : ℕ). IsBalanced (after_step m (WaitAgain p)) id (k + issues) (cond (p.request.id.0 == id.0) 1 0 + waits)) (cond_same (p.request.id.0 == id.0))
     (balanced_at m p id requeued true false 0 1 may.0 s (λ _. refl) (λ _. refl) may.1 (λ i w e. omega (arith, e)) issues waits b (p.request.id.0 == id.0) refl)
 balanced_step m (Accept r) id issues waits may s b =
-    let next : r.id.0 ≡ m.next_id = may.id in
+    let next : r.id.0 ≡ m.next_id = may.id_is_next in
     record {
       none = λ le. let zero = b.none (omega (arith, le)) in let i = zero.0 in let w = zero.1 in (omega (arith, i), omega (arith, w));
       here = λ x h is. ⊎_elim
@@ -250,20 +250,20 @@ balanced_step m (Replace p i size disk) id issues waits may s b = balanced_on m 
 balanced_step m (Store k f o x) id issues waits may s b = balanced_on m (after_step m (Store k f o x)) id issues waits refl (λ e h. came_same issued_of m e e h refl) b
 balanced_step m (Load k f o x) id issues waits may s b = balanced_on m (after_step m (Load k f o x)) id issues waits refl (λ e h. came_same issued_of m e e h refl) b
 
-balanced : (start : Machine) (h : List Step) (id : RequestId) → IsInitial start → IsLegal start h → IsBalanced (after start h) id (count_by (issues_id id) h) (count_by (waits_again id) h)
+balanced : (start : Machine) (h : List Step) (id : RequestId) → IsInitial start → IsLegal start h → IsBalanced (after start h) id (count_by (issues_id id) h) (count_by (requeues_id id) h)
 balanced start [] id s legal = record { none = λ le. (refl, refl); here = λ e h same. absurd (nobody start s e (inl h)) }
 balanced start (step ∷ past) id s legal =
-    subst (IsBalanced (after start (step ∷ past)) id (count_by (issues_id id) (step ∷ past))) (sym (count_cons (waits_again id) step past))
-    (subst (λ (n : ℕ). IsBalanced (after start (step ∷ past)) id n (cond (waits_again id step) 1 0 + count_by (waits_again id) past)) (sym (count_cons (issues_id id) step past))
-    (balanced_step (after start past) step id (count_by (issues_id id) past) (count_by (waits_again id) past) legal.1 (traced start past s legal.0).sound (balanced start past id s legal.0)))
+    subst (IsBalanced (after start (step ∷ past)) id (count_by (issues_id id) (step ∷ past))) (sym (count_cons (requeues_id id) step past))
+    (subst (λ (n : ℕ). IsBalanced (after start (step ∷ past)) id n (cond (requeues_id id step) 1 0 + count_by (requeues_id id) past)) (sym (count_cons (issues_id id) step past))
+    (balanced_step (after start past) step id (count_by (issues_id id) past) (count_by (requeues_id id) past) legal.1 (traced start past s legal.0).sound (balanced start past id s legal.0)))
 
 pub law_issues_are_counted : (start : Machine) (history : List Step) (e : Pending) → IsInitial start → IsLegal start history → Contains (after start history).book e
-    → (count_by (issues_id e.request.id) history ≡ e.issues) × (count_by (issues_id e.request.id) history ≡ count_by (waits_again e.request.id) history + cond e.issued 1 0)
+    → (count_by (issues_id e.request.id) history ≡ e.issue_count) × (count_by (issues_id e.request.id) history ≡ count_by (requeues_id e.request.id) history + cond e.issued 1 0)
 law_issues_are_counted start history e starts legal here =
     ((counted start history e.request.id starts legal).here e here refl, (balanced start history e.request.id starts legal).here e here refl)
 
 -- a step of a run is one of a call's
-abort_of_run : {D : Type 0} (first : AbstractState) (run : List (CallRecord D)) (e : Pending) → IsRun first run → Contains (steps_of run) (Answer e Aborted) → e.issues ≡ 4
+abort_of_run : {D : Type 0} (first : AbstractState) (run : List (CallRecord D)) (e : Pending) → IsRun first run → Contains (steps_of run) (Answer e Aborted) → e.issue_count ≡ 4
 abort_of_run first [] e r h = absurd (contains_none (Answer e Aborted) h)
 abort_of_run first (event ∷ past) e r h = ⊎_elim
     (λ i. (law_answers_are_lawful first past event e Aborted r i).1)
@@ -304,7 +304,7 @@ in_place (x ∷ steps) step h = ⊎_elim
     (λ i. let p = in_place steps step i in (x ∷ p.0, p.1, ap (λ (ys : List Step). x ∷ ys) p.2))
     (contains_cases x steps step h)
 
-pub law_ok_was_served : {D : Type 0} (first : AbstractState) (past : List (CallRecord D)) (event : CallRecord D) (e : Pending) → IsRun first (event ∷ past) → EveryReadHolds first (event ∷ past)
+pub law_ok_was_served : {D : Type 0} (first : AbstractState) (past : List (CallRecord D)) (event : CallRecord D) (e : Pending) → IsRun first (event ∷ past) → EveryReadHoldsExpected first (event ∷ past)
     → Contains event.steps (Answer e Ok) → CallAnswersOk first past event e
 law_ok_was_served first past event e r holds h =
     let p = in_place event.steps (Answer e Ok) h in
@@ -323,5 +323,5 @@ law_ok_was_served first past event e r holds h =
         touched = law_ok_was_touched first (event ∷ past) p.0 (p.1 ++ steps_of past) e r split;
         ended = law_ok_was_ended first (event ∷ past) p.0 (p.1 ++ steps_of past) e r split;
       };
-      holds = holds [] past event p.0 p.1 e refl p.2;
+      read_holds_expected = holds [] past event p.0 p.1 e refl p.2;
     }

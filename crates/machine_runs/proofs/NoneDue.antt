@@ -13,7 +13,7 @@ use Rattle.block_machine.specs.Ports.{Ports, Evidence, PortsWellFormed, SamePort
 use Rattle.block_machine.specs.State.{Pending, Machine, unanswered}
 use Rattle.block_machine.specs.Steps.{Step, Accept, Issue, Touch, End, Age, WaitAgain, Answer, Store, Load, after_step, update_pending, touch, mark_ended}
 use Rattle.block_machine.specs.Expected.{after}
-use Rattle.block_machine.specs.Events.{AbstractState, AbstractCall, Submit, StoreAt, LoadAt, Service, Tick, Reset, RevokeOf, State, Device, CallResult, Submitted, Stored, Loaded, Served, WasReset, WasRevoked, Shown, Stepped, CallRecord, NoneDueWhereReady, IsAnswered, IsByDevice, IsByServer, AreStepsOfCall, IsRun, abstract_after_all}
+use Rattle.block_machine.specs.Events.{AbstractState, AbstractCall, Submit, StoreAt, LoadAt, Service, Tick, Reset, RevokeOf, State, StepDevice, AbstractCallResult, Submitted, Stored, Loaded, Replied, WasReset, WasRevoked, PortStateShown, Stepped, CallRecord, NoneDueWhereReady, ResultMatchesSteps, IsByDevice, IsByServer, AreStepsOfCall, IsRun, abstract_after_all}
 use Rattle.block_machine.proofs.Members.{contains_none, contains_here, contains_there, at_cases, map_in, into_map}
 use Rattle.machine_runs.proofs.RunLaws.{is_ready, run_fit}
 use Rattle.machine_runs.proofs.Issuing.{counted_more, one_of_run}
@@ -56,7 +56,7 @@ abbrev is_idle : {D : Type 0} → AbstractCall D → Bool
 is_idle (StoreAt c f o b) = true
 is_idle (LoadAt c f o n) = true
 is_idle (State p) = true
-is_idle (Device d) = true
+is_idle (StepDevice d) = true
 is_idle _ = false
 
 servers_idle : {D : Type 0} (ask : AbstractCall D) (ports : Ports) (step : Step) → is_idle ask ≡ true → IsByServer ask ports step → IsIdle step
@@ -65,7 +65,7 @@ servers_idle (StoreAt c f o b) ports _ t h = absurd h
 servers_idle (LoadAt c f o n) ports (Load _ _ _ _) t h = tt
 servers_idle (LoadAt c f o n) ports _ t h = absurd h
 servers_idle (State p) ports _ t h = absurd h
-servers_idle (Device d) ports _ t h = absurd h
+servers_idle (StepDevice d) ports _ t h = absurd h
 servers_idle ask ports _ t h = absurd (false≢true t)
 
 idle_steps : {D : Type 0} (ask : AbstractCall D) (ports : Ports) (m : Machine) (steps : List Step) → is_idle ask ≡ true → AreStepsOfCall ask ports steps → map unanswered (after m steps).book ≡ map unanswered m.book
@@ -90,8 +90,8 @@ issued_stuck old new evidence fit stuck port ready = absurd (⊎_elim
 abbrev left : AbstractState → List Step → Ports → AbstractState
 left old steps ports = record { machine = after old.machine steps; ports = ports }
 
-issued_event : {D : Type 0} (ask : AbstractCall D) (said : CallResult) (old : AbstractState) (evidence : Evidence) (steps : List Step) (ports : Ports)
-    → IsAnswered ask said old evidence steps (left old steps ports) → AreStepsOfCall ask ports steps → PortsWellFormed ports → NoneDueWhereReady old → NoneDueWhereReady (left old steps ports)
+issued_event : {D : Type 0} (ask : AbstractCall D) (said : AbstractCallResult) (old : AbstractState) (evidence : Evidence) (steps : List Step) (ports : Ports)
+    → ResultMatchesSteps ask said old evidence steps (left old steps ports) → AreStepsOfCall ask ports steps → PortsWellFormed ports → NoneDueWhereReady old → NoneDueWhereReady (left old steps ports)
 issued_event (Submit r) (Submitted (Ok id)) old evidence steps ports a b fit all = a.3
 issued_event (Submit r) (Submitted (Err refusal)) old evidence steps ports a b fit all =
     issued_still old (left old steps ports) (ap (λ (xs : List Step). map unanswered (after old.machine xs).book) a.1) a.2 all
@@ -99,11 +99,11 @@ issued_event {D} (StoreAt c f o x) (Stored None) old evidence steps ports a b fi
 issued_event {D} (StoreAt c f o x) (Stored (Some fault)) old evidence steps ports a b fit all = issued_still old (left old steps ports) (idle_steps {D = D} (StoreAt c f o x) ports old.machine steps refl b) a.0 all
 issued_event {D} (LoadAt c f o n) (Loaded (Ok bytes)) old evidence steps ports a b fit all = issued_still old (left old steps ports) (idle_steps {D = D} (LoadAt c f o n) ports old.machine steps refl b) a.0 all
 issued_event {D} (LoadAt c f o n) (Loaded (Err fault)) old evidence steps ports a b fit all = issued_still old (left old steps ports) (idle_steps {D = D} (LoadAt c f o n) ports old.machine steps refl b) a.0 all
-issued_event {D} (State p) (Shown state) old evidence steps ports a b fit all = issued_still old (left old steps ports) (idle_steps {D = D} (State p) ports old.machine steps refl b) a.2 all
-issued_event {D} (Device d) (Stepped true) old evidence steps ports a b fit all = issued_still old (left old steps ports) (idle_steps {D = D} (Device d) ports old.machine steps refl b) a.1 all
-issued_event {D} (Device d) (Stepped false) old evidence steps ports a b fit all = issued_still old (left old steps ports) (idle_steps {D = D} (Device d) ports old.machine steps refl b) a.1 all
-issued_event Service (Served replies) old evidence steps ports a b fit all = a.none_is_due
-issued_event Tick (Served replies) old evidence steps ports a b fit all = a.none_is_due
+issued_event {D} (State p) (PortStateShown state) old evidence steps ports a b fit all = issued_still old (left old steps ports) (idle_steps {D = D} (State p) ports old.machine steps refl b) a.2 all
+issued_event {D} (StepDevice d) (Stepped true) old evidence steps ports a b fit all = issued_still old (left old steps ports) (idle_steps {D = D} (StepDevice d) ports old.machine steps refl b) a.1 all
+issued_event {D} (StepDevice d) (Stepped false) old evidence steps ports a b fit all = issued_still old (left old steps ports) (idle_steps {D = D} (StepDevice d) ports old.machine steps refl b) a.1 all
+issued_event Service (Replied replies) old evidence steps ports a b fit all = a.none_is_due
+issued_event Tick (Replied replies) old evidence steps ports a b fit all = a.none_is_due
 issued_event Reset (WasReset (Some replies)) old evidence steps ports a b fit all = a.none_is_due
 issued_event Reset (WasReset None) old evidence steps ports a b fit all = issued_stuck old (left old steps ports) evidence fit a.1
 issued_event (RevokeOf c n) (WasRevoked (Some replies)) old evidence steps ports a b fit all = a.none_is_due
@@ -112,8 +112,8 @@ issued_event (RevokeOf c n) (WasRevoked None) old evidence steps ports a b fit a
 issued_event ask said old evidence steps ports a b fit all = absurd a
 
 pub law_none_due_between_calls : {D : Type 0} (first : AbstractState) (run : List (CallRecord D)) → IsRun first run → NoneDueWhereReady (abstract_after_all first run)
-law_none_due_between_calls first [] r = λ port ready x here due. contains_none x (subst (λ (es : List Pending). Contains (map unanswered es) x) r.0.book due.is_in_book)
-law_none_due_between_calls first (event ∷ past) r = issued_event event.ask event.said (abstract_after_all first past) event.evidence event.steps event.ports r.1.is_answered r.1.steps_are_of_call r.1.ports_are_well_formed (law_none_due_between_calls first past r.0)
+law_none_due_between_calls first [] r = λ port ready x here due. contains_none x (subst (λ (es : List Pending). Contains (map unanswered es) x) r.0.book_is_empty due.is_in_book)
+law_none_due_between_calls first (event ∷ past) r = issued_event event.call event.result (abstract_after_all first past) event.evidence event.steps event.ports r.1.result_matches_steps r.1.steps_are_of_call r.1.ports_are_well_formed (law_none_due_between_calls first past r.0)
 
 -- The only unanswered request waits for nothing: so where its port is ready, it is issued.
 

@@ -12,7 +12,7 @@ use Rattle.block_machine.specs.State.{Accepted, Pending, Machine}
 use Rattle.block_machine.specs.Steps.{Step, Accept, Answer, IsEnabled, after_step}
 use Rattle.block_machine.specs.Expected.{after, IsLegal, IsInitial}
 use Rattle.block_machine.specs.Confinement.{WasAccepted}
-use Rattle.block_machine.specs.Events.{AbstractState, AbstractCall, Submit, Service, Tick, Reset, RevokeOf, CallResult, Submitted, Served, WasReset, WasRevoked, CallRecord, AllEnabled, AreStepsOfCall, RepliesMatch, IsAnswered, IsRun, accepts_id, answers_id, accepts_of, answers_of, reply_of, replies_of, all_replies, gives_id, WasGivenId, abstract_after_all, steps_of}
+use Rattle.block_machine.specs.Events.{AbstractState, AbstractCall, Submit, Service, Tick, Reset, RevokeOf, AbstractCallResult, Submitted, Replied, WasReset, WasRevoked, CallRecord, AllEnabled, AreStepsOfCall, RepliesMatch, ResultMatchesSteps, IsRun, accepts_id, answers_id, accepts_of, answers_of, reply_of, replies_of, all_replies, gives_id, WasGivenId, abstract_after_all, steps_of}
 use Rattle.block_machine.proofs.Members.{contains_none, contains_here, contains_there, contains_cases, map_in, without_in, append_in}
 use Rattle.block_machine.proofs.Sound.{Sound}
 use Rattle.block_machine.proofs.Runs.{traced, nobody}
@@ -31,7 +31,7 @@ fresh_step : (m : Machine) (step : Step) (id : RequestId) (n : ℕ) → IsEnable
 fresh_step m (Accept r) id n may f = go (r.id.0 == id.0) refl
   where
     next : r.id.0 ≡ m.next_id
-    next = may.id
+    next = may.id_is_next
 
     go : (b : Bool) → (r.id.0 == id.0) ≡ b → IsFresh (after_step m (Accept r)) id (cond b 1 0 + n)
     go true e =
@@ -73,7 +73,7 @@ untold_step m (Answer p o) id n may s f = go (p.request.id.0 == id.0) refl
         }
 untold_step m (Accept r) id n may s f =
     let most = f.most in
-    let next : r.id.0 ≡ m.next_id = may.id in
+    let next : r.id.0 ≡ m.next_id = may.id_is_next in
     record {
       most = omega (arith, most);
       none = λ le. let zero = f.none (omega (arith, le)) in omega (arith, zero);
@@ -110,13 +110,13 @@ law_answered_was_accepted first run late early e outcome r split =
 -- What a call says of it.
 
 -- a call tells the answers of its steps, or gives no reply
-told_or_none : {D : Type 0} (ask : AbstractCall D) (said : CallResult) (old : AbstractState) (evidence : Evidence) (steps : List Step) (new : AbstractState) → IsAnswered ask said old evidence steps new
+told_or_none : {D : Type 0} (ask : AbstractCall D) (said : AbstractCallResult) (old : AbstractState) (evidence : Evidence) (steps : List Step) (new : AbstractState) → ResultMatchesSteps ask said old evidence steps new
     → (RepliesMatch steps (replies_of said) × (is_submit ask ≡ false)) ⊎ (replies_of said ≡ [])
-told_or_none Service (Served replies) old evidence steps new a = inl (a.replies_match, refl)
-told_or_none Tick (Served replies) old evidence steps new a = inl (a.replies_match, refl)
+told_or_none Service (Replied replies) old evidence steps new a = inl (a.replies_match, refl)
+told_or_none Tick (Replied replies) old evidence steps new a = inl (a.replies_match, refl)
 told_or_none Reset (WasReset (Some replies)) old evidence steps new a = inl (a.replies_match, refl)
 told_or_none (RevokeOf c n) (WasRevoked (Some replies)) old evidence steps new a = inl (a.replies_match, refl)
-told_or_none ask (Served replies) old evidence steps new a = absurd a
+told_or_none ask (Replied replies) old evidence steps new a = absurd a
 told_or_none ask (WasReset (Some replies)) old evidence steps new a = absurd a
 told_or_none ask (WasRevoked (Some replies)) old evidence steps new a = absurd a
 told_or_none ask (WasRevoked None) old evidence steps new a = inr refl
@@ -139,7 +139,7 @@ count_replies id answers = count_map (λ (reply : Reply). reply.id.0 == id.0) (i
 -- a call replies as often as it answers, or not
 replies_few : (id : RequestId) (steps : List Step) (replies : List Reply) → RepliesMatch steps replies ⊎ (replies ≡ []) → count_by (λ (reply : Reply). reply.id.0 == id.0) replies ≤ count_by (answers_id id) steps
 replies_few id steps replies (inl t) =
-    let same = ap (count_by (λ (reply : Reply). reply.id.0 == id.0)) t.replies_are in
+    let same = ap (count_by (λ (reply : Reply). reply.id.0 == id.0)) t.replies_are_of_answers in
     let swapped : count_by (is_of id) (answers_of steps) ≡ count_by (is_of id) t.answers = sum_by-IsPermutation (λ a. cond (is_of id a) 1 0) t.answers (answers_of steps) t.is_permutation in
     omega (arith, same, swapped, count_answers id steps, count_replies id t.answers)
 replies_few id steps replies (inr e) = let same = ap (count_by (λ (reply : Reply). reply.id.0 == id.0)) e in omega (arith, same)
@@ -148,9 +148,9 @@ run_replies : {D : Type 0} (first : AbstractState) (run : List (CallRecord D)) (
 run_replies first [] id r = omega arith
 run_replies first (event ∷ past) id r =
     let rest = run_replies first past id r.0 in
-    let now = replies_few id event.steps (replies_of event.said)
-    (⊎_elim (λ t. inl t.0) (λ e. inr e) (told_or_none event.ask event.said (abstract_after_all first past) event.evidence event.steps _ r.1.is_answered)) in
-    omega (arith, rest, now, count_append (λ (reply : Reply). reply.id.0 == id.0) (replies_of event.said) (all_replies past), count_append (answers_id id) event.steps (steps_of past))
+    let now = replies_few id event.steps (replies_of event.result)
+    (⊎_elim (λ t. inl t.0) (λ e. inr e) (told_or_none event.call event.result (abstract_after_all first past) event.evidence event.steps _ r.1.result_matches_steps)) in
+    omega (arith, rest, now, count_append (λ (reply : Reply). reply.id.0 == id.0) (replies_of event.result) (all_replies past), count_append (answers_id id) event.steps (steps_of past))
 
 pub law_replied_once : {D : Type 0} (first : AbstractState) (run : List (CallRecord D)) (id : RequestId) → IsRun first run → count_by (λ (reply : Reply). reply.id.0 == id.0) (all_replies run) ≤ 1
 law_replied_once first run id r = let few = run_replies first run id r in let once = law_answered_once first run id r in omega (arith, few, once)
@@ -162,7 +162,7 @@ accepts_count id (Accept r ∷ before) =
     let rest = accepts_count id before in omega (arith, rest, count_cons (λ (x : Accepted). x.id.0 == id.0) r (accepts_of before), count_cons (accepts_id id) (Accept r) before)
 accepts_count id (step ∷ before) = let rest = accepts_count id before in omega (arith, rest, count_cons (accepts_id id) step before)
 
-gives_accepted : {D : Type 0} (id : RequestId) (ask : AbstractCall D) (said : CallResult) (old : AbstractState) (evidence : Evidence) (steps : List Step) (new : AbstractState) → IsAnswered ask said old evidence steps new
+gives_accepted : {D : Type 0} (id : RequestId) (ask : AbstractCall D) (said : AbstractCallResult) (old : AbstractState) (evidence : Evidence) (steps : List Step) (new : AbstractState) → ResultMatchesSteps ask said old evidence steps new
     → cond (gives_id id said) 1 0 ≤ count_by (accepts_id id) steps
 gives_accepted id (Submit q) (Submitted (Ok given)) old evidence steps new a =
     let one : count_by (λ (r : Accepted). r.id.0 == id.0) (accepts_of steps) ≡ cond (a.1.0.id.0 == id.0) 1 0 + 0 =
@@ -172,20 +172,20 @@ gives_accepted id (Submit q) (Submitted (Ok given)) old evidence steps new a =
 gives_accepted id ask (Submitted (Ok given)) old evidence steps new a = absurd a
 gives_accepted id ask said old evidence steps new a = omega arith
 
-run_gives : {D : Type 0} (first : AbstractState) (run : List (CallRecord D)) (id : RequestId) → IsRun first run → count_by (λ (event : CallRecord D). gives_id id event.said) run ≤ count_by (accepts_id id) (steps_of run)
+run_gives : {D : Type 0} (first : AbstractState) (run : List (CallRecord D)) (id : RequestId) → IsRun first run → count_by (λ (event : CallRecord D). gives_id id event.result) run ≤ count_by (accepts_id id) (steps_of run)
 run_gives first [] id r = omega arith
 run_gives {D} first (event ∷ past) id r =
     let rest = run_gives first past id r.0 in
-    let now = gives_accepted id event.ask event.said (abstract_after_all first past) event.evidence event.steps _ r.1.is_answered in
-    omega (arith, rest, now, count_cons (λ (x : CallRecord D). gives_id id x.said) event past, count_append (accepts_id id) event.steps (steps_of past))
+    let now = gives_accepted id event.call event.result (abstract_after_all first past) event.evidence event.steps _ r.1.result_matches_steps in
+    omega (arith, rest, now, count_cons (λ (x : CallRecord D). gives_id id x.result) event past, count_append (accepts_id id) event.steps (steps_of past))
 
-pub law_ids_are_given_once : {D : Type 0} (first : AbstractState) (run : List (CallRecord D)) (id : RequestId) → IsRun first run → count_by (λ (event : CallRecord D). gives_id id event.said) run ≤ 1
+pub law_ids_are_given_once : {D : Type 0} (first : AbstractState) (run : List (CallRecord D)) (id : RequestId) → IsRun first run → count_by (λ (event : CallRecord D). gives_id id event.result) run ≤ 1
 law_ids_are_given_once first run id r = let few = run_gives first run id r in let once = law_accepted_once first run id r in omega (arith, few, once)
 
 -- Each unanswered request is one that a submit asked for.
 
-accepts_asked : {D : Type 0} (r : Accepted) (ask : AbstractCall D) (said : CallResult) (old : AbstractState) (evidence : Evidence) (steps : List Step) (ports : Ports) (new : AbstractState) → AreStepsOfCall ask ports steps
-    → IsAnswered ask said old evidence steps new → Contains (accepts_of steps) r → (ask ≡ Submit r.asked) × (said ≡ Submitted (Ok r.id))
+accepts_asked : {D : Type 0} (r : Accepted) (ask : AbstractCall D) (said : AbstractCallResult) (old : AbstractState) (evidence : Evidence) (steps : List Step) (ports : Ports) (new : AbstractState) → AreStepsOfCall ask ports steps
+    → ResultMatchesSteps ask said old evidence steps new → Contains (accepts_of steps) r → (ask ≡ Submit r.asked) × (said ≡ Submitted (Ok r.id))
 accepts_asked {D} r (Submit q) (Submitted (Ok given)) old evidence steps ports new b a h =
     let same : r ≡ a.1.0 = ⊎_elim (λ e. e) (λ n. absurd (contains_none r n)) (contains_cases a.1.0 [] r (subst (λ (xs : List Accepted). Contains xs r) a.1.1 h)) in
     let asks : Request → AbstractCall D = λ x. Submit x in
@@ -196,23 +196,23 @@ accepts_asked r ask said old evidence steps ports new b a h = absurd (contains_n
 
 -- it was there before its last call, or that asked for it
 pub came_from : {D : Type 0} (first : AbstractState) (past : List (CallRecord D)) (event : CallRecord D) (e : Pending) → IsRun first (event ∷ past) → Contains (abstract_after_all first (event ∷ past)).machine.book e
-    → WasUnansweredBefore (abstract_after_all first past).machine event.steps e ⊎ ((event.ask ≡ Submit e.request.asked) × (event.said ≡ Submitted (Ok e.request.id)))
+    → WasUnansweredBefore (abstract_after_all first past).machine event.steps e ⊎ ((event.call ≡ Submit e.request.asked) × (event.result ≡ Submitted (Ok e.request.id)))
 came_from first past event e r h = ⊎_elim
     (λ (s : Since (abstract_after_all first past).machine event.steps e). inl (record {
       before = s.old;
       is_in_book = s.here;
-      same = s.same;
-      issued = λ t. ⊎_elim (λ anew. inl anew.0) (λ kept. inr kept.1) (s.issued t);
+      same_request = s.same;
+      was_issued_before_or_now = λ t. ⊎_elim (λ anew. inl anew.0) (λ kept. inr kept.1) (s.issued t);
     }))
     (λ (a : IsAccepted event.steps e). inr
-    (accepts_asked e.request event.ask event.said (abstract_after_all first past) event.evidence event.steps event.ports _ r.1.steps_are_of_call r.1.is_answered a.0))
+    (accepts_asked e.request event.call event.result (abstract_after_all first past) event.evidence event.steps event.ports _ r.1.steps_are_of_call r.1.result_matches_steps a.0))
     (since (abstract_after_all first past).machine event.steps e h)
 
 was_asked : {D : Type 0} (first : AbstractState) (run : List (CallRecord D)) (e : Pending) → IsRun first run → Contains (abstract_after_all first run).machine.book e → WasAsked e.request run
 was_asked first [] e r h = absurd (nobody first.machine r.0 e (inl h))
 was_asked first (event ∷ past) e r h = ⊎_elim
     (λ (c : WasUnansweredBefore (abstract_after_all first past).machine event.steps e). inr
-    (subst (λ (x : Accepted). WasAsked x past) c.same (was_asked first past c.before r.0 c.is_in_book)))
+    (subst (λ (x : Accepted). WasAsked x past) c.same_request (was_asked first past c.before r.0 c.is_in_book)))
     (λ asked. inl asked)
     (came_from first past event e r h)
 
@@ -227,7 +227,7 @@ accepted_in start (step ∷ steps) past r (inr w) = accepted_in start steps past
 pub law_accepted_was_asked : {D : Type 0} (first : AbstractState) (run : List (CallRecord D)) (r : Accepted) → IsRun first run → WasAccepted first.machine (steps_of run) r → WasAsked r run
 law_accepted_was_asked first [] r run w = w
 law_accepted_was_asked first (event ∷ past) r run w = ⊎_elim
-    (λ (i : Contains (accepts_of event.steps) r). inl (accepts_asked r event.ask event.said (abstract_after_all first past) event.evidence event.steps event.ports _ run.1.steps_are_of_call run.1.is_answered i))
+    (λ (i : Contains (accepts_of event.steps) r). inl (accepts_asked r event.call event.result (abstract_after_all first past) event.evidence event.steps event.ports _ run.1.steps_are_of_call run.1.result_matches_steps i))
     (λ was. inr (law_accepted_was_asked first past r run.0 was))
     (accepted_in first.machine event.steps (steps_of past) r w)
 
@@ -268,20 +268,20 @@ answers_in (step ∷ before) a h = contains_there step before (Answer a.0 a.1) (
 abbrev pub IsRepliedBy : {D : Type 0} → Reply → CallRecord D → List (CallRecord D) → Type 0
 IsRepliedBy reply event past = (e : Pending) × Contains event.steps (Answer e reply.outcome) × (e.request.id ≡ reply.id) × (e.request.asked.client ≡ reply.client) × WasAsked e.request past
 
-pub law_replied_was_asked : {D : Type 0} (first : AbstractState) (past : List (CallRecord D)) (event : CallRecord D) (reply : Reply) → IsRun first (event ∷ past) → Contains (replies_of event.said) reply
+pub law_replied_was_asked : {D : Type 0} (first : AbstractState) (past : List (CallRecord D)) (event : CallRecord D) (reply : Reply) → IsRun first (event ∷ past) → Contains (replies_of event.result) reply
     → IsRepliedBy reply event past
 law_replied_was_asked first past event reply r h = ⊎_elim
-    (λ (t : RepliesMatch event.steps (replies_of event.said) × (is_submit event.ask ≡ false)).
-    let a = map_in reply_of t.0.answers reply (subst (λ (xs : List Reply). Contains xs reply) t.0.replies_are h) in
+    (λ (t : RepliesMatch event.steps (replies_of event.result) × (is_submit event.call ≡ false)).
+    let a = map_in reply_of t.0.answers reply (subst (λ (xs : List Reply). Contains xs reply) t.0.replies_are_of_answers h) in
     let i = Contains-permutation t.0.answers (answers_of event.steps) a.0 t.0.is_permutation a.1 in
-    let waited = was_open (abstract_after_all first past).machine event.steps a.0 r.1.steps_are_enabled (none_accepted event.ask event.steps t.1 (all_fit event.ask event.ports event.steps r.1.steps_are_of_call)) i in
+    let waited = was_open (abstract_after_all first past).machine event.steps a.0 r.1.steps_are_enabled (none_accepted event.call event.steps t.1 (all_fit event.call event.ports event.steps r.1.steps_are_of_call)) i in
     let asked : WasAsked a.0.0.request past = subst (λ (x : Accepted). WasAsked x past) waited.2 (was_asked first past waited.0 r.0 waited.1) in
     let told : IsRepliedBy (reply_of a.0) event past = (a.0.0, answers_in event.steps a.0 i, refl, refl, asked) in
     subst (λ (x : Reply). IsRepliedBy x event past) (sym a.2) told)
     (λ e. absurd (contains_none reply (subst (λ (xs : List Reply). Contains xs reply) e h)))
-    (told_or_none event.ask event.said (abstract_after_all first past) event.evidence event.steps _ r.1.is_answered)
+    (told_or_none event.call event.result (abstract_after_all first past) event.evidence event.steps _ r.1.result_matches_steps)
 
-pub law_replied_was_given : {D : Type 0} (first : AbstractState) (past : List (CallRecord D)) (event : CallRecord D) (reply : Reply) → IsRun first (event ∷ past) → Contains (replies_of event.said) reply
+pub law_replied_was_given : {D : Type 0} (first : AbstractState) (past : List (CallRecord D)) (event : CallRecord D) (reply : Reply) → IsRun first (event ∷ past) → Contains (replies_of event.result) reply
     → WasGivenId reply.id reply.client past
 law_replied_was_given first past event reply r h =
     let told = law_replied_was_asked first past event reply r h in

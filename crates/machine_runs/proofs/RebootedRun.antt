@@ -9,7 +9,7 @@ use Rattle.block_machine.specs.Ports.{MayBecome}
 use Rattle.block_machine.specs.State.{Pending, Machine, unanswered}
 use Rattle.block_machine.specs.Steps.{Issue, WaitAgain, Answer, Release, newly_accepted, newly_issued, requeued}
 use Rattle.block_machine.specs.Events.{AbstractState, Reset, WasReset, CallRecord, Happens, IsIssuedIn, reply_of, abstract_after_all, abstract_after}
-use Rattle.machine_runs.specs.ExampleRuns.{GoesAgainInResets}
+use Rattle.machine_runs.specs.ExampleRuns.{ResetsReissueThenAbort}
 use Rattle.block_machine.proofs.Setting.{port, empty_starts, two_rows, granted}
 use Rattle.machine_runs.proofs.Scene.{mode, ports, first, one_issued, one_told, none_told, none_unplugged, finds_none, emptied_of, only_one, of_two, ports_fit, none_dead, row_zero}
 use Rattle.machine_runs.proofs.WaitingRun.{write, read, run2, happens1, happens2, none_due}
@@ -17,23 +17,23 @@ use Rattle.machine_runs.proofs.ResetRun.{halted, stopped_here}
 
 -- the write, in its n-th issue
 abbrev tried : ℕ → Pending
-tried n = record (newly_issued (newly_accepted write)) { issues = n }
+tried n = record (newly_issued (newly_accepted write)) { issue_count = n }
 
 -- the read, which waits for it
 abbrev waits : Pending
 waits = newly_accepted read
 
 abbrev retry : ℕ → CallRecord (Unit {0})
-retry n = record { ask = Reset; said = WasReset (Some []); evidence = halted; steps = Issue mode (requeued (tried n)) ∷ WaitAgain (tried n) ∷ Release ∷ []; ports = ports }
+retry n = record { call = Reset; result = WasReset (Some []); evidence = halted; steps = Issue mode (requeued (tried n)) ∷ WaitAgain (tried n) ∷ Release ∷ []; ports = ports }
 
 abbrev run5 : List (CallRecord (Unit {0}))
 run5 = retry 3 ∷ retry 2 ∷ retry 1 ∷ run2
 
 abbrev abort : CallRecord (Unit {0})
-abort = record { ask = Reset; said = WasReset (Some (reply_of (tried 4, outcome.Aborted) ∷ [])); evidence = halted; steps = Issue mode waits ∷ Answer (tried 4) outcome.Aborted ∷ Release ∷ []; ports = ports }
+abort = record { call = Reset; result = WasReset (Some (reply_of (tried 4, outcome.Aborted) ∷ [])); evidence = halted; steps = Issue mode waits ∷ Answer (tried 4) outcome.Aborted ∷ Release ∷ []; ports = ports }
 
 becomes : (p : Port) → MayBecome ports halted ports p
-becomes p = record { served_is_kept = refl; dead_is_stuck = (λ dead. none_dead p dead, λ h. absurd (All-contains (λ _. ⊥) [] p (All-nil (λ _. ⊥)) h)); disk_is_kept = λ _. (refl, refl) }
+becomes p = record { served_is_unchanged = refl; dead_is_stuck = (λ dead. none_dead p dead, λ h. absurd (All-contains (λ _. ⊥) [] p (All-nil (λ _. ⊥)) h)); disk_is_remembered = λ _. (refl, refl) }
 
 -- the moment before a reset
 abbrev before : Machine → ℕ → AbstractState
@@ -46,14 +46,14 @@ again m n rows present few = record {
     ((0, omega arith, refl), record { is_in_book = (0, omega arith, refl); nothing_blocks = refl; slot_is_left = λ _. omega arith }, λ e h. absurd (All-contains (λ _. ⊥) [] e (All-nil (λ _. ⊥)) h), granted 0 row_zero rows),
   );
   steps_are_of_call = (((tt, inr tt), inr refl), inr (refl, refl));
-  issues_are_last = (((tt, λ id h i. false≢true i), λ id h i. false≢true i), λ id h i. false≢true i);
+  issue_is_last_of_request = (((tt, λ id h i. false≢true i), λ id h i. false≢true i), λ id h i. false≢true i);
   answers_are_lawful = (tt, (0, omega arith, refl));
   ports_are_well_formed = ports_fit Ready refl;
   unanswered_keep_disk = λ e o h i same. (refl, refl);
-  is_answered = record {
+  result_matches_steps = record {
     replies_match = none_told (retry n).steps refl;
-    releases_once = record { later = Issue mode (requeued (tried n)) ∷ WaitAgain (tried n) ∷ []; earlier = []; split = refl; before = tt; once = refl };
-    answers_all_unplugged = none_unplugged (retry n).steps (abstract_after (before m n) (retry n)).machine refl;
+    releases_once = record { later = Issue mode (requeued (tried n)) ∷ WaitAgain (tried n) ∷ []; earlier = []; release_splits_steps = refl; earlier_are_by_device = tt; no_other_release = refl };
+    unplugged_empties_port = none_unplugged (retry n).steps (abstract_after (before m n) (retry n)).machine refl;
     unplugged_lost_disk = finds_none (retry n).steps ports ports refl;
     none_is_due = λ p _. none_due p;
     empty_unless_ready = λ p. emptied_of (tried (suc n) ∷ waits ∷ []) (of_two (tried (suc n)) waits (λ e. e.request.port ≡ port) refl refl) p;
@@ -71,14 +71,14 @@ happens6 = record {
     ((0, omega arith, refl), record { is_in_book = (0, omega arith, refl); nothing_blocks = refl; slot_is_left = λ _. omega arith }, λ e h. absurd (All-contains (λ _. ⊥) [] e (All-nil (λ _. ⊥)) h), granted 0 row_zero refl),
   );
   steps_are_of_call = (((tt, inr tt), inr tt), inr (refl, refl));
-  issues_are_last = (((tt, λ id h i. false≢true i), λ id h i. false≢true i), λ id h i. false≢true i);
+  issue_is_last_of_request = (((tt, λ id h i. false≢true i), λ id h i. false≢true i), λ id h i. false≢true i);
   answers_are_lawful = (tt, (record { pending = tried 4; is_in_book = (0, omega arith, refl); id_is = refl; issued = refl }, refl, (refl, (0, omega arith, refl), (refl, refl))));
   ports_are_well_formed = ports_fit Ready refl;
   unanswered_keep_disk = λ e o h i same. (refl, refl);
-  is_answered = record {
+  result_matches_steps = record {
     replies_match = one_told (tried 4) outcome.Aborted abort.steps refl (reply_of (tried 4, outcome.Aborted)) refl;
-    releases_once = record { later = Issue mode waits ∷ Answer (tried 4) outcome.Aborted ∷ []; earlier = []; split = refl; before = tt; once = refl };
-    answers_all_unplugged = none_unplugged abort.steps (abstract_after (abstract_after_all first run5) abort).machine refl;
+    releases_once = record { later = Issue mode waits ∷ Answer (tried 4) outcome.Aborted ∷ []; earlier = []; release_splits_steps = refl; earlier_are_by_device = tt; no_other_release = refl };
+    unplugged_empties_port = none_unplugged abort.steps (abstract_after (abstract_after_all first run5) abort).machine refl;
     unplugged_lost_disk = finds_none abort.steps ports ports refl;
     none_is_due = λ p _. one_issued (unanswered (newly_issued waits)) refl p;
     empty_unless_ready = λ p. emptied_of (newly_issued waits ∷ []) (only_one (newly_issued waits) (λ x. x.request.port ≡ port) refl) p;
@@ -89,10 +89,10 @@ happens6 = record {
   };
 }
 
-pub goes_again_in_resets : GoesAgainInResets
+pub goes_again_in_resets : ResetsReissueThenAbort
 goes_again_in_resets = record {
   initial_state = first;
-  asked = run2;
+  earlier_calls = run2;
   first_call = retry 1;
   second_call = retry 2;
   third_call = retry 3;
@@ -100,17 +100,17 @@ goes_again_in_resets = record {
   runs = (((((((empty_starts, ports_fit Ready refl), happens1), happens2), again (abstract_after_all first run2).machine 1 refl (λ p. refl) (omega arith)), again (abstract_after_all first (retry 1 ∷ run2)).machine 2 refl (λ p. refl) (omega arith)), again (abstract_after_all first (retry 2 ∷ retry 1 ∷ run2)).machine 3 refl (λ p. refl) (omega arith)), happens6);
   resets = (refl, refl, refl, refl);
   issued = tried 1;
-  waits = waits;
+  waiter = waits;
   book = refl;
-  once = (refl, refl, refl);
-  anew = tried 2;
+  issued_once = (refl, refl, refl);
+  reissued = tried 2;
   after_one = refl;
-  twice = (refl, refl, refl);
-  spent = tried 4;
+  issued_twice = (refl, refl, refl);
+  issued_last = tried 4;
   after_three = refl;
   four_times = (refl, refl, refl);
   aborts = refl;
-  turn = newly_issued waits;
+  issued_waiter = newly_issued waits;
   after_four = refl;
   issues = (refl, refl);
 }

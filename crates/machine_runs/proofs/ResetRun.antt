@@ -9,7 +9,7 @@ use Rattle.ata_types.specs.declared.request.Outcome.TheVariants as outcome
 use Rattle.block_machine.specs.Ports.{Evidence, SamePorts}
 use Rattle.block_machine.specs.State.{Pending, unanswered}
 use Rattle.block_machine.specs.Steps.{Step, Issue, Age, WaitAgain, Answer, Release, newly_accepted, newly_issued, requeued}
-use Rattle.block_machine.specs.Events.{AbstractState, Service, Tick, Reset, Served, WasReset, CallRecord, TellsDead, AgesOnce, HasTimedOut, IsIssuedIn, RestartsTimedOut, Happens, is_age, reply_of, abstract_after_all}
+use Rattle.block_machine.specs.Events.{AbstractState, Service, Tick, Reset, Replied, WasReset, CallRecord, DeadPortsTellOnlyPortDead, AgesOnce, TimesOutAtTick, IsIssuedIn, RestartsTimedOut, Happens, is_age, reply_of, abstract_after_all}
 use Rattle.machine_runs.specs.ExampleRuns.{QuarantineEndsWithReset}
 use Rattle.block_machine.proofs.Members.{contains_none, contains_here, contains_cases}
 use Rattle.block_machine.proofs.Setting.{port, frame, empty_starts, granted}
@@ -21,7 +21,7 @@ abbrev pub aging : Port → Bool
 aging p = p.0 == 0
 
 abbrev pub tick : List Step → CallRecord (Unit {0})
-tick later = call Tick (Served []) (later ++ Age aging ∷ [])
+tick later = call Tick (Replied []) (later ++ Age aging ∷ [])
 
 abbrev pub run2 : List (CallRecord (Unit {0}))
 run2 = tick [] ∷ run1
@@ -41,7 +41,7 @@ restarts = Issue mode waits ∷ WaitAgain (aged 3) ∷ []
 
 -- the port's engine was seen to stop, or the adapter's reset to end
 abbrev pub halted : Evidence
-halted = record { faults = []; lost = []; link_changed = []; failed = []; fatal = []; stopped = port ∷ []; stuck = [] }
+halted = record { faults = []; lost = []; link_changed = []; showing_error = []; showing_fatal_error = []; stopped = port ∷ []; stuck = [] }
 
 abbrev restarting : CallRecord (Unit {0})
 restarting = record (tick restarts) { evidence = halted }
@@ -53,16 +53,16 @@ abbrev again : Pending
 again = newly_issued waits
 
 abbrev seen : Evidence
-seen = record { faults = []; lost = []; link_changed = []; failed = []; fatal = []; stopped = []; stuck = port ∷ [] }
+seen = record { faults = []; lost = []; link_changed = []; showing_error = []; showing_fatal_error = []; stopped = []; stuck = port ∷ [] }
 
 abbrev stuck : CallRecord (Unit {0})
-stuck = record { ask = Reset; said = WasReset None; evidence = seen; steps = []; ports = ports_in Dead }
+stuck = record { call = Reset; result = WasReset None; evidence = seen; steps = []; ports = ports_in Dead }
 
 abbrev run5 : List (CallRecord (Unit {0}))
 run5 = stuck ∷ run4
 
 abbrev service : CallRecord (Unit {0})
-service = record { ask = Service; said = Served (reply_of (again, outcome.PortDead) ∷ []); evidence = none; steps = Answer again outcome.PortDead ∷ []; ports = ports_in Dead }
+service = record { call = Service; result = Replied (reply_of (again, outcome.PortDead) ∷ []); evidence = none; steps = Answer again outcome.PortDead ∷ []; ports = ports_in Dead }
 
 abbrev run6 : List (CallRecord (Unit {0}))
 run6 = service ∷ run5
@@ -72,7 +72,7 @@ pub stopped_here : (p : Port) → (p.0 == 0) ≡ true → Contains (port ∷ [])
 stopped_here p here = contains_here port [] p (ap (λ (n : ℕ). record { 0 = n }) (eqb-true p.0 0 here))
 
 abbrev reset : CallRecord (Unit {0})
-reset = record { ask = Reset; said = WasReset (Some []); evidence = halted; steps = Release ∷ []; ports = ports }
+reset = record { call = Reset; result = WasReset (Some []); evidence = halted; steps = Release ∷ []; ports = ports }
 
 abbrev run7 : List (CallRecord (Unit {0}))
 run7 = reset ∷ run6
@@ -92,7 +92,7 @@ ages_once later once = record {
 abbrev pub IsYoung : AbstractState → Type 0
 IsYoung m = (e : Pending) → Contains m.machine.book e → e.age < 2
 
-not_hung : (m : AbstractState) → IsYoung m → (p : Port) → HasTimedOut m p → ⊥
+not_hung : (m : AbstractState) → IsYoung m → (p : Port) → TimesOutAtTick m p → ⊥
 not_hung m young p hung = let age = young hung.pending hung.is_in_book in let enough = hung.old_enough in omega (arith, age, enough)
 
 only_age : (step : Step) → Contains (Age aging ∷ []) step → is_age step ≡ true
@@ -100,11 +100,11 @@ only_age step h = ⊎_elim (λ same. ap is_age same) (λ n. absurd (contains_non
 
 pub ticks : (old : AbstractState) → IsYoung old → (new : AbstractState) → SamePorts old.ports new.ports → RestartsTimedOut old none (Age aging ∷ []) new
 ticks old young new same = record {
-  ports = λ p. inl (not_hung old young p, same p);
+  each_port_is_same_or_restarts = λ p. inl (not_hung old young p, same p);
   only_timed_out_wait_again = λ e h. absurd (false≢true (only_age (WaitAgain e) h));
   only_timed_out_are_answered = λ e o h. absurd (false≢true (only_age (Answer e o) h));
   answers_ended = λ p hung. absurd (not_hung old young p hung);
-  is_interrupted = λ p. (λ hung. absurd (not_hung old young p hung), λ i. absurd (⊎_elim (contains_none p) (contains_none p) i));
+  timed_out_iff_interrupted = λ p. (λ hung. absurd (not_hung old young p hung), λ i. absurd (⊎_elim (contains_none p) (contains_none p) i));
   unplugged_lost_disk = finds_none (Age aging ∷ []) old.ports new.ports refl;
   shown_disk_was_in_or_came = λ p hung. absurd (not_hung old young p hung);
   none_stays_issued = λ p hung. absurd (not_hung old young p hung);
@@ -114,17 +114,17 @@ pub happens2 : Happens (abstract_after_all first run1) (tick [])
 happens2 = record {
   steps_are_enabled = (tt, tt);
   steps_are_of_call = (tt, inr tt);
-  issues_are_last = (tt, λ id h i. false≢true i);
+  issue_is_last_of_request = (tt, λ id h i. false≢true i);
   answers_are_lawful = tt;
   ports_are_well_formed = ports_fit Ready refl;
   unanswered_keep_disk = λ e o h i same. (refl, refl);
-  is_answered = record {
+  result_matches_steps = record {
     replies_match = none_told (Age aging ∷ []) refl;
     ages_once = ages_once [] refl;
     restarts_timed_out = ticks (abstract_after_all first run1) (only_one (aged 0) (λ e. e.age < 2) (omega arith)) (abstract_after_all first run2) (λ p. (refl, refl, refl, refl, refl, refl));
-    answers_all_unplugged = none_unplugged (Age aging ∷ []) (abstract_after_all first run2).machine refl;
+    unplugged_empties_port = none_unplugged (Age aging ∷ []) (abstract_after_all first run2).machine refl;
     none_is_due = λ p _. one_issued (unanswered (aged 1)) refl p;
-    empty_unless_ready = λ p _ ne e h. emptied_one (aged 1) refl p ne e h;
+    was_ready_empty_unless_ready = λ p _ ne e h. emptied_one (aged 1) refl p ne e h;
   };
 }
 
@@ -132,23 +132,23 @@ pub happens3 : Happens (abstract_after_all first run2) (tick [])
 happens3 = record {
   steps_are_enabled = (tt, tt);
   steps_are_of_call = (tt, inr tt);
-  issues_are_last = (tt, λ id h i. false≢true i);
+  issue_is_last_of_request = (tt, λ id h i. false≢true i);
   answers_are_lawful = tt;
   ports_are_well_formed = ports_fit Ready refl;
   unanswered_keep_disk = λ e o h i same. (refl, refl);
-  is_answered = record {
+  result_matches_steps = record {
     replies_match = none_told (Age aging ∷ []) refl;
     ages_once = ages_once [] refl;
     restarts_timed_out = ticks (abstract_after_all first run2) (only_one (aged 1) (λ e. e.age < 2) (omega arith)) (abstract_after_all first run3) (λ p. (refl, refl, refl, refl, refl, refl));
-    answers_all_unplugged = none_unplugged (Age aging ∷ []) (abstract_after_all first run3).machine refl;
+    unplugged_empties_port = none_unplugged (Age aging ∷ []) (abstract_after_all first run3).machine refl;
     none_is_due = λ p _. one_issued (unanswered (aged 2)) refl p;
-    empty_unless_ready = λ p _ ne e h. emptied_one (aged 2) refl p ne e h;
+    was_ready_empty_unless_ready = λ p _ ne e h. emptied_one (aged 2) refl p ne e h;
   };
 }
 
 -- the third restarts it
 
-pub hung : HasTimedOut (abstract_after_all first run3) port
+pub hung : TimesOutAtTick (abstract_after_all first run3) port
 hung = record { ready = refl; pending = aged 2; is_in_book = contains_here (aged 2) [] (aged 2) refl; port_is = refl; issued = refl; old_enough = omega arith }
 
 abbrev again_of : Step → Option Pending
@@ -171,18 +171,18 @@ each_step P a b c step h = ⊎_elim
 
 restarted : RestartsTimedOut (abstract_after_all first run3) halted restarting.steps (abstract_after_all first run4)
 restarted = record {
-  ports = restarts_here (abstract_after_all first run3).machine halted refl hung;
-  only_timed_out_wait_again = λ e h. each_step (λ step. (x : Pending) → again_of step ≡ Some x → HasTimedOut (abstract_after_all first run3) x.request.port)
+  each_port_is_same_or_restarts = restarts_here (abstract_after_all first run3).machine halted refl hung;
+  only_timed_out_wait_again = λ e h. each_step (λ step. (x : Pending) → again_of step ≡ Some x → TimesOutAtTick (abstract_after_all first run3) x.request.port)
       (λ x q. absurd (none_some x q))
-      (λ x q. let same : aged 3 ≡ x = some_same x q in subst (λ (y : Pending). HasTimedOut (abstract_after_all first run3) y.request.port) same hung)
+      (λ x q. let same : aged 3 ≡ x = some_same x q in subst (λ (y : Pending). TimesOutAtTick (abstract_after_all first run3) y.request.port) same hung)
       (λ x q. absurd (none_some x q))
       (WaitAgain e) h e refl;
   only_timed_out_are_answered = λ e o h. absurd (false≢true (sym (each_step (λ step. is_answer step ≡ false) refl refl refl (Answer e o) h)));
   answers_ended = λ p _. none_ended (abstract_after_all first run3).machine restarting.steps refl p;
-  is_interrupted = λ p. (
+  timed_out_iff_interrupted = λ p. (
     λ h. inl (contains_here port [] p (ready_port p h.ready)),
     λ i. ⊎_elim
-        (λ h. ⊎_elim (λ (same : p ≡ port). subst (λ (x : Port). HasTimedOut (abstract_after_all first run3) x) (sym same) hung) (λ n. absurd (contains_none p n)) (contains_cases port [] p h))
+        (λ h. ⊎_elim (λ (same : p ≡ port). subst (λ (x : Port). TimesOutAtTick (abstract_after_all first run3) x) (sym same) hung) (λ n. absurd (contains_none p n)) (contains_cases port [] p h))
         (λ h. absurd (contains_none p h))
         i,
   );
@@ -207,17 +207,17 @@ happens4 = record {
     (contains_here waits [] waits refl, record { is_in_book = contains_here (unanswered waits) [] (unanswered waits) refl; nothing_blocks = refl; slot_is_left = λ _. omega arith }, λ e h. absurd (contains_none e h), granted 0 row_zero refl),
   );
   steps_are_of_call = (((tt, inr tt), inr refl), inr (refl, refl));
-  issues_are_last = (((tt, λ id h i. false≢true i), λ id h i. false≢true i), λ id h i. false≢true i);
+  issue_is_last_of_request = (((tt, λ id h i. false≢true i), λ id h i. false≢true i), λ id h i. false≢true i);
   answers_are_lawful = (tt, contains_here port [] port refl);
   ports_are_well_formed = ports_fit Ready refl;
   unanswered_keep_disk = λ e o h i same. (refl, refl);
-  is_answered = record {
+  result_matches_steps = record {
     replies_match = none_told restarting.steps refl;
     ages_once = ages_once restarts refl;
     restarts_timed_out = restarted;
-    answers_all_unplugged = none_unplugged restarting.steps (abstract_after_all first run4).machine refl;
+    unplugged_empties_port = none_unplugged restarting.steps (abstract_after_all first run4).machine refl;
     none_is_due = λ p _. one_issued (unanswered again) refl p;
-    empty_unless_ready = λ p _ ne e h. emptied_one again refl p ne e h;
+    was_ready_empty_unless_ready = λ p _ ne e h. emptied_one again refl p ne e h;
   };
 }
 
@@ -241,18 +241,18 @@ happens5 : Happens (abstract_after_all first run4) stuck
 happens5 = record {
   steps_are_enabled = tt;
   steps_are_of_call = tt;
-  issues_are_last = tt;
+  issue_is_last_of_request = tt;
   answers_are_lawful = tt;
   ports_are_well_formed = ports_fit Dead refl;
   unanswered_keep_disk = λ e o h i same. (refl, refl);
-  is_answered = (tt, λ p. (refl, λ here. let dead = at_here Dead p here in (dead, dead_here p dead), (refl, refl)));
+  result_matches_steps = (tt, λ p. (refl, λ here. let dead = at_here Dead p here in (dead, dead_here p dead), (refl, refl)));
 }
 
 abbrev outcome_of : Step → Outcome
 outcome_of (Answer e o) = o
 outcome_of _ = outcome.Ok
 
-told_dead : TellsDead (abstract_after_all first run5) service.steps
+told_dead : DeadPortsTellOnlyPortDead (abstract_after_all first run5) service.steps
 told_dead e o h dead = ⊎_elim
     (λ same. ap outcome_of same)
     (λ n. absurd (contains_none (Answer e o) n))
@@ -262,18 +262,18 @@ happens6 : Happens (abstract_after_all first run5) service
 happens6 = record {
   steps_are_enabled = (tt, (contains_here again [] again refl, tt));
   steps_are_of_call = (tt, inr tt);
-  issues_are_last = (tt, λ id h i. false≢true i);
+  issue_is_last_of_request = (tt, λ id h i. false≢true i);
   answers_are_lawful = (tt, refl);
   ports_are_well_formed = ports_fit Dead refl;
   unanswered_keep_disk = λ e o h i same. (refl, refl);
-  is_answered = record {
+  result_matches_steps = record {
     replies_match = one_told again outcome.PortDead service.steps refl (reply_of (again, outcome.PortDead)) refl;
-    tells_dead = told_dead;
-    answers_all_unplugged = none_unplugged service.steps (abstract_after_all first run6).machine refl;
+    dead_ports_tell_only_port_dead = told_dead;
+    unplugged_empties_port = none_unplugged service.steps (abstract_after_all first run6).machine refl;
     none_is_due = λ p ready. dead_not_ready p ready;
     empty_unless_ready = λ p ne e h. absurd (contains_none e h);
     answers_ended = λ p _. none_ended (abstract_after_all first run5).machine service.steps refl p;
-    port_is_serviced = λ p. (λ _. (refl, refl, refl, refl, refl, refl), λ alive. (record { served_is_kept = refl; dead_is_stuck = (λ dead. absurd (alive dead), λ h. absurd (contains_none p h)); disk_is_kept = λ _. (refl, refl) }, inl (refl, refl, refl, refl, refl, refl)));
+    port_is_serviced = λ p. (λ _. (refl, refl, refl, refl, refl, refl), λ alive. (record { served_is_unchanged = refl; dead_is_stuck = (λ dead. absurd (alive dead), λ h. absurd (contains_none p h)); disk_is_remembered = λ _. (refl, refl) }, inl (refl, refl, refl, refl, refl, refl)));
     shown_disk_was_in_or_came = λ p. inl (refl, refl, refl, refl, refl, refl);
   };
 }
@@ -282,18 +282,18 @@ happens7 : Happens (abstract_after_all first run6) reset
 happens7 = record {
   steps_are_enabled = (tt, tt);
   steps_are_of_call = (tt, inr tt);
-  issues_are_last = (tt, λ id h i. false≢true i);
+  issue_is_last_of_request = (tt, λ id h i. false≢true i);
   answers_are_lawful = tt;
   ports_are_well_formed = ports_fit Ready refl;
   unanswered_keep_disk = λ e o h i same. (refl, refl);
-  is_answered = record {
+  result_matches_steps = record {
     replies_match = none_told reset.steps refl;
-    releases_once = record { later = []; earlier = []; split = refl; before = tt; once = refl };
-    answers_all_unplugged = none_unplugged reset.steps (abstract_after_all first run7).machine refl;
+    releases_once = record { later = []; earlier = []; release_splits_steps = refl; earlier_are_by_device = tt; no_other_release = refl };
+    unplugged_empties_port = none_unplugged reset.steps (abstract_after_all first run7).machine refl;
     unplugged_lost_disk = finds_none reset.steps (ports_in Dead) ports refl;
     none_is_due = λ p _. none_there p;
     empty_unless_ready = λ p ne e h. absurd (contains_none e h);
-    port_may_become = λ p. record { served_is_kept = refl; dead_is_stuck = (λ e. none_dead p e, λ h. absurd (contains_none p h)); disk_is_kept = λ _. (refl, refl) };
+    port_may_become = λ p. record { served_is_unchanged = refl; dead_is_stuck = (λ e. none_dead p e, λ h. absurd (contains_none p h)); disk_is_remembered = λ _. (refl, refl) };
     none_stays_issued = λ p e h. absurd (contains_none e h);
     served_are_stopped = λ p. stopped_here p;
     shown_disk_was_in_or_came = λ p _. inl refl;
@@ -303,30 +303,30 @@ happens7 = record {
 pub ends_with_a_reset : QuarantineEndsWithReset
 ends_with_a_reset = record {
   initial_state = first;
-  asked = run1;
+  earlier_calls = run1;
   first_call = tick [];
   second_call = tick [];
   third_call = restarting;
-  stuck = stuck;
+  stuck_reset = stuck;
   service = service;
   reset = reset;
   runs = ((((((((empty_starts, ports_fit Ready refl), happens1), happens2), happens3), happens4), happens5), happens6), happens7);
   ticks = (refl, refl, refl);
   aged = aged 2;
   book_is = refl;
-  once = (refl, refl, refl);
-  again = again;
-  same = refl;
-  hung = refl;
-  twice = (refl, refl, refl);
-  stays = refl;
+  issued_once = (refl, refl, refl);
+  reissued = again;
+  request_is_same = refl;
+  book_has_reissued = refl;
+  issued_twice = (refl, refl, refl);
+  reset_is_stuck = refl;
   asks_for_service = refl;
   answers = contains_here (Answer again outcome.PortDead) [] (Answer again outcome.PortDead) refl;
-  kept = refl;
+  reissued_is_kept = refl;
   frame = frame 100;
   frames_are = refl;
   lent = refl;
-  ends = refl;
-  freed = refl;
+  reset_ends = refl;
+  frame_is_given_back = refl;
   ready = refl;
 }

@@ -8,7 +8,7 @@ use Rattle.ata_types.specs.declared.request.Reply.{Reply}
 use Rattle.block_machine.specs.Rules.{HasRow, IsSameGrantName}
 use Rattle.block_machine.specs.State.{Pending, frame_at, unanswered}
 use Rattle.block_machine.specs.Steps.{Step, Touch, End, Answer, Revoke, newly_accepted, newly_issued, touch}
-use Rattle.block_machine.specs.Events.{RevokeOf, Service, Served, WasRevoked, CallRecord, Happens, reply_of, abstract_after_all}
+use Rattle.block_machine.specs.Events.{RevokeOf, Service, Replied, WasRevoked, CallRecord, Happens, reply_of, abstract_after_all}
 use Rattle.machine_runs.specs.RevocationRuns.{RevokesWhileIssued}
 use Rattle.block_machine.proofs.Members.{contains_none, contains_here, contains_there, contains_cases}
 use Rattle.block_machine.proofs.Setting.{client, row, empty_starts, granted, port}
@@ -26,7 +26,7 @@ abbrev run3 : List (CallRecord (Unit {0}))
 run3 = event3 ∷ run2
 
 abbrev event4 : CallRecord (Unit {0})
-event4 = call Service (Served (reply 1 ∷ [])) (served write)
+event4 = call Service (Replied (reply 1 ∷ [])) (served write)
 
 abbrev run4 : List (CallRecord (Unit {0}))
 run4 = event4 ∷ run3
@@ -46,13 +46,13 @@ happens3 : Happens (abstract_after_all first run2) event3
 happens3 = record {
   steps_are_enabled = ((tt, granted 0 row_zero refl), (contains_there (newly_issued (newly_accepted write)) (newly_accepted read ∷ []) (newly_accepted read) (contains_here (newly_accepted read) [] (newly_accepted read) refl), no_row));
   steps_are_of_call = ((tt, inr (refl, refl)), inr refl);
-  issues_are_last = ((tt, λ id h i. false≢true i), λ id h i. false≢true i);
+  issue_is_last_of_request = ((tt, λ id h i. false≢true i), λ id h i. false≢true i);
   answers_are_lawful = (tt, inl refl);
   ports_are_well_formed = ports_fit Ready refl;
   unanswered_keep_disk = λ e o h i same. (refl, refl);
-  is_answered = record {
+  result_matches_steps = record {
     has_row = granted 0 row_zero refl;
-    rows = refl;
+    row_is_removed = refl;
     replies_match = one_told (newly_accepted read) outcome.Revoked event3.steps refl revoked refl;
     waiting_are_revoked = λ e. (told e, λ of. waiting_told e of.0 of.1 of.2);
     ports_are_same = λ p. (refl, refl, refl, refl, refl, refl);
@@ -87,11 +87,11 @@ happens4 : Happens (abstract_after_all first run3) event4
 happens4 = record {
   steps_are_enabled = (((tt, (inl (contains_here (newly_issued (newly_accepted write)) [] (newly_issued (newly_accepted write)) refl, refl), omega arith, refl, omega arith, λ _ b lt. refl)), (inl (contains_here (touch 0 (newly_issued (newly_accepted write))) [] (touch 0 (newly_issued (newly_accepted write))) refl, refl), one_touched, refl)), (contains_here (done write) [] (done write) refl, tt));
   steps_are_of_call = (((tt, inl tt), inl tt), inr tt);
-  issues_are_last = (((tt, λ id h i. false≢true i), λ id h i. false≢true i), λ id h i. false≢true i);
+  issue_is_last_of_request = (((tt, λ id h i. false≢true i), λ id h i. false≢true i), λ id h i. false≢true i);
   answers_are_lawful = (tt, (record { pending = newly_issued (newly_accepted write); is_in_book = contains_here (newly_issued (newly_accepted write)) [] (newly_issued (newly_accepted write)) refl; id_is = refl; issued = refl }, refl, one_touched, refl));
   ports_are_well_formed = ports_fit Ready refl;
   unanswered_keep_disk = λ e o h i same. (refl, refl);
-  is_answered = plain_service (abstract_after_all first run3).machine (abstract_after_all first run4).machine event4.steps (reply 1 ∷ []) (one_told (done write) outcome.Ok event4.steps refl (reply 1) refl) refl (none_ended (abstract_after_all first run3).machine event4.steps refl) (λ p. none_there p) (λ e h. absurd (contains_none e h));
+  result_matches_steps = plain_service (abstract_after_all first run3).machine (abstract_after_all first run4).machine event4.steps (reply 1 ∷ []) (one_told (done write) outcome.Ok event4.steps refl (reply 1) refl) refl (none_ended (abstract_after_all first run3).machine event4.steps refl) (λ p. none_there p) (λ e h. absurd (contains_none e h));
 }
 
 -- ---- where the port fails first
@@ -101,23 +101,23 @@ running = newly_issued (newly_accepted write)
 
 -- port 0 failed, and was stopped
 abbrev failure : Evidence
-failure = record { faults = []; lost = []; link_changed = []; failed = port ∷ []; fatal = []; stopped = port ∷ []; stuck = [] }
+failure = record { faults = []; lost = []; link_changed = []; showing_error = port ∷ []; showing_fatal_error = []; stopped = port ∷ []; stuck = [] }
 
 abbrev failed : CallRecord (Unit {0})
-failed = record (call Service (Served (reply_of (running, outcome.Revoked) ∷ [])) (Answer running outcome.Revoked ∷ [])) { evidence = failure }
+failed = record (call Service (Replied (reply_of (running, outcome.Revoked) ∷ [])) (Answer running outcome.Revoked ∷ [])) { evidence = failure }
 
 happens_failed : Happens (abstract_after_all first run3) failed
 happens_failed = record {
   steps_are_enabled = (tt, (contains_here running [] running refl, no_row));
   steps_are_of_call = (tt, inr tt);
-  issues_are_last = (tt, λ id h i. false≢true i);
+  issue_is_last_of_request = (tt, λ id h i. false≢true i);
   answers_are_lawful = (tt, inr (refl, contains_here port [] port refl, (refl, refl)));
   ports_are_well_formed = ports_fit Ready refl;
   unanswered_keep_disk = λ e o h i same. (refl, refl);
-  is_answered = record {
+  result_matches_steps = record {
     replies_match = one_told running outcome.Revoked failed.steps refl (reply_of (running, outcome.Revoked)) refl;
-    tells_dead = λ e o i dead. none_dead e.request.port dead;
-    answers_all_unplugged = none_unplugged failed.steps (abstract_after_all first (failed ∷ run3)).machine refl;
+    dead_ports_tell_only_port_dead = λ e o i dead. none_dead e.request.port dead;
+    unplugged_empties_port = none_unplugged failed.steps (abstract_after_all first (failed ∷ run3)).machine refl;
     none_is_due = λ p _. none_there p;
     empty_unless_ready = λ p ne e h. absurd (contains_none e h);
     answers_ended = λ p _. none_ended (abstract_after_all first run3).machine failed.steps refl p;
@@ -135,35 +135,35 @@ is_taken_back = record {
   runs = (((((empty_starts, ports_fit Ready refl), happens1), happens2), happens3), happens4);
   steps_are_faithful = ((((((((tt, tt), tt), tt), tt), tt), λ _ b lt. refl), tt), tt);
   early = run2;
-  call = event3;
+  revoking_call = event3;
   service = event4;
-  comes = refl;
+  run_is = refl;
   client = client;
   number = 0;
-  takes = refl;
+  call_revokes = refl;
   issued = newly_issued (newly_accepted write);
-  waits = newly_accepted read;
-  both = refl;
-  under = ((refl, refl), (refl, refl));
+  waiter = newly_accepted read;
+  book_has_both = refl;
+  both_are_under_grant = ((refl, refl), (refl, refl));
   is_issued = refl;
   is_waiting = refl;
   replies = refl;
-  stays = refl;
-  gone = no_row;
+  issued_stays = refl;
+  grant_is_gone = no_row;
   asks_for_service = refl;
   done = done write;
   request_is = refl;
-  answers = contains_here (Answer (done write) outcome.Ok) (End (touch 0 (newly_issued (newly_accepted write))) ∷ Touch (newly_issued (newly_accepted write)) 0 (write.held_blocks 0) ∷ []) (Answer (done write) outcome.Ok) refl;
-  failing = failed;
-  runs_too = (((((empty_starts, ports_fit Ready refl), happens1), happens2), happens3), happens_failed);
-  told_too = ((((((tt, tt), tt), tt), tt), tt), tt);
-  serves_too = refl;
-  fails = contains_here port [] port refl;
+  answers = contains_here (Answer (done write) outcome.Ok) (End (touch 0 (newly_issued (newly_accepted write))) ∷ Touch (newly_issued (newly_accepted write)) 0 (write.blocks_at_acceptance 0) ∷ []) (Answer (done write) outcome.Ok) refl;
+  failing_service = failed;
+  failing_runs = (((((empty_starts, ports_fit Ready refl), happens1), happens2), happens3), happens_failed);
+  failing_steps_are_faithful = ((((((tt, tt), tt), tt), tt), tt), tt);
+  failing_is_service = refl;
+  port_is_named_failed = contains_here port [] port refl;
   ready = refl;
-  once = refl;
+  issued_once = refl;
   tells = refl;
-  none_left = refl;
+  book_becomes_empty = refl;
   frame = frame_at write.asked.frames.items 0;
-  its_frame = refl;
-  freed = refl;
+  frames_are = refl;
+  frame_is_given_back = refl;
 }

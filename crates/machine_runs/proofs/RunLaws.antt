@@ -17,7 +17,7 @@ use Rattle.block_machine.specs.Ports.{Ports, Evidence, MayBecome, SamePorts, Por
 use Rattle.block_machine.specs.State.{Accepted, Pending, Machine}
 use Rattle.block_machine.specs.Steps.{Step, Issue, Age, Touch, End, WaitAgain, Answer, Release, MayAccept, touch, mark_ended}
 use Rattle.block_machine.specs.Expected.{after}
-use Rattle.block_machine.specs.Events.{AbstractState, AbstractCall, AllEnabled, AreStepsOfCall, EmptyUnlessReady, Submit, StoreAt, LoadAt, Service, Tick, Reset, State, Device, RevokeOf, CallResult, Submitted, Stored, Loaded, Served, WasReset, WasRevoked, Shown, Stepped, CallRecord, IsAnswered, Happens, AllAnswersLawful, AgesOnce, RestartsTimedOut, ReleasesOnce, IssuesLast, IsRun, IsStillStuck, StaysStuck, accepts_of, is_age, is_release, issues_id, handles_id, abstract_after_all, admission_context_of, abstract_after}
+use Rattle.block_machine.specs.Events.{AbstractState, AbstractCall, AllEnabled, AreStepsOfCall, EmptyUnlessReady, Submit, StoreAt, LoadAt, Service, Tick, Reset, State, StepDevice, RevokeOf, AbstractCallResult, Submitted, Stored, Loaded, Replied, WasReset, WasRevoked, PortStateShown, Stepped, CallRecord, ResultMatchesSteps, Happens, AnswersAndWaitsLawful, AgesOnce, RestartsTimedOut, ReleasesOnce, IssueIsLastOfRequest, IsRun, IsStillStuck, IsStuckAfterCall, accepts_of, is_age, is_release, issues_id, handles_id, abstract_after_all, admission_context_of, abstract_after}
 use Rattle.block_machine.proofs.Members.{contains_none, contains_cases, map_in}
 use Rattle.block_machine.proofs.Keeps.{at_keeps}
 use Rattle.block_machine.specs.Confinement.{IsGranted}
@@ -32,7 +32,7 @@ issuing_handles : (id : RequestId) (step : Step) → issues_id id step ≡ true 
 issuing_handles id (Issue mode e) t = t
 issuing_handles id _ t = absurd (false≢true t)
 
-issued_once : (id : RequestId) (steps : List Step) → IssuesLast steps → (list_any (issues_id id) steps ≡ false → count_by (issues_id id) steps ≡ 0) × (count_by (issues_id id) steps ≤ 1)
+issued_once : (id : RequestId) (steps : List Step) → IssueIsLastOfRequest steps → (list_any (issues_id id) steps ≡ false → count_by (issues_id id) steps ≡ 0) × (count_by (issues_id id) steps ≤ 1)
 issued_once id [] l = ((λ _. refl), omega arith)
 issued_once id (step ∷ before) l = go (issues_id id step) refl (issued_once id before l.0)
   where
@@ -50,29 +50,29 @@ issued_once id (step ∷ before) l = go (issues_id id step) refl (issued_once id
         )
 
 pub law_issued_once_a_call : {D : Type 0} (old : AbstractState) (event : CallRecord D) (id : RequestId) → Happens old event → count_by (issues_id id) event.steps ≤ 1
-law_issued_once_a_call old event id h = (issued_once id event.steps h.issues_are_last).1
+law_issued_once_a_call old event id h = (issued_once id event.steps h.issue_is_last_of_request).1
 
 -- What a call that was answered may have done to ports and book. `was`: a reset was stuck before it, and is so still.
-data Kind {D : Type 0} (ask : AbstractCall D) (said : CallResult) (old : AbstractState) (evidence : Evidence) (steps : List Step) (new : AbstractState) (was : Type 0) : Type 0 where
-  Leaves : is_tick ask ≡ false → is_reset ask ≡ false → SamePorts old.ports new.ports → (was → StaysStuck ask said was) → Kind ask said old evidence steps new was
+data Kind {D : Type 0} (ask : AbstractCall D) (said : AbstractCallResult) (old : AbstractState) (evidence : Evidence) (steps : List Step) (new : AbstractState) (was : Type 0) : Type 0 where
+  Leaves : is_tick ask ≡ false → is_reset ask ≡ false → SamePorts old.ports new.ports → (was → IsStuckAfterCall ask said was) → Kind ask said old evidence steps new was
   Serves : is_tick ask ≡ false → is_reset ask ≡ false → ((port : Port) → EmptyUnlessReady new port × IsServiced old.ports evidence new.ports port) → Kind ask said old evidence steps new was
   Ticks : is_reset ask ≡ false → AgesOnce old.ports steps → RestartsTimedOut old evidence steps new → ((port : Port) → old.ports.state port ≡ Ready → EmptyUnlessReady new port)
-      → (was → StaysStuck ask said was) → Kind ask said old evidence steps new was
+      → (was → IsStuckAfterCall ask said was) → Kind ask said old evidence steps new was
   Resets : is_tick ask ≡ false → ReleasesOnce steps → ((port : Port) → EmptyUnlessReady new port × MayBecome old.ports evidence new.ports port) → Kind ask said old evidence steps new was
-  Sticks : is_tick ask ≡ false → ((port : Port) → IsAfterStuckReset old.ports evidence new.ports port) → StaysStuck ask said was → Kind ask said old evidence steps new was
+  Sticks : is_tick ask ≡ false → ((port : Port) → IsAfterStuckReset old.ports evidence new.ports port) → IsStuckAfterCall ask said was → Kind ask said old evidence steps new was
 
-kind : {D : Type 0} (ask : AbstractCall D) (said : CallResult) (old : AbstractState) (evidence : Evidence) (steps : List Step) (new : AbstractState) (was : Type 0) → IsAnswered ask said old evidence steps new → Kind ask said old evidence steps new was
+kind : {D : Type 0} (ask : AbstractCall D) (said : AbstractCallResult) (old : AbstractState) (evidence : Evidence) (steps : List Step) (new : AbstractState) (was : Type 0) → ResultMatchesSteps ask said old evidence steps new → Kind ask said old evidence steps new was
 kind (Submit r) (Submitted (Ok id)) old evidence steps new was a = Leaves refl refl a.2 (λ w. w)
 kind (Submit r) (Submitted (Err refusal)) old evidence steps new was a = Leaves refl refl a.2 (λ w. w)
 kind (StoreAt c f o b) (Stored None) old evidence steps new was a = Leaves refl refl a.0 (λ w. w)
 kind (StoreAt c f o b) (Stored (Some fault)) old evidence steps new was a = Leaves refl refl a.0 (λ w. w)
 kind (LoadAt c f o n) (Loaded (Ok bytes)) old evidence steps new was a = Leaves refl refl a.0 (λ w. w)
 kind (LoadAt c f o n) (Loaded (Err fault)) old evidence steps new was a = Leaves refl refl a.0 (λ w. w)
-kind (State port) (Shown state) old evidence steps new was a = Leaves refl refl a.2 (λ w. w)
-kind (Device d) (Stepped true) old evidence steps new was a = Leaves refl refl a.1 (λ w. w)
-kind (Device d) (Stepped false) old evidence steps new was a = Leaves refl refl a.1 (λ w. w)
-kind Service (Served replies) old evidence steps new was a = Serves refl refl (λ port. (a.empty_unless_ready port, a.port_is_serviced port))
-kind Tick (Served replies) old evidence steps new was a = Ticks refl a.ages_once a.restarts_timed_out a.empty_unless_ready (λ w. w)
+kind (State port) (PortStateShown state) old evidence steps new was a = Leaves refl refl a.2 (λ w. w)
+kind (StepDevice d) (Stepped true) old evidence steps new was a = Leaves refl refl a.1 (λ w. w)
+kind (StepDevice d) (Stepped false) old evidence steps new was a = Leaves refl refl a.1 (λ w. w)
+kind Service (Replied replies) old evidence steps new was a = Serves refl refl (λ port. (a.empty_unless_ready port, a.port_is_serviced port))
+kind Tick (Replied replies) old evidence steps new was a = Ticks refl a.ages_once a.restarts_timed_out a.was_ready_empty_unless_ready (λ w. w)
 kind Reset (WasReset (Some replies)) old evidence steps new was a = Resets refl a.releases_once (λ port. (a.empty_unless_ready port, a.port_may_become port))
 kind Reset (WasReset None) old evidence steps new was a = Sticks refl a.1 tt
 kind (RevokeOf c n) (WasRevoked (Some replies)) old evidence steps new was a = Leaves refl refl a.ports_are_same (λ w. w)
@@ -128,8 +128,8 @@ welcome old new q n r rows asked fresh ok same = record {
     named : IsNamed old.machine.rows q g.row
     named = subst (λ (x : Request). IsNamed old.machine.rows x g.row) asked (rows g.row g.is_named.0, g.is_named.1)
 
-welcomed : {D : Type 0} (ask : AbstractCall D) (said : CallResult) (old : AbstractState) (evidence : Evidence) (steps : List Step) (ports : Ports) (r : Accepted)
-    → IsAnswered ask said old evidence steps (record { machine = after old.machine steps; ports = ports }) → AllEnabled old.machine steps → AreStepsOfCall ask ports steps → Contains (accepts_of steps) r → IsWelcome old ports r
+welcomed : {D : Type 0} (ask : AbstractCall D) (said : AbstractCallResult) (old : AbstractState) (evidence : Evidence) (steps : List Step) (ports : Ports) (r : Accepted)
+    → ResultMatchesSteps ask said old evidence steps (record { machine = after old.machine steps; ports = ports }) → AllEnabled old.machine steps → AreStepsOfCall ask ports steps → Contains (accepts_of steps) r → IsWelcome old ports r
 welcomed {D} (Submit q) (Submitted (Ok id)) old evidence steps ports r a may b h =
     let x = accepted_new old.machine steps r may h in
     welcome old ports q x.0 r x.1 (accepted_asked D q ports steps r b h) x.2 a.0 a.2
@@ -139,7 +139,7 @@ welcomed ask said old evidence steps ports r a may b h = absurd (contains_none r
 
 -- a request that the event accepts
 welcomes : {D : Type 0} (old : AbstractState) (event : CallRecord D) → Happens old event → (r : Accepted) → Contains (accepts_of event.steps) r → IsWelcome old event.ports r
-welcomes old event h r i = welcomed event.ask event.said old event.evidence event.steps event.ports r h.is_answered h.steps_are_enabled h.steps_are_of_call i
+welcomes old event h r i = welcomed event.call event.result old event.evidence event.steps event.ports r h.result_matches_steps h.steps_are_enabled h.steps_are_of_call i
 
 -- An unanswered request is on a ready port, or on one that is dead since a reset that was stuck.
 
@@ -155,8 +155,8 @@ placed_served ports port was fit placed = true_from_ne_false _ (λ f. ⊎_elim
     (λ ready. false≢true (ap is_ready (sym (fit.unserved_are_absent port f)) ∙ ap is_ready ready))
     (λ (dead : (ports.state port ≡ Dead) × was). false≢true (ap is_dead (sym (fit.unserved_are_absent port f)) ∙ ap is_dead dead.0)) placed)
 
-placed_event : {D : Type 0} (ask : AbstractCall D) (said : CallResult) (old : AbstractState) (evidence : Evidence) (steps : List Step) (new : AbstractState) (was : Type 0) (e : Pending) → PortsWellFormed old.ports
-    → Contains new.machine.book e → IsPlaced old.ports e.request.port was → Kind ask said old evidence steps new was → IsPlaced new.ports e.request.port (StaysStuck ask said was)
+placed_event : {D : Type 0} (ask : AbstractCall D) (said : AbstractCallResult) (old : AbstractState) (evidence : Evidence) (steps : List Step) (new : AbstractState) (was : Type 0) (e : Pending) → PortsWellFormed old.ports
+    → Contains new.machine.book e → IsPlaced old.ports e.request.port was → Kind ask said old evidence steps new was → IsPlaced new.ports e.request.port (IsStuckAfterCall ask said was)
 placed_event ask said old evidence steps new was e fit here placed (Leaves t r same keep) = ⊎_elim
     (λ ready. inl ((same e.request.port).1 ∙ ready)) (λ dead. inr ((same e.request.port).1 ∙ dead.0, keep dead.1)) placed
 placed_event ask said old evidence steps new was e fit here placed (Serves t r ports) = inl (emptied_ready new e here (ports e.request.port).0)
@@ -165,19 +165,19 @@ placed_event ask said old evidence steps new was e fit here placed (Ticks r ages
     (λ dead. ⊎_elim
     (λ same. inr (same.1.1 ∙ dead.0, keep dead.1))
     (λ h. absurd (false≢true (ap is_ready (sym dead.0) ∙ ap is_ready h.0.ready)))
-    (hung.ports e.request.port))
+    (hung.each_port_is_same_or_restarts e.request.port))
     placed
 placed_event ask said old evidence steps new was e fit here placed (Resets t releases ports) = inl (emptied_ready new e here (ports e.request.port).0)
 placed_event ask said old evidence steps new was e fit here placed (Sticks t ports keep) = inr (((ports e.request.port).1 (placed_served old.ports e.request.port was fit placed)).0, keep)
 
-pub law_unanswered_where_ready : {D : Type 0} (first : AbstractState) (run : List (CallRecord D)) (e : Pending) → IsRun first run → Contains (abstract_after_all first run).machine.book e
+pub law_unanswered_on_ready_or_stuck : {D : Type 0} (first : AbstractState) (run : List (CallRecord D)) (e : Pending) → IsRun first run → Contains (abstract_after_all first run).machine.book e
     → ((abstract_after_all first run).ports.state e.request.port ≡ Ready) ⊎ (((abstract_after_all first run).ports.state e.request.port ≡ Dead) × IsStillStuck run)
-law_unanswered_where_ready first [] e r h = absurd (nobody first.machine r.0 e (inl h))
-law_unanswered_where_ready first (event ∷ past) e r h = ⊎_elim
-    (λ (s : Since (abstract_after_all first past).machine event.steps e). placed_event event.ask event.said (abstract_after_all first past) event.evidence event.steps (abstract_after_all first (event ∷ past)) (IsStillStuck past) e
+law_unanswered_on_ready_or_stuck first [] e r h = absurd (nobody first.machine r.0 e (inl h))
+law_unanswered_on_ready_or_stuck first (event ∷ past) e r h = ⊎_elim
+    (λ (s : Since (abstract_after_all first past).machine event.steps e). placed_event event.call event.result (abstract_after_all first past) event.evidence event.steps (abstract_after_all first (event ∷ past)) (IsStillStuck past) e
     (run_fit first past r.0) h
-    (subst (λ (x : Accepted). IsPlaced (abstract_after_all first past).ports x.port (IsStillStuck past)) s.same (law_unanswered_where_ready first past s.old r.0 s.here))
-    (kind event.ask event.said (abstract_after_all first past) event.evidence event.steps (abstract_after_all first (event ∷ past)) (IsStillStuck past) r.1.is_answered))
+    (subst (λ (x : Accepted). IsPlaced (abstract_after_all first past).ports x.port (IsStillStuck past)) s.same (law_unanswered_on_ready_or_stuck first past s.old r.0 s.here))
+    (kind event.call event.result (abstract_after_all first past) event.evidence event.steps (abstract_after_all first (event ∷ past)) (IsStillStuck past) r.1.result_matches_steps))
     (λ (a : IsAccepted event.steps e). let w = welcomes (abstract_after_all first past) event r.1 e.request a.0 in inl ((w.same e.request.port).1 ∙ w.ready))
     (since (abstract_after_all first past).machine event.steps e h)
 
@@ -223,7 +223,7 @@ aged_once ports steps port a =
     at_most false = omega arith
 
 -- where a call ages nothing, or ages and restarts, ages stay two at most
-young : {D : Type 0} (ask : AbstractCall D) (said : CallResult) (old : AbstractState) (evidence : Evidence) (steps : List Step) (new : AbstractState) (e : Pending) → AllFit ask steps → Kind ask said old evidence steps new (Unit {0})
+young : {D : Type 0} (ask : AbstractCall D) (said : AbstractCallResult) (old : AbstractState) (evidence : Evidence) (steps : List Step) (new : AbstractState) (e : Pending) → AllFit ask steps → Kind ask said old evidence steps new (Unit {0})
     → Contains new.machine.book e → e.issued ≡ true → ((o : Pending) → Contains old.machine.book o → o.issued ≡ true → o.age ≤ 2)
     → Since old.machine steps e ⊎ IsAccepted steps e → e.age ≤ 2
 young {D} ask said old evidence steps new e fit k here t all from = by k
@@ -267,9 +267,9 @@ young {D} ask said old evidence steps new e fit k here t all from = by k
 
 pub law_ages_are_bounded : {D : Type 0} (first : AbstractState) (run : List (CallRecord D)) (e : Pending) → IsRun first run → Contains (abstract_after_all first run).machine.book e → e.issued ≡ true → e.age ≤ 2
 law_ages_are_bounded first [] e r h t = absurd (nobody first.machine r.0 e (inl h))
-law_ages_are_bounded first (event ∷ past) e r h t = young event.ask event.said (abstract_after_all first past) event.evidence event.steps (abstract_after_all first (event ∷ past)) e
-    (all_fit event.ask event.ports event.steps r.1.steps_are_of_call)
-    (kind event.ask event.said (abstract_after_all first past) event.evidence event.steps (abstract_after_all first (event ∷ past)) (Unit {0}) r.1.is_answered)
+law_ages_are_bounded first (event ∷ past) e r h t = young event.call event.result (abstract_after_all first past) event.evidence event.steps (abstract_after_all first (event ∷ past)) e
+    (all_fit event.call event.ports event.steps r.1.steps_are_of_call)
+    (kind event.call event.result (abstract_after_all first past) event.evidence event.steps (abstract_after_all first (event ∷ past)) (Unit {0}) r.1.result_matches_steps)
     h t (λ o i u. law_ages_are_bounded first past o r.0 i u) (since (abstract_after_all first past).machine event.steps e h)
 
 -- A kept request is on a dead port.
@@ -284,7 +284,7 @@ moved_kept ports m step before e x same quiet (inl o) =
     inl (o.0, o.1, o.2 ∙ sym same, omega (arith, none, zero, count_cons is_release step before))
 moved_kept ports m step before e x same quiet (inr dead) = inr (ap (λ (r : Accepted). ports.state r.port) same ∙ dead)
 
-kept_from : (old : AbstractState) (evidence : Evidence) (ports : Ports) (m : Machine) (steps : List Step) → AllAnswersLawful old evidence ports steps → (e : Pending) → Contains (after m steps).kept e
+kept_from : (old : AbstractState) (evidence : Evidence) (ports : Ports) (m : Machine) (steps : List Step) → AnswersAndWaitsLawful old evidence ports steps → (e : Pending) → Contains (after m steps).kept e
     → ((o : Pending) × Contains m.kept o × (o.request ≡ e.request) × (count_by is_release steps ≡ 0)) ⊎ (ports.state e.request.port ≡ Dead)
 kept_from old evidence ports m [] l e h = inl (e, h, refl, refl)
 kept_from old evidence ports m (Touch p i block ∷ before) l e h =
@@ -313,17 +313,17 @@ kept_from old evidence ports m (Answer p outcome.PortDead ∷ before) l e h = go
 kept_from old evidence ports m (WaitAgain p ∷ before) l e h = moved_kept ports m (WaitAgain p) before e e refl refl (kept_from old evidence ports m before l.0 e h)
 kept_from old evidence ports m (step ∷ before) l e h = moved_kept ports m step before e e refl refl (kept_from old evidence ports m before l e h)
 
-kept_event : {D : Type 0} (ask : AbstractCall D) (said : CallResult) (old : AbstractState) (evidence : Evidence) (steps : List Step) (new : AbstractState) (port : Port) → PortsWellFormed old.ports
+kept_event : {D : Type 0} (ask : AbstractCall D) (said : AbstractCallResult) (old : AbstractState) (evidence : Evidence) (steps : List Step) (new : AbstractState) (port : Port) → PortsWellFormed old.ports
     → count_by is_release steps ≡ 0 → old.ports.state port ≡ Dead → Kind ask said old evidence steps new (Unit {0}) → new.ports.state port ≡ Dead
 kept_event ask said old evidence steps new port fit none dead (Leaves t r same keep) = (same port).1 ∙ dead
 kept_event ask said old evidence steps new port fit none dead (Serves t r ports) = ((ports port).1.0 dead).1 ∙ dead
 kept_event ask said old evidence steps new port fit none dead (Ticks r ages hung empty keep) = ⊎_elim
     (λ same. same.1.1 ∙ dead)
     (λ h. absurd (false≢true (ap is_ready (sym dead) ∙ ap is_ready h.0.ready)))
-    (hung.ports port)
+    (hung.each_port_is_same_or_restarts port)
 kept_event ask said old evidence steps new port fit none dead (Resets t releases ports) =
     let split : count_by is_release steps ≡ count_by is_release releases.later + count_by is_release (Release ∷ releases.earlier) =
-    ap (λ (xs : List Step). count_by is_release xs) releases.split ∙ count_append is_release releases.later (Release ∷ releases.earlier) in
+    ap (λ (xs : List Step). count_by is_release xs) releases.release_splits_steps ∙ count_append is_release releases.later (Release ∷ releases.earlier) in
     let one = count_cons is_release Release releases.earlier in
     absurd (omega (arith, split, one, none))
 kept_event ask said old evidence steps new port fit none dead (Sticks t ports keep) = ((ports port).1 (placed_served old.ports port (Unit {0}) fit (inr (dead, tt)))).0
@@ -331,10 +331,10 @@ kept_event ask said old evidence steps new port fit none dead (Sticks t ports ke
 pub law_kept_where_dead : {D : Type 0} (first : AbstractState) (run : List (CallRecord D)) (e : Pending) → IsRun first run → Contains (abstract_after_all first run).machine.kept e → (abstract_after_all first run).ports.state e.request.port ≡ Dead
 law_kept_where_dead first [] e r h = absurd (nobody first.machine r.0 e (inr h))
 law_kept_where_dead first (event ∷ past) e r h = ⊎_elim
-    (λ o. kept_event event.ask event.said (abstract_after_all first past) event.evidence event.steps (abstract_after_all first (event ∷ past)) e.request.port
+    (λ o. kept_event event.call event.result (abstract_after_all first past) event.evidence event.steps (abstract_after_all first (event ∷ past)) e.request.port
     (run_fit first past r.0) o.3
     (subst (λ (x : Accepted). (abstract_after_all first past).ports.state x.port ≡ Dead) o.2 (law_kept_where_dead first past o.0 r.0 o.1))
-    (kind event.ask event.said (abstract_after_all first past) event.evidence event.steps (abstract_after_all first (event ∷ past)) (Unit {0}) r.1.is_answered))
+    (kind event.call event.result (abstract_after_all first past) event.evidence event.steps (abstract_after_all first (event ∷ past)) (Unit {0}) r.1.result_matches_steps))
     (λ dead. dead)
     (kept_from (abstract_after_all first past) event.evidence event.ports (abstract_after_all first past).machine event.steps r.1.answers_are_lawful e h)
 
@@ -344,11 +344,11 @@ dead_or : (s : PortState) → (s ≡ Dead) ⊎ (s ≢ Dead)
 dead_or Dead = inl refl
 dead_or _ = inr (λ e. false≢true (ap is_dead e))
 
-was_dead : {D : Type 0} (ask : AbstractCall D) (said : CallResult) (old : AbstractState) (evidence : Evidence) (steps : List Step) (new : AbstractState) (port : Port) → PortsWellFormed new.ports → new.ports.state port ≡ Dead
+was_dead : {D : Type 0} (ask : AbstractCall D) (said : AbstractCallResult) (old : AbstractState) (evidence : Evidence) (steps : List Step) (new : AbstractState) (port : Port) → PortsWellFormed new.ports → new.ports.state port ≡ Dead
     → Kind ask said old evidence steps new (Unit {0}) → (old.ports.state port ≡ Dead) ⊎ Contains evidence.stuck port
 was_dead ask said old evidence steps new port fit dead (Leaves t r same keep) = inl (sym (same port).1 ∙ dead)
 was_dead ask said old evidence steps new port fit dead (Serves t r ports) = ⊎_elim (λ was. inl was) (λ alive. inr (((ports port).1.1 alive).0.dead_is_stuck.0 dead)) (dead_or (old.ports.state port))
-was_dead ask said old evidence steps new port fit dead (Ticks r ages hung empty keep) = ⊎_elim (λ same. inl (sym same.1.1 ∙ dead)) (λ h. inr (h.1.dead_is_stuck.0 dead)) (hung.ports port)
+was_dead ask said old evidence steps new port fit dead (Ticks r ages hung empty keep) = ⊎_elim (λ same. inl (sym same.1.1 ∙ dead)) (λ h. inr (h.1.dead_is_stuck.0 dead)) (hung.each_port_is_same_or_restarts port)
 was_dead ask said old evidence steps new port fit dead (Resets t releases ports) = inr ((ports port).1.dead_is_stuck.0 dead)
 was_dead ask said old evidence steps new port fit dead (Sticks t ports keep) =
     inr (((ports port).1 (sym (ports port).0 ∙ placed_served new.ports port (Unit {0}) fit (inr (dead, tt)))).1)
@@ -356,5 +356,5 @@ was_dead ask said old evidence steps new port fit dead (Sticks t ports keep) =
 pub law_dead_ports_were_stuck : {D : Type 0} (old : AbstractState) (event : CallRecord D) (port : Port) → Happens old event → event.ports.state port ≡ Dead
     → (old.ports.state port ≡ Dead) ⊎ Contains event.evidence.stuck port
 law_dead_ports_were_stuck old event port h dead =
-    was_dead event.ask event.said old event.evidence event.steps (abstract_after old event) port h.ports_are_well_formed dead
-    (kind event.ask event.said old event.evidence event.steps (abstract_after old event) (Unit {0}) h.is_answered)
+    was_dead event.call event.result old event.evidence event.steps (abstract_after old event) port h.ports_are_well_formed dead
+    (kind event.call event.result old event.evidence event.steps (abstract_after old event) (Unit {0}) h.result_matches_steps)

@@ -27,24 +27,24 @@ use Rattle.block_machine.specs.DueRequests.{NoneDue, is_flush}
 use Rattle.block_machine.specs.State.{Accepted, Pending, Machine, block_of, unanswered}
 use Rattle.block_machine.specs.Steps.{Step, Touch, End, Answer, newly_accepted, newly_issued, touch, mark_ended, MayAccept}
 use Rattle.block_machine.specs.Ports.{Ports, Evidence, PortsWellFormed, SamePort, IsStoppedOrStuck, MayBecome, IsServiced}
-use Rattle.block_machine.specs.Events.{AbstractState, AbstractCall, CallResult, CallRecord, ShowsDisk, HasTimedOut, AnswersEnded, AnswersAllUnplugged, UnpluggedLostDisk, AnswersService, RepliesMatch, admission_context_of, answers_of, reply_of}
+use Rattle.block_machine.specs.Events.{AbstractState, AbstractCall, AbstractCallResult, CallRecord, ShowsDisk, TimesOutAtTick, AnswersEnded, UnpluggedEmptiesPort, UnpluggedLostDisk, AnswersService, RepliesMatch, admission_context_of, answers_of, reply_of}
 use Rattle.block_machine.proofs.Members.{contains_none, contains_here, contains_cases, append_in, none_of}
 use Rattle.block_machine.proofs.Counting.{issued_not_due}
 use Rattle.block_machine.proofs.Setting.{client, on, port, frame, row, two_rows, request, empty, its_row, is_trim, IsFit, acceptable}
 
 -- no evidence
 abbrev pub none : Evidence
-none = record { faults = []; lost = []; link_changed = []; failed = []; fatal = []; stopped = []; stuck = [] }
+none = record { faults = []; lost = []; link_changed = []; showing_error = []; showing_fatal_error = []; stopped = []; stuck = [] }
 
 abbrev pub mode : QueueMode
-mode = record { queued = true; usable = 32 }
+mode = record { queued = true; usable_slots = 32 }
 
 -- port 0 in this state, and no other port
 abbrev pub at_port : PortState → Port → PortState
 at_port state p = cond (p.0 == 0) state Absent
 
 abbrev pub ports_in : PortState → Ports
-ports_in state = record { served = λ p. p.0 == 0; state = at_port state; serial = λ p. []; sectors = λ p. 200; trims = λ p. true; mode = λ p. mode }
+ports_in state = record { served = λ p. p.0 == 0; state = at_port state; serial = λ p. []; sectors = λ p. 200; zeroes_after_trim = λ p. true; mode = λ p. mode }
 
 abbrev pub ports : Ports
 ports = ports_in Ready
@@ -55,15 +55,15 @@ first = record { machine = empty; ports = ports }
 abbrev pub id : ℕ → RequestId
 id n = record { 0 = n }
 
-abbrev pub call : AbstractCall (Unit {0}) → CallResult → List Step → CallRecord (Unit {0})
-call ask said steps = record { ask = ask; said = said; evidence = none; steps = steps; ports = ports }
+abbrev pub call : AbstractCall (Unit {0}) → AbstractCallResult → List Step → CallRecord (Unit {0})
+call ask said steps = record { call = ask; result = said; evidence = none; steps = steps; ports = ports }
 
 abbrev pub reply : ℕ → Reply
 reply n = record { id = id n; client = client; outcome = outcome.Ok }
 
 -- a request of one sector of a port, with its frame's bytes at a moment
 abbrev pub one_sector : ℕ → Machine → ℕ → Op → ℕ → ℕ → Accepted
-one_sector p m n op sector f = record { id = id n; port = on p; asked = request p op sector 1 (frame f ∷ []); held_blocks = block_of m.memory (frame f ∷ []) }
+one_sector p m n op sector f = record { id = id n; port = on p; asked = request p op sector 1 (frame f ∷ []); blocks_at_acceptance = block_of m.memory (frame f ∷ []) }
 
 -- the same of sector 100 of port 0
 abbrev pub sector_request : Machine → ℕ → Op → ℕ → Accepted
@@ -74,7 +74,7 @@ abbrev pub done : Accepted → Pending
 done r = mark_ended (touch 0 (newly_issued (newly_accepted r)))
 
 abbrev pub served : Accepted → List Step
-served r = Answer (done r) outcome.Ok ∷ End (touch 0 (newly_issued (newly_accepted r))) ∷ Touch (newly_issued (newly_accepted r)) 0 (r.held_blocks 0) ∷ []
+served r = Answer (done r) outcome.Ok ∷ End (touch 0 (newly_issued (newly_accepted r))) ∷ Touch (newly_issued (newly_accepted r)) 0 (r.blocks_at_acceptance 0) ∷ []
 
 -- What holds of the parts.
 
@@ -90,7 +90,7 @@ pub record IsQuiet (p : ℕ) (m : AbstractState) : Type 0 where
   pub mine : Contains two_rows (row p)
   pub ready : m.ports.state (on p) ≡ Ready
   pub size : m.ports.sectors (on p) ≡ 200
-  pub room : (admission_context_of m).unanswered client < 16
+  pub room : (admission_context_of m).unanswered_count client < 16
   pub few : m.machine.next_id ≤ 5
 
 pub row_zero : Contains two_rows (row 0)
@@ -154,14 +154,14 @@ fit_flush m q = record {
     nothing f e = let lt = slice_get_within [] 0 f e in omega (arith, lt)
 
 -- a fit request is new to the machine
-pub new : (p : ℕ) (m : AbstractState) (a : Accepted) → IsQuiet p m → IsFit p (admission_context_of m) a.asked → a.id.0 ≡ m.machine.next_id → a.port ≡ on p → a.held_blocks ≡ block_of m.machine.memory a.asked.frames.items → MayAccept m.machine a
+pub new : (p : ℕ) (m : AbstractState) (a : Accepted) → IsQuiet p m → IsFit p (admission_context_of m) a.asked → a.id.0 ≡ m.machine.next_id → a.port ≡ on p → a.blocks_at_acceptance ≡ block_of m.machine.memory a.asked.frames.items → MayAccept m.machine a
 new p m a q fit next here held = record {
-  id = next;
-  id_left = let few = q.few in omega (arith, few);
-  unbroken = λ rule h. acceptable p (admission_context_of m) a.asked fit (refused.Rule rule) h;
-  port = λ r h. here ∙ ap (λ (x : GrantRow). x.port) (sym (its_row r (subst (λ (xs : List GrantRow). Contains xs r) q.rows h.0) ∙ ap row (h.1.1 ∙ fit.grant)));
-  few = let none = fit.few in subst (λ c. (admission_context_of m).unanswered c < 16) (sym fit.client_is) none;
-  held = held;
+  id_is_next = next;
+  an_id_is_left = let few = q.few in omega (arith, few);
+  breaks_no_rule = λ rule h. acceptable p (admission_context_of m) a.asked fit (refused.Rule rule) h;
+  port_is_of_its_row = λ r h. here ∙ ap (λ (x : GrantRow). x.port) (sym (its_row r (subst (λ (xs : List GrantRow). Contains xs r) q.rows h.0) ∙ ap row (h.1.1 ∙ fit.grant)));
+  client_has_room = let none = fit.few in subst (λ c. (admission_context_of m).unanswered_count c < 16) (sym fit.client_is) none;
+  blocks_are_in_memory = held;
 }
 
 -- no request of a book is due where all are issued
@@ -185,7 +185,7 @@ one_told e o steps only r is = record {
   answers = (e, o) ∷ [];
   is_permutation = subst (λ xs. IsPermutation ((e, o) ∷ []) xs) (sym only) (IsPermutation-refl _);
   ordered = λ i j d lt below. absurd (omega (arith, lt, below));
-  replies_are = ap (λ (x : Reply). x ∷ []) is;
+  replies_are_of_answers = ap (λ (x : Reply). x ∷ []) is;
 }
 
 pub none_told : (steps : List Step) → answers_of steps ≡ [] → RepliesMatch steps []
@@ -193,7 +193,7 @@ none_told steps only = record {
   answers = [];
   is_permutation = subst (λ xs. IsPermutation [] xs) (sym only) (IsPermutation-refl _);
   ordered = λ i j d lt below. absurd (omega (arith, lt, below));
-  replies_are = refl;
+  replies_are_of_answers = refl;
 }
 
 pub one_touched : (i : ℕ) → i < 1 → ((i == 0) || false) ≡ true
@@ -205,7 +205,7 @@ is_unfit _ = false
 
 pub ports_fit : (state : PortState) → is_unfit state ≡ false → PortsWellFormed (ports_in state)
 ports_fit state known = record {
-  few_are_served = λ p e. let zero = eqb-true p.0 0 e in omega (arith, zero);
+  served_are_ports_0_to_3 = λ p e. let zero = eqb-true p.0 0 e in omega (arith, zero);
   unserved_are_absent = λ p e. cond-false (p.0 == 0) state Absent e;
   modes_are_valid = λ p e. (omega arith, omega arith, λ f. absurd (false≢true (sym f)));
   causes_are_valid = λ p cause e. go cause (p.0 == 0) e;
@@ -266,7 +266,7 @@ pub serviced : (p : Port) → IsServiced ports none ports p
 serviced p = (
   λ dead. none_dead p dead,
   λ _. (
-    record { served_is_kept = refl; dead_is_stuck = (λ e. none_dead p e, λ h. absurd (contains_none p h)); disk_is_kept = λ _. (refl, refl) },
+    record { served_is_unchanged = refl; dead_is_stuck = (λ e. none_dead p e, λ h. absurd (contains_none p h)); disk_is_remembered = λ _. (refl, refl) },
     inl (refl, refl, refl, refl, refl, refl),
   ),
 )
@@ -290,29 +290,29 @@ changed_here old new evidence here p = go (p.0 == 0) refl
 -- a port that no call got stuck stays ready
 pub stay_ready : (evidence : Evidence) → evidence.stuck ≡ [] → (p : Port) → MayBecome ports evidence ports p
 stay_ready evidence none p = record {
-  served_is_kept = refl;
+  served_is_unchanged = refl;
   dead_is_stuck = (λ dead. none_dead p dead, λ h. absurd (contains_none p (subst (λ (stuck : List Port). Contains stuck p) none h)));
-  disk_is_kept = λ _. (refl, refl);
+  disk_is_remembered = λ _. (refl, refl);
 }
 
 -- what a tick makes of each port where port 0 is hung: that becomes what it may, in this state, and the others stay as they are
-pub restarts_into : (m : Machine) (state : PortState) (evidence : Evidence) → HasTimedOut (record { machine = m; ports = ports }) port → ((p : Port) → MayBecome ports evidence (ports_in state) p)
-    → (p : Port) → ((HasTimedOut (record { machine = m; ports = ports }) p → ⊥) × SamePort ports (ports_in state) p) ⊎ (HasTimedOut (record { machine = m; ports = ports }) p × MayBecome ports evidence (ports_in state) p)
+pub restarts_into : (m : Machine) (state : PortState) (evidence : Evidence) → TimesOutAtTick (record { machine = m; ports = ports }) port → ((p : Port) → MayBecome ports evidence (ports_in state) p)
+    → (p : Port) → ((TimesOutAtTick (record { machine = m; ports = ports }) p → ⊥) × SamePort ports (ports_in state) p) ⊎ (TimesOutAtTick (record { machine = m; ports = ports }) p × MayBecome ports evidence (ports_in state) p)
 restarts_into m state evidence hung becomes p = go (p.0 == 0) refl
   where
     old : AbstractState
     old = record { machine = m; ports = ports }
 
-    go : (b : Bool) → (p.0 == 0) ≡ b → ((HasTimedOut old p → ⊥) × SamePort ports (ports_in state) p) ⊎ (HasTimedOut old p × MayBecome ports evidence (ports_in state) p)
-    go true e = inr (subst (λ (x : Port). HasTimedOut old x) (sym (ap (λ (n : ℕ). record { 0 = n }) (eqb-true p.0 0 e))) hung, becomes p)
+    go : (b : Bool) → (p.0 == 0) ≡ b → ((TimesOutAtTick old p → ⊥) × SamePort ports (ports_in state) p) ⊎ (TimesOutAtTick old p × MayBecome ports evidence (ports_in state) p)
+    go true e = inr (subst (λ (x : Port). TimesOutAtTick old x) (sym (ap (λ (n : ℕ). record { 0 = n }) (eqb-true p.0 0 e))) hung, becomes p)
     go false e = inl (
       λ h. false≢true (sym e ∙ eq-eqb p.0 0 (ap (λ (x : Port). x.0) (ready_port p h.ready))),
       (refl, cond-false (p.0 == 0) state Absent e ∙ sym (cond-false (p.0 == 0) Ready Absent e), refl, refl, refl, refl),
     )
 
 -- a tick that restarts port 0 and finds it ready again
-pub restarts_here : (m : Machine) (evidence : Evidence) → evidence.stuck ≡ [] → HasTimedOut (record { machine = m; ports = ports }) port
-    → (p : Port) → ((HasTimedOut (record { machine = m; ports = ports }) p → ⊥) × SamePort ports ports p) ⊎ (HasTimedOut (record { machine = m; ports = ports }) p × MayBecome ports evidence ports p)
+pub restarts_here : (m : Machine) (evidence : Evidence) → evidence.stuck ≡ [] → TimesOutAtTick (record { machine = m; ports = ports }) port
+    → (p : Port) → ((TimesOutAtTick (record { machine = m; ports = ports }) p → ⊥) × SamePort ports ports p) ⊎ (TimesOutAtTick (record { machine = m; ports = ports }) p × MayBecome ports evidence ports p)
 restarts_here m evidence none hung = restarts_into m Ready evidence hung (stay_ready evidence none)
 
 -- What a service does where it has nothing to do but to answer.
@@ -324,7 +324,7 @@ is_unplugged _ = false
 pub never_unplugged : {A : Type 0} (steps : List Step) → list_any is_unplugged steps ≡ false → (e : Pending) → Contains steps (Answer e outcome.Unplugged) → A
 never_unplugged steps none e h = absurd (false≢true (sym (none_of is_unplugged steps (Answer e outcome.Unplugged) none h)))
 
-pub none_unplugged : (steps : List Step) (m : Machine) → list_any is_unplugged steps ≡ false → AnswersAllUnplugged steps m
+pub none_unplugged : (steps : List Step) (m : Machine) → list_any is_unplugged steps ≡ false → UnpluggedEmptiesPort steps m
 none_unplugged steps m none = record {
   none_is_left = λ e other h i. never_unplugged steps none e h;
   none_is_told_dead = λ e other h i. never_unplugged steps none e h;
@@ -359,8 +359,8 @@ pub plain_service : (old new : Machine) (steps : List Step) (replies : List Repl
     → AnswersService (record { machine = old; ports = ports }) none steps replies (record { machine = new; ports = ports })
 plain_service old new steps replies tells plugged ended issues mine = record {
   replies_match = tells;
-  tells_dead = λ e o h dead. none_dead e.request.port dead;
-  answers_all_unplugged = none_unplugged steps new plugged;
+  dead_ports_tell_only_port_dead = λ e o h dead. none_dead e.request.port dead;
+  unplugged_empties_port = none_unplugged steps new plugged;
   none_is_due = λ p _. issues p;
   empty_unless_ready = emptied_of new.book mine;
   answers_ended = λ p _. ended p;

@@ -58,7 +58,7 @@ law_expected_is_unique start h read k a b s legal (inl p) (inl q) =
     let le = p.2 q.0 q.1 in
     let ge = q.2 p.0 p.1 in
     let same : p.0 ≡ q.0 = touched_one start h s legal p.0 q.0 k _ k _ p.1.touched q.1.touched (omega (arith, le, ge)) in
-    p.3 ∙ ap (λ (w : Accepted). block_written w.asked.op w.held_blocks (k - w.asked.first.0)) same ∙ sym q.3
+    p.3 ∙ ap (λ (w : Accepted). block_written w.asked.op w.blocks_at_acceptance (k - w.asked.first.0)) same ∙ sym q.3
 law_expected_is_unique start h read k a b s legal (inl p) (inr q) = absurd (q.0 p.0 p.1)
 law_expected_is_unique start h read k a b s legal (inr p) (inl q) = absurd (p.0 q.0 q.1)
 law_expected_is_unique start h read k a b s legal (inr p) (inr q) = p.1 ∙ sym q.1

@@ -14,8 +14,8 @@ use Rattle.ata_types.specs.declared.request.Outcome.TheVariants as outcome
 use Rattle.block_machine.specs.Ports.{Ports, Evidence, PortsWellFormed, SamePort, IsStoppedOrStuck, IsServiced}
 use Rattle.block_machine.specs.State.{Accepted, Pending, Machine, unanswered, is_reader}
 use Rattle.block_machine.specs.Steps.{Step, Accept, Issue, Touch, End, WaitAgain, Answer, Unplug, newly_accepted, newly_issued, touch, requeued}
-use Rattle.block_machine.specs.Events.{AbstractState, Submit, Service, Device, Submitted, Served, Stepped, CallRecord, Happens, AnswersAllUnplugged, RepliesMatch, IsToldBefore, IsIssuedIn, abstract_after, abstract_after_all, admission_context_of, steps_of, reply_of, ShowsDisk}
-use Rattle.machine_runs.specs.ExampleRuns.{MeetsErrors}
+use Rattle.block_machine.specs.Events.{AbstractState, Submit, Service, StepDevice, Submitted, Replied, Stepped, CallRecord, Happens, UnpluggedEmptiesPort, RepliesMatch, IsToldBefore, IsIssuedIn, abstract_after, abstract_after_all, admission_context_of, steps_of, reply_of, ShowsDisk}
+use Rattle.machine_runs.specs.ExampleRuns.{ServiceAnswersAllErrors}
 use Rattle.block_machine.proofs.Members.{contains_none, contains_here, contains_there, contains_cases, none_of}
 use Rattle.block_machine.proofs.Setting.{on, frame, row, two_rows, empty, empty_starts, acceptable, granted}
 use Rattle.machine_runs.proofs.Scene.{none, mode, id, one_sector, done, is_dead, IsQuiet, row_zero, write_at, fit_read, new, none_waits, none_there, one_told, none_told, one_touched, none_unplugged, is_unfit, is_told_dead, emptied_at, none_ended, last_ended}
@@ -25,13 +25,13 @@ abbrev both : PortState → PortState → Port → PortState
 both low high p = cond (p.0 == 0) low (cond (p.0 == 1) high Absent)
 
 abbrev ports_in : PortState → PortState → Ports
-ports_in low high = record { served = λ p. p.0 == 0 || p.0 == 1; state = both low high; serial = λ p. []; sectors = λ p. 200; trims = λ p. true; mode = λ p. mode }
+ports_in low high = record { served = λ p. p.0 == 0 || p.0 == 1; state = both low high; serial = λ p. []; sectors = λ p. 200; zeroes_after_trim = λ p. true; mode = λ p. mode }
 
 abbrev first : AbstractState
 first = record { machine = empty; ports = ports_in Ready Ready }
 
 abbrev submit : Accepted → CallRecord (Unit {0})
-submit r = record { ask = Submit r.asked; said = Submitted (Ok r.id); evidence = none; steps = Issue mode (newly_accepted r) ∷ Accept r ∷ []; ports = ports_in Ready Ready }
+submit r = record { call = Submit r.asked; result = Submitted (Ok r.id); evidence = none; steps = Issue mode (newly_accepted r) ∷ Accept r ∷ []; ports = ports_in Ready Ready }
 
 abbrev run0 : List (CallRecord (Unit {0}))
 run0 = []
@@ -65,20 +65,20 @@ finishing = newly_issued (newly_accepted finished)
 
 -- the device ends it
 abbrev ending : CallRecord (Unit {0})
-ending = record { ask = Device tt; said = Stepped true; evidence = none; steps = End (touch 0 finishing) ∷ Touch finishing 0 (finished.held_blocks 0) ∷ []; ports = ports_in Ready Ready }
+ending = record { call = StepDevice tt; result = Stepped true; evidence = none; steps = End (touch 0 finishing) ∷ Touch finishing 0 (finished.blocks_at_acceptance 0) ∷ []; ports = ports_in Ready Ready }
 
 abbrev run5 : List (CallRecord (Unit {0}))
 run5 = ending ∷ run4
 
 abbrev unplug : CallRecord (Unit {0})
-unplug = record { ask = Device tt; said = Stepped true; evidence = none; steps = Unplug (on 1) ∷ []; ports = ports_in Ready Ready }
+unplug = record { call = StepDevice tt; result = Stepped true; evidence = none; steps = Unplug (on 1) ∷ []; ports = ports_in Ready Ready }
 
 abbrev run6 : List (CallRecord (Unit {0}))
 run6 = unplug ∷ run5
 
 -- the request that goes again, in its n-th issue
 abbrev tried : ℕ → Pending
-tried n = record (newly_issued (newly_accepted again)) { issues = n }
+tried n = record (newly_issued (newly_accepted again)) { issue_count = n }
 
 abbrev failing : Pending
 failing = newly_issued (newly_accepted failed)
@@ -88,7 +88,7 @@ losing = newly_issued (newly_accepted lost)
 
 -- port 0 failed and told a fault, and port 1 told that its disk went; both were stopped
 abbrev port_error : Evidence
-port_error = record { faults = record { id = id 2; status = 65; error = 64 } ∷ []; lost = on 1 ∷ []; link_changed = on 1 ∷ []; failed = on 0 ∷ []; fatal = []; stopped = on 0 ∷ on 1 ∷ []; stuck = [] }
+port_error = record { faults = record { id = id 2; status = 65; error = 64 } ∷ []; lost = on 1 ∷ []; link_changed = on 1 ∷ []; showing_error = on 0 ∷ []; showing_fatal_error = []; stopped = on 0 ∷ on 1 ∷ []; stuck = [] }
 
 abbrev requeuing : List Step
 requeuing = WaitAgain (tried 1) ∷ Answer failing (outcome.DeviceError 65 64) ∷ Answer (done finished) outcome.Ok ∷ []
@@ -98,8 +98,8 @@ serving = Answer losing outcome.Unplugged ∷ Issue mode (requeued (tried 1)) �
 
 abbrev service : CallRecord (Unit {0})
 service = record {
-  ask = Service;
-  said = Served (reply_of (failing, outcome.DeviceError 65 64) ∷ reply_of (done finished, outcome.Ok) ∷ reply_of (losing, outcome.Unplugged) ∷ []);
+  call = Service;
+  result = Replied (reply_of (failing, outcome.DeviceError 65 64) ∷ reply_of (done finished, outcome.Ok) ∷ reply_of (losing, outcome.Unplugged) ∷ []);
   evidence = port_error;
   steps = serving;
   ports = ports_in Ready Absent;
@@ -110,17 +110,17 @@ run7 = service ∷ run6
 
 -- port 0 failed, and was stopped
 abbrev failure : Evidence
-failure = record { faults = []; lost = []; link_changed = []; failed = on 0 ∷ []; fatal = []; stopped = on 0 ∷ []; stuck = [] }
+failure = record { faults = []; lost = []; link_changed = []; showing_error = on 0 ∷ []; showing_fatal_error = []; stopped = on 0 ∷ []; stuck = [] }
 
 -- a service that issues it again
 abbrev retry : ℕ → CallRecord (Unit {0})
-retry n = record { ask = Service; said = Served []; evidence = failure; steps = Issue mode (requeued (tried n)) ∷ WaitAgain (tried n) ∷ []; ports = ports_in Ready Absent }
+retry n = record { call = Service; result = Replied []; evidence = failure; steps = Issue mode (requeued (tried n)) ∷ WaitAgain (tried n) ∷ []; ports = ports_in Ready Absent }
 
 abbrev run9 : List (CallRecord (Unit {0}))
 run9 = retry 3 ∷ retry 2 ∷ run7
 
 abbrev abort : CallRecord (Unit {0})
-abort = record { ask = Service; said = Served (reply_of (tried 4, outcome.Aborted) ∷ []); evidence = failure; steps = Answer (tried 4) outcome.Aborted ∷ []; ports = ports_in Ready Absent }
+abort = record { call = Service; result = Replied (reply_of (tried 4, outcome.Aborted) ∷ []); evidence = failure; steps = Answer (tried 4) outcome.Aborted ∷ []; ports = ports_in Ready Absent }
 
 -- What holds of the ports.
 
@@ -134,7 +134,7 @@ not_dead {A} low high z o p e = go (p.0 == 0) (p.0 == 1) e
 
 fit : (low high : PortState) → is_unfit low ≡ false → is_unfit high ≡ false → PortsWellFormed (ports_in low high)
 fit low high l h = record {
-  few_are_served = λ p e. ⊎_elim (λ q. let n = eqb-true p.0 0 q in omega (arith, n)) (λ q. let n = eqb-true p.0 1 q in omega (arith, n)) (or_cases (p.0 == 0) (p.0 == 1) e);
+  served_are_ports_0_to_3 = λ p e. ⊎_elim (λ q. let n = eqb-true p.0 0 q in omega (arith, n)) (λ q. let n = eqb-true p.0 1 q in omega (arith, n)) (or_cases (p.0 == 0) (p.0 == 1) e);
   unserved_are_absent = λ p. go (p.0 == 0) (p.0 == 1);
   modes_are_valid = λ p e. (omega arith, omega arith, λ f. absurd (false≢true (sym f)));
   causes_are_valid = λ p cause e. unfit cause (p.0 == 0) (p.0 == 1) e;
@@ -181,14 +181,14 @@ stays : (p : Port) → IsServiced (ports_in Ready Absent) failure (ports_in Read
 stays p = (
   λ dead. not_dead Ready Absent refl refl p dead,
   λ _. (
-    record { served_is_kept = refl; dead_is_stuck = (λ dead. not_dead Ready Absent refl refl p dead, λ h. absurd (contains_none p h)); disk_is_kept = λ _. (refl, refl) },
+    record { served_is_unchanged = refl; dead_is_stuck = (λ dead. not_dead Ready Absent refl refl p dead, λ h. absurd (contains_none p h)); disk_is_remembered = λ _. (refl, refl) },
     inl (refl, refl, refl, refl, refl, refl),
   ),
 )
 
 -- one of them waits for nothing
 
-quiet : (p : ℕ) (m : AbstractState) → Contains two_rows (row p) → m.machine.rows ≡ two_rows → m.ports.state (on p) ≡ Ready → m.ports.sectors (on p) ≡ 200 → (admission_context_of m).unanswered (record { 0 = 1 }) < 16 → m.machine.next_id < 5 → IsQuiet p m
+quiet : (p : ℕ) (m : AbstractState) → Contains two_rows (row p) → m.machine.rows ≡ two_rows → m.ports.state (on p) ≡ Ready → m.ports.sectors (on p) ≡ 200 → (admission_context_of m).unanswered_count (record { 0 = 1 }) < 16 → m.machine.next_id < 5 → IsQuiet p m
 quiet p m mine rows ready size room next = record { rows = rows; mine = mine; ready = ready; size = size; room = room; few = omega (arith, next) }
 
 quiet0 : IsQuiet 1 (abstract_after_all first run0)
@@ -207,11 +207,11 @@ happens1 : Happens (abstract_after_all first run0) (submit lost)
 happens1 = record {
   steps_are_enabled = ((tt, new 1 (abstract_after_all first run0) lost quiet0 (fit_read 1 (abstract_after_all first run0) 102 quiet0 refl refl) refl refl refl), (contains_here (newly_accepted lost) [] (newly_accepted lost) refl, record { is_in_book = contains_here (unanswered (newly_accepted lost)) [] (unanswered (newly_accepted lost)) refl; nothing_blocks = refl; slot_is_left = λ _. omega arith }, λ e h. absurd (contains_none e h), granted 1 quiet0.mine refl));
   steps_are_of_call = ((tt, inr refl), inr (refl, refl));
-  issues_are_last = ((tt, λ id h i. false≢true i), λ id h i. false≢true i);
+  issue_is_last_of_request = ((tt, λ id h i. false≢true i), λ id h i. false≢true i);
   answers_are_lawful = tt;
   ports_are_well_formed = fit Ready Ready refl refl;
   unanswered_keep_disk = λ e o h i same. (refl, refl);
-  is_answered = (acceptable 1 (admission_context_of (abstract_after_all first run0)) lost.asked (fit_read 1 (abstract_after_all first run0) 102 quiet0 refl refl), (lost, refl, refl), λ p. (refl, refl, refl, refl, refl, refl), λ p _. none_waits _ refl p);
+  result_matches_steps = (acceptable 1 (admission_context_of (abstract_after_all first run0)) lost.asked (fit_read 1 (abstract_after_all first run0) 102 quiet0 refl refl), (lost, refl, refl), λ p. (refl, refl, refl, refl, refl, refl), λ p _. none_waits _ refl p);
 }
 
 -- a request of the book's end
@@ -228,55 +228,55 @@ happens2 : Happens (abstract_after_all first run1) (submit failed)
 happens2 = record {
   steps_are_enabled = ((tt, new 0 (abstract_after_all first run1) failed quiet1 (write_at 0 (abstract_after_all first run1) 100 100 quiet1 (omega arith) (omega arith) refl refl) refl refl refl), (second losing (newly_accepted failed), record { is_in_book = second (unanswered losing) (unanswered (newly_accepted failed)); nothing_blocks = refl; slot_is_left = λ _. omega arith }, λ e h. absurd (contains_none e h), granted 0 row_zero refl));
   steps_are_of_call = ((tt, inr refl), inr (refl, refl));
-  issues_are_last = ((tt, λ id h i. false≢true i), λ id h i. false≢true i);
+  issue_is_last_of_request = ((tt, λ id h i. false≢true i), λ id h i. false≢true i);
   answers_are_lawful = tt;
   ports_are_well_formed = fit Ready Ready refl refl;
   unanswered_keep_disk = λ e o h i same. (refl, refl);
-  is_answered = (acceptable 0 (admission_context_of (abstract_after_all first run1)) failed.asked (write_at 0 (abstract_after_all first run1) 100 100 quiet1 (omega arith) (omega arith) refl refl), (failed, refl, refl), λ p. (refl, refl, refl, refl, refl, refl), λ p _. none_waits _ refl p);
+  result_matches_steps = (acceptable 0 (admission_context_of (abstract_after_all first run1)) failed.asked (write_at 0 (abstract_after_all first run1) 100 100 quiet1 (omega arith) (omega arith) refl refl), (failed, refl, refl), λ p. (refl, refl, refl, refl, refl, refl), λ p _. none_waits _ refl p);
 }
 
 happens3 : Happens (abstract_after_all first run2) (submit again)
 happens3 = record {
   steps_are_enabled = ((tt, new 0 (abstract_after_all first run2) again quiet2 (write_at 0 (abstract_after_all first run2) 101 101 quiet2 (omega arith) (omega arith) refl refl) refl refl refl), (third losing failing (newly_accepted again), record { is_in_book = third (unanswered losing) (unanswered failing) (unanswered (newly_accepted again)); nothing_blocks = refl; slot_is_left = λ _. omega arith }, λ e h. absurd (contains_none e h), granted 0 row_zero refl));
   steps_are_of_call = ((tt, inr refl), inr (refl, refl));
-  issues_are_last = ((tt, λ id h i. false≢true i), λ id h i. false≢true i);
+  issue_is_last_of_request = ((tt, λ id h i. false≢true i), λ id h i. false≢true i);
   answers_are_lawful = tt;
   ports_are_well_formed = fit Ready Ready refl refl;
   unanswered_keep_disk = λ e o h i same. (refl, refl);
-  is_answered = (acceptable 0 (admission_context_of (abstract_after_all first run2)) again.asked (write_at 0 (abstract_after_all first run2) 101 101 quiet2 (omega arith) (omega arith) refl refl), (again, refl, refl), λ p. (refl, refl, refl, refl, refl, refl), λ p _. none_waits _ refl p);
+  result_matches_steps = (acceptable 0 (admission_context_of (abstract_after_all first run2)) again.asked (write_at 0 (abstract_after_all first run2) 101 101 quiet2 (omega arith) (omega arith) refl refl), (again, refl, refl), λ p. (refl, refl, refl, refl, refl, refl), λ p _. none_waits _ refl p);
 }
 
 happens4 : Happens (abstract_after_all first run3) (submit finished)
 happens4 = record {
   steps_are_enabled = ((tt, new 0 (abstract_after_all first run3) finished quiet3 (write_at 0 (abstract_after_all first run3) 102 103 quiet3 (omega arith) (omega arith) refl refl) refl refl refl), (fourth losing failing (tried 1) (newly_accepted finished), record { is_in_book = fourth (unanswered losing) (unanswered failing) (unanswered (tried 1)) (unanswered (newly_accepted finished)); nothing_blocks = refl; slot_is_left = λ _. omega arith }, λ e h. absurd (contains_none e h), granted 0 row_zero refl));
   steps_are_of_call = ((tt, inr refl), inr (refl, refl));
-  issues_are_last = ((tt, λ id h i. false≢true i), λ id h i. false≢true i);
+  issue_is_last_of_request = ((tt, λ id h i. false≢true i), λ id h i. false≢true i);
   answers_are_lawful = tt;
   ports_are_well_formed = fit Ready Ready refl refl;
   unanswered_keep_disk = λ e o h i same. (refl, refl);
-  is_answered = (acceptable 0 (admission_context_of (abstract_after_all first run3)) finished.asked (write_at 0 (abstract_after_all first run3) 102 103 quiet3 (omega arith) (omega arith) refl refl), (finished, refl, refl), λ p. (refl, refl, refl, refl, refl, refl), λ p _. none_waits _ refl p);
+  result_matches_steps = (acceptable 0 (admission_context_of (abstract_after_all first run3)) finished.asked (write_at 0 (abstract_after_all first run3) 102 103 quiet3 (omega arith) (omega arith) refl refl), (finished, refl, refl), λ p. (refl, refl, refl, refl, refl, refl), λ p _. none_waits _ refl p);
 }
 
 happens5 : Happens (abstract_after_all first run4) ending
 happens5 = record {
   steps_are_enabled = ((tt, (inl (fourth losing failing (tried 1) finishing, refl), omega arith, refl, omega arith, λ _ b lt. refl)), (inl (fourth losing failing (tried 1) (touch 0 finishing), refl), one_touched, refl));
   steps_are_of_call = ((tt, inl tt), inl tt);
-  issues_are_last = ((tt, λ id h i. false≢true i), λ id h i. false≢true i);
+  issue_is_last_of_request = ((tt, λ id h i. false≢true i), λ id h i. false≢true i);
   answers_are_lawful = tt;
   ports_are_well_formed = fit Ready Ready refl refl;
   unanswered_keep_disk = λ e o h i same. (refl, refl);
-  is_answered = (((tt, tt), tt), λ p. (refl, refl, refl, refl, refl, refl));
+  result_matches_steps = (((tt, tt), tt), λ p. (refl, refl, refl, refl, refl, refl));
 }
 
 happens6 : Happens (abstract_after_all first run5) unplug
 happens6 = record {
   steps_are_enabled = (tt, refl);
   steps_are_of_call = (tt, inl tt);
-  issues_are_last = (tt, λ id h i. false≢true i);
+  issue_is_last_of_request = (tt, λ id h i. false≢true i);
   answers_are_lawful = tt;
   ports_are_well_formed = fit Ready Ready refl refl;
   unanswered_keep_disk = λ e o h i same. (refl, refl);
-  is_answered = ((tt, tt), λ p. (refl, refl, refl, refl, refl, refl));
+  result_matches_steps = ((tt, tt), λ p. (refl, refl, refl, refl, refl, refl));
 }
 
 -- The call that finds both troubles.
@@ -293,7 +293,7 @@ told_in_order = record {
   answers = all_told;
   is_permutation = IsPermutation-append_comm ((failing, outcome.DeviceError 65 64) ∷ (done finished, outcome.Ok) ∷ []) ((losing, outcome.Unplugged) ∷ []);
   ordered = λ i j d lt below. go i j d lt below;
-  replies_are = refl;
+  replies_are_of_answers = refl;
 }
   where
     go : (i j : ℕ) (d : Pending × Outcome) → i < j → j < 3 → IsToldBefore (slice_index_or all_told i d) (slice_index_or all_told j d)
@@ -308,7 +308,7 @@ unplugs_zero (Answer e outcome.Unplugged) = e.request.port.0 == 0
 unplugs_zero _ = false
 
 -- port 1's alone are answered Unplugged
-unplugs_all : AnswersAllUnplugged serving (abstract_after_all first run7).machine
+unplugs_all : UnpluggedEmptiesPort serving (abstract_after_all first run7).machine
 unplugs_all = record {
   none_is_left = λ e other h i q. false≢true (sym (none_of unplugs_zero serving (Answer e outcome.Unplugged) refl h)
       ∙ eq-eqb e.request.port.0 0 (ap (λ (x : Port). x.0) (sym q) ∙ left_here 2 other i));
@@ -328,7 +328,7 @@ happens7 = record {
     (contains_here losing (tried 2 ∷ []) losing refl, tt),
   );
   steps_are_of_call = (((((tt, inr tt), inr tt), inr refl), inr (refl, refl)), inr tt);
-  issues_are_last = (((((tt, λ id h i. false≢true i), λ id h i. false≢true i), λ id h i. false≢true i), λ id h i. false≢true i), apart);
+  issue_is_last_of_request = (((((tt, λ id h i. false≢true i), λ id h i. false≢true i), λ id h i. false≢true i), λ id h i. false≢true i), apart);
   answers_are_lawful = (
     (
       (
@@ -341,10 +341,10 @@ happens7 = record {
   );
   ports_are_well_formed = fit Ready Absent refl refl;
   unanswered_keep_disk = λ e o h i same. (refl, refl);
-  is_answered = record {
+  result_matches_steps = record {
     replies_match = told_in_order;
-    tells_dead = λ e o i dead. not_dead Ready Ready refl refl e.request.port dead;
-    answers_all_unplugged = unplugs_all;
+    dead_ports_tell_only_port_dead = λ e o i dead. not_dead Ready Ready refl refl e.request.port dead;
+    unplugged_empties_port = unplugs_all;
     none_is_due = λ p _. none_waits _ refl p;
     empty_unless_ready = λ p ne e h. emptied_at (both Ready Absent) (tried 2) refl p ne e h;
     answers_ended = λ p _. last_ended (abstract_after_all first run6).machine service.steps (losing ∷ failing ∷ tried 1 ∷ []) (done finished) refl refl (done finished) refl (4, omega arith, refl) p;
@@ -352,9 +352,9 @@ happens7 = record {
       λ dead. not_dead Ready Ready refl refl p dead,
       λ _. (
         record {
-          served_is_kept = refl;
+          served_is_unchanged = refl;
           dead_is_stuck = (λ dead. not_dead Ready Absent refl refl p dead, λ h. absurd (contains_none p h));
-          disk_is_kept = λ _. (refl, refl);
+          disk_is_remembered = λ _. (refl, refl);
         },
         changed_there service.evidence (second (on 0) (on 1)) p,
       ),
@@ -379,14 +379,14 @@ retried : (m : Machine) (n : ℕ) → m.rows ≡ two_rows → n < 4 → Happens 
 retried m n rows few = record {
   steps_are_enabled = ((tt, (contains_here (tried n) [] (tried n) refl, refl, few, granted 0 row_zero rows)), (contains_here (requeued (tried n)) [] (requeued (tried n)) refl, record { is_in_book = contains_here (unanswered (requeued (tried n))) [] (unanswered (requeued (tried n))) refl; nothing_blocks = refl; slot_is_left = λ _. omega arith }, λ e h. absurd (contains_none e h), granted 0 row_zero rows));
   steps_are_of_call = ((tt, inr refl), inr (refl, refl));
-  issues_are_last = ((tt, λ id h i. false≢true i), λ id h i. false≢true i);
+  issue_is_last_of_request = ((tt, λ id h i. false≢true i), λ id h i. false≢true i);
   answers_are_lawful = (tt, contains_here (on 0) [] (on 0) refl);
   ports_are_well_formed = fit Ready Absent refl refl;
   unanswered_keep_disk = λ e o h i same. (refl, refl);
-  is_answered = record {
+  result_matches_steps = record {
     replies_match = none_told (retry n).steps refl;
-    tells_dead = λ e o i dead. not_dead Ready Absent refl refl e.request.port dead;
-    answers_all_unplugged = none_unplugged (retry n).steps (abstract_after (before m n) (retry n)).machine refl;
+    dead_ports_tell_only_port_dead = λ e o i dead. not_dead Ready Absent refl refl e.request.port dead;
+    unplugged_empties_port = none_unplugged (retry n).steps (abstract_after (before m n) (retry n)).machine refl;
     none_is_due = λ p _. none_waits _ refl p;
     empty_unless_ready = λ p ne e h. emptied_at (both Ready Absent) (tried (suc n)) refl p ne e h;
     answers_ended = λ p _. none_ended (before m n).machine (retry n).steps refl p;
@@ -399,14 +399,14 @@ happens10 : Happens (abstract_after_all first run9) abort
 happens10 = record {
   steps_are_enabled = (tt, (contains_here (tried 4) [] (tried 4) refl, granted 0 row_zero refl));
   steps_are_of_call = (tt, inr tt);
-  issues_are_last = (tt, λ id h i. false≢true i);
+  issue_is_last_of_request = (tt, λ id h i. false≢true i);
   answers_are_lawful = (tt, (record { pending = tried 4; is_in_book = contains_here (tried 4) [] (tried 4) refl; id_is = refl; issued = refl }, refl, (refl, contains_here (on 0) [] (on 0) refl, (refl, refl))));
   ports_are_well_formed = fit Ready Absent refl refl;
   unanswered_keep_disk = λ e o h i same. (refl, refl);
-  is_answered = record {
+  result_matches_steps = record {
     replies_match = one_told (tried 4) outcome.Aborted abort.steps refl (reply_of (tried 4, outcome.Aborted)) refl;
-    tells_dead = λ e o i dead. not_dead Ready Absent refl refl e.request.port dead;
-    answers_all_unplugged = none_unplugged abort.steps (abstract_after (abstract_after_all first run9) abort).machine refl;
+    dead_ports_tell_only_port_dead = λ e o i dead. not_dead Ready Absent refl refl e.request.port dead;
+    unplugged_empties_port = none_unplugged abort.steps (abstract_after (abstract_after_all first run9) abort).machine refl;
     none_is_due = λ p _. none_there p;
     empty_unless_ready = λ p ne e h. absurd (contains_none e h);
     answers_ended = λ p _. none_ended (abstract_after_all first run9).machine abort.steps refl p;
@@ -415,10 +415,10 @@ happens10 = record {
   };
 }
 
-pub meets_trouble : MeetsErrors
+pub meets_trouble : ServiceAnswersAllErrors
 meets_trouble = record {
   initial_state = first;
-  asked = run6;
+  earlier_calls = run6;
   service = service;
   third = retry 2;
   fourth = retry 3;
@@ -432,8 +432,8 @@ meets_trouble = record {
   book = refl;
   issued = (refl, refl, refl, refl);
   had_ended = refl;
-  apart = λ e. distinct (ap (λ (x : Port). x.0) e);
-  together = (refl, refl);
+  ports_differ = λ e. distinct (ap (λ (x : Port). x.0) e);
+  share_failed_port = (refl, refl);
   disk_is_unplugged = contains_here (Unplug (on 1)) (steps_of run5) (Unplug (on 1)) refl;
   asks_for_service = (refl, refl, refl, refl);
   tells = refl;
@@ -441,17 +441,17 @@ meets_trouble = record {
       (contains_there (Issue mode (requeued (tried 1))) requeuing (WaitAgain (tried 1)) (contains_here (WaitAgain (tried 1)) (Answer failing (outcome.DeviceError 65 64) ∷ Answer (done finished) outcome.Ok ∷ []) (WaitAgain (tried 1)) refl));
   absent = refl;
   ready = refl;
-  anew = tried 2;
-  left = refl;
-  twice = (refl, refl, refl);
-  spent = tried 4;
-  still = refl;
-  four = (refl, refl, refl);
-  ends = refl;
-  none_left = refl;
+  reissued = tried 2;
+  book_has_reissued = refl;
+  issued_twice = (refl, refl, refl);
+  issued_last = tried 4;
+  book_has_issued_last = refl;
+  issued_four_times = (refl, refl, refl);
+  last_tells_aborted = refl;
+  book_becomes_empty = refl;
   frame = frame 101;
   frames_are = refl;
-  freed = refl;
+  frame_is_given_back = refl;
 }
   where
     distinct : ◌≡◌ {A = ℕ} 1 0 → ⊥

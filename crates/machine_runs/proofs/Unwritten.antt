@@ -10,7 +10,7 @@ use Rattle.block_machine.specs.DueRequests.{changes_sectors}
 use Rattle.block_machine.specs.State.{Block, Accepted, Machine}
 use Rattle.block_machine.specs.Steps.{Step, Touch, IsEnabled}
 use Rattle.block_machine.specs.Expected.{after, IsLegal, IsInitial, IsTouch, HasTouched, IsExpectedBlock, disk_number_read, bytes_when_plugged}
-use Rattle.block_machine.specs.Confinement.{WasAccepted, GrantsNoWrites}
+use Rattle.block_machine.specs.Confinement.{WasAccepted, GrantsNoWriteOrTrim}
 use Rattle.block_machine.proofs.Trace.{runs_lives}
 use Rattle.block_machine.proofs.Accepts.{living_accepted}
 use Rattle.block_machine.proofs.Configured.{was_granted}
@@ -27,7 +27,7 @@ toucher_accepted start (step ∷ past) s legal r k n (inl t) = inr (toucher_live
 toucher_accepted start (step ∷ past) s legal r k n (inr t) = inr (toucher_accepted start past s legal.0 r k n t)
 
 -- a row without writes and trims allows no writer
-never_writes : (row : GrantRow) → GrantsNoWrites row → (op : Op) → AllowsOp row.rights op → changes_sectors op ≡ true → ⊥
+never_writes : (row : GrantRow) → GrantsNoWriteOrTrim row → (op : Op) → AllowsOp row.rights op → changes_sectors op ≡ true → ⊥
 never_writes row none Read may writes = false≢true writes
 never_writes row none Write may writes = false≢true (sym none.0 ∙ may)
 never_writes row none Trim may writes = false≢true (sym none.1 ∙ may)
@@ -35,7 +35,7 @@ never_writes row none Flush may writes = false≢true writes
 
 -- so no write or trim touched a sector, and what is left came with the disk
 pub law_unwritten_disk_is_as_plugged : (start : Machine) (h : List Step) (read : Accepted) (k : ℕ) (block : Block) → IsInitial start → IsLegal start h
-    → ((row : GrantRow) → Contains start.rows row → GrantsNoWrites row)
+    → ((row : GrantRow) → Contains start.rows row → GrantsNoWriteOrTrim row)
     → IsExpectedBlock start h read k block → block ≡ bytes_when_plugged start read.port (disk_number_read read k h) h k
 law_unwritten_disk_is_as_plugged start h read k block s legal none (inl last) =
     let writer = last.0 in

@@ -9,7 +9,7 @@ use Rattle.block_machine.specs.declared.due.Unanswered.{Unanswered}
 use Rattle.block_machine.specs.DueRequests.{NoneDue, is_unblocked}
 use Rattle.block_machine.specs.State.{Block, Accepted, is_reader, unanswered}
 use Rattle.block_machine.specs.Steps.{Accept, Issue, Touch, End, Answer, newly_accepted, newly_issued, touch}
-use Rattle.block_machine.specs.Events.{Submit, Service, Device, Submitted, Served, Stepped, CallRecord, Happens, abstract_after_all, admission_context_of}
+use Rattle.block_machine.specs.Events.{Submit, Service, StepDevice, Submitted, Replied, Stepped, CallRecord, Happens, abstract_after_all, admission_context_of}
 use Rattle.machine_runs.specs.ExampleRuns.{WaitsItsTurn}
 use Rattle.block_machine.proofs.Members.{contains_none, contains_here, contains_there, contains_cases}
 use Rattle.block_machine.proofs.Counting.{issued_not_due}
@@ -38,24 +38,24 @@ abbrev pub run2 : List (CallRecord (Unit {0}))
 run2 = event2 ∷ run1
 
 abbrev event3 : CallRecord (Unit {0})
-event3 = call Service (Served (reply 1 ∷ [])) (Issue mode (newly_accepted read) ∷ served write)
+event3 = call Service (Replied (reply 1 ∷ [])) (Issue mode (newly_accepted read) ∷ served write)
 
 abbrev run3 : List (CallRecord (Unit {0}))
 run3 = event3 ∷ run2
 
 -- the bytes that the write left
 abbrev moved : Block
-moved = (abstract_after_all first run3).machine.disks port 100
+moved = (abstract_after_all first run3).machine.disk_bytes port 100
 
 -- the device ends the read
 abbrev event4 : CallRecord (Unit {0})
-event4 = call (Device tt) (Stepped true) (End (touch 0 (newly_issued (newly_accepted read))) ∷ Touch (newly_issued (newly_accepted read)) 0 moved ∷ [])
+event4 = call (StepDevice tt) (Stepped true) (End (touch 0 (newly_issued (newly_accepted read))) ∷ Touch (newly_issued (newly_accepted read)) 0 moved ∷ [])
 
 abbrev run4 : List (CallRecord (Unit {0}))
 run4 = event4 ∷ run3
 
 abbrev event5 : CallRecord (Unit {0})
-event5 = call Service (Served (reply 2 ∷ [])) (Answer (done read) outcome.Ok ∷ [])
+event5 = call Service (Replied (reply 2 ∷ [])) (Answer (done read) outcome.Ok ∷ [])
 
 abbrev run5 : List (CallRecord (Unit {0}))
 run5 = event5 ∷ run4
@@ -70,11 +70,11 @@ pub happens1 : Happens (abstract_after_all first run0) event1
 happens1 = record {
   steps_are_enabled = ((tt, new 0 (abstract_after_all first run0) write quiet0 (fit_write (abstract_after_all first run0) 100 quiet0 refl refl) refl refl refl), (contains_here (newly_accepted write) [] (newly_accepted write) refl, record { is_in_book = contains_here (unanswered (newly_accepted write)) [] (unanswered (newly_accepted write)) refl; nothing_blocks = refl; slot_is_left = λ _. omega arith }, λ e h. absurd (contains_none e h), granted 0 row_zero refl));
   steps_are_of_call = ((tt, inr refl), inr (refl, refl));
-  issues_are_last = ((tt, λ id h i. false≢true i), λ id h i. false≢true i);
+  issue_is_last_of_request = ((tt, λ id h i. false≢true i), λ id h i. false≢true i);
   answers_are_lawful = tt;
   ports_are_well_formed = ports_fit Ready refl;
   unanswered_keep_disk = λ e o h i same. (refl, refl);
-  is_answered = (acceptable 0 (admission_context_of (abstract_after_all first run0)) write.asked (fit_write (abstract_after_all first run0) 100 quiet0 refl refl), (write, refl, refl), λ p. (refl, refl, refl, refl, refl, refl), λ p _. one_issued (unanswered (newly_issued (newly_accepted write))) refl p);
+  result_matches_steps = (acceptable 0 (admission_context_of (abstract_after_all first run0)) write.asked (fit_write (abstract_after_all first run0) 100 quiet0 refl refl), (write, refl, refl), λ p. (refl, refl, refl, refl, refl, refl), λ p _. one_issued (unanswered (newly_issued (newly_accepted write))) refl p);
 }
 
 -- the write in its slot, and the read after it
@@ -95,11 +95,11 @@ pub happens2 : Happens (abstract_after_all first run1) event2
 happens2 = record {
   steps_are_enabled = (tt, new 0 (abstract_after_all first run1) read quiet1 (fit_read 0 (abstract_after_all first run1) 101 quiet1 refl refl) refl refl refl);
   steps_are_of_call = (tt, inr refl);
-  issues_are_last = (tt, λ id h i. false≢true i);
+  issue_is_last_of_request = (tt, λ id h i. false≢true i);
   answers_are_lawful = tt;
   ports_are_well_formed = ports_fit Ready refl;
   unanswered_keep_disk = λ e o h i same. (refl, refl);
-  is_answered = (acceptable 0 (admission_context_of (abstract_after_all first run1)) read.asked (fit_read 0 (abstract_after_all first run1) 101 quiet1 refl refl), (read, refl, refl), λ p. (refl, refl, refl, refl, refl, refl), λ p _. none_due p);
+  result_matches_steps = (acceptable 0 (admission_context_of (abstract_after_all first run1)) read.asked (fit_read 0 (abstract_after_all first run1) 101 quiet1 refl refl), (read, refl, refl), λ p. (refl, refl, refl, refl, refl, refl), λ p _. none_due p);
 }
 
 happens3 : Happens (abstract_after_all first run2) event3
@@ -115,33 +115,33 @@ happens3 = record {
     (contains_here (newly_accepted read) [] (newly_accepted read) refl, record { is_in_book = contains_here (unanswered (newly_accepted read)) [] (unanswered (newly_accepted read)) refl; nothing_blocks = refl; slot_is_left = λ _. omega arith }, λ e h. absurd (contains_none e h), granted 0 row_zero refl),
   );
   steps_are_of_call = ((((tt, inl tt), inl tt), inr tt), inr (refl, refl));
-  issues_are_last = ((((tt, λ id h i. false≢true i), λ id h i. false≢true i), λ id h i. false≢true i), λ id h i. false≢true i);
+  issue_is_last_of_request = ((((tt, λ id h i. false≢true i), λ id h i. false≢true i), λ id h i. false≢true i), λ id h i. false≢true i);
   answers_are_lawful = (tt, (record { pending = newly_issued (newly_accepted write); is_in_book = contains_here (newly_issued (newly_accepted write)) (newly_accepted read ∷ []) (newly_issued (newly_accepted write)) refl; id_is = refl; issued = refl }, refl, one_touched, refl));
   ports_are_well_formed = ports_fit Ready refl;
   unanswered_keep_disk = λ e o h i same. (refl, refl);
-  is_answered = plain_service (abstract_after_all first run2).machine (abstract_after_all first run3).machine event3.steps (reply 1 ∷ []) (one_told (done write) outcome.Ok event3.steps refl (reply 1) refl) refl (none_ended (abstract_after_all first run2).machine event3.steps refl) (λ p. one_issued (unanswered (newly_issued (newly_accepted read))) refl p) (only_one (newly_issued (newly_accepted read)) (λ e. e.request.port ≡ port) refl);
+  result_matches_steps = plain_service (abstract_after_all first run2).machine (abstract_after_all first run3).machine event3.steps (reply 1 ∷ []) (one_told (done write) outcome.Ok event3.steps refl (reply 1) refl) refl (none_ended (abstract_after_all first run2).machine event3.steps refl) (λ p. one_issued (unanswered (newly_issued (newly_accepted read))) refl p) (only_one (newly_issued (newly_accepted read)) (λ e. e.request.port ≡ port) refl);
 }
 
 happens4 : Happens (abstract_after_all first run3) event4
 happens4 = record {
   steps_are_enabled = ((tt, (inl (contains_here (newly_issued (newly_accepted read)) [] (newly_issued (newly_accepted read)) refl, refl), omega arith, refl, omega arith, λ e. absurd (false≢true (sym (ap is_reader e))))), (inl (contains_here (touch 0 (newly_issued (newly_accepted read))) [] (touch 0 (newly_issued (newly_accepted read))) refl, refl), one_touched, refl));
   steps_are_of_call = ((tt, inl tt), inl tt);
-  issues_are_last = ((tt, λ id h i. false≢true i), λ id h i. false≢true i);
+  issue_is_last_of_request = ((tt, λ id h i. false≢true i), λ id h i. false≢true i);
   answers_are_lawful = tt;
   ports_are_well_formed = ports_fit Ready refl;
   unanswered_keep_disk = λ e o h i same. (refl, refl);
-  is_answered = (((tt, tt), tt), λ p. (refl, refl, refl, refl, refl, refl));
+  result_matches_steps = (((tt, tt), tt), λ p. (refl, refl, refl, refl, refl, refl));
 }
 
 happens5 : Happens (abstract_after_all first run4) event5
 happens5 = record {
   steps_are_enabled = (tt, (contains_here (done read) [] (done read) refl, tt));
   steps_are_of_call = (tt, inr tt);
-  issues_are_last = (tt, λ id h i. false≢true i);
+  issue_is_last_of_request = (tt, λ id h i. false≢true i);
   answers_are_lawful = (tt, (record { pending = done read; is_in_book = contains_here (done read) [] (done read) refl; id_is = refl; issued = refl }, refl, one_touched, refl));
   ports_are_well_formed = ports_fit Ready refl;
   unanswered_keep_disk = λ e o h i same. (refl, refl);
-  is_answered = plain_service (abstract_after_all first run4).machine (abstract_after_all first run5).machine event5.steps (reply 2 ∷ []) (one_told (done read) outcome.Ok event5.steps refl (reply 2) refl) refl (last_ended (abstract_after_all first run4).machine event5.steps [] (done read) refl refl (done read) refl (0, omega arith, refl)) (λ p. none_there p) (λ e h. absurd (contains_none e h));
+  result_matches_steps = plain_service (abstract_after_all first run4).machine (abstract_after_all first run5).machine event5.steps (reply 2 ∷ []) (one_told (done read) outcome.Ok event5.steps refl (reply 2) refl) refl (last_ended (abstract_after_all first run4).machine event5.steps [] (done read) refl refl (done read) refl (0, omega arith, refl)) (λ p. none_there p) (λ e h. absurd (contains_none e h));
 }
 
 pub waits_its_turn : WaitsItsTurn
@@ -151,29 +151,29 @@ waits_its_turn = record {
   runs = ((((((empty_starts, ports_fit Ready refl), happens1), happens2), happens3), happens4), happens5);
   steps_are_faithful = ((((((((((tt, tt), tt), tt), λ e. absurd (false≢true (ap is_reader e))), tt), tt), tt), λ _ b lt. refl), tt), tt);
   early = run2;
-  call = event3;
+  answering_call = event3;
   ending = event4;
   service = event5;
-  comes = refl;
+  run_is = refl;
   issued = newly_issued (newly_accepted write);
-  waits = newly_accepted read;
-  both = refl;
+  waiter = newly_accepted read;
+  book_has_both = refl;
   is_issued = refl;
   is_waiting = refl;
-  conflicts = refl;
+  waiter_conflicts = refl;
   done = done write;
   answers = contains_there (Issue mode (newly_accepted read)) (served write) (Answer (done write) outcome.Ok)
-      (contains_here (Answer (done write) outcome.Ok) (End (touch 0 (newly_issued (newly_accepted write))) ∷ Touch (newly_issued (newly_accepted write)) 0 (write.held_blocks 0) ∷ []) (Answer (done write) outcome.Ok) refl);
+      (contains_here (Answer (done write) outcome.Ok) (End (touch 0 (newly_issued (newly_accepted write))) ∷ Touch (newly_issued (newly_accepted write)) 0 (write.blocks_at_acceptance 0) ∷ []) (Answer (done write) outcome.Ok) refl);
   request_is = refl;
   mode = mode;
   issues = contains_here (Issue mode (newly_accepted read)) (served write) (Issue mode (newly_accepted read)) refl;
-  running = newly_issued (newly_accepted read);
-  issued_too = refl;
+  issued_waiter = newly_issued (newly_accepted read);
+  book_has_issued_waiter = refl;
   not_ended = (refl, refl);
-  told_to = refl;
-  last = done read;
-  its_too = refl;
-  alone = refl;
+  device_is_told = refl;
+  ended_waiter = done read;
+  last_is_waiter = refl;
+  book_has_ended_waiter = refl;
   had_ended = refl;
   asks_for_service = refl;
   answered = contains_here (Answer (done read) outcome.Ok) [] (Answer (done read) outcome.Ok) refl;

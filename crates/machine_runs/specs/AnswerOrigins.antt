@@ -11,7 +11,7 @@ use Rattle.block_machine.specs.Events.{CallRecord, AbstractState, Submit, Submit
 
 -- the call is a submit that asked for the request, and was told its id
 abbrev pub AsksFor : {D : Type 0} → Accepted → CallRecord D → Type 0
-AsksFor r event = (event.ask ≡ Submit r.asked) × (event.said ≡ Submitted (Ok r.id))
+AsksFor r event = (event.call ≡ Submit r.asked) × (event.result ≡ Submitted (Ok r.id))
 
 -- a call of the run is
 abbrev pub WasAsked : {D : Type 0} → Accepted → List (CallRecord D) → Type 0
@@ -19,9 +19,9 @@ WasAsked r [] = ⊥
 WasAsked r (event ∷ past) = AsksFor r event ⊎ WasAsked r past
 
 -- the step has the request of this id wait again
-abbrev pub waits_again : RequestId → Step → Bool
-waits_again id (WaitAgain e) = e.request.id.0 == id.0
-waits_again id _ = false
+abbrev pub requeues_id : RequestId → Step → Bool
+requeues_id id (WaitAgain e) = e.request.id.0 == id.0
+requeues_id id _ = false
 
 -- In these steps the request was accepted and issued; and since its last issue each of its sectors was touched, and it
 -- was ended.
@@ -39,7 +39,7 @@ pub record CallAnswersOk {D : Type 0} (first : AbstractState) (past : List (Call
   pub early : List Step
   pub answered : event.steps ≡ late ++ Answer e outcome.Ok ∷ early
   pub served : WasServed first.machine (early ++ steps_of past) e.request
-  pub holds : e.request.asked.op ≡ Read
+  pub read_holds_expected : e.request.asked.op ≡ Read
       → HoldsExpected first.machine (early ++ steps_of past) (abstract_after_all first
       (event ∷ past)).machine.memory e.request
 
@@ -48,5 +48,5 @@ pub record CallAnswersOk {D : Type 0} (first : AbstractState) (past : List (Call
 pub record WasUnansweredBefore (old : Machine) (steps : List Step) (e : Pending) : Type 0 where
   pub before : Pending
   pub is_in_book : Contains old.book before
-  pub same : before.request ≡ e.request
-  pub issued : e.issued ≡ true → IsIssuedIn e.request.id steps ⊎ (before.issued ≡ true)
+  pub same_request : before.request ≡ e.request
+  pub was_issued_before_or_now : e.issued ≡ true → IsIssuedIn e.request.id steps ⊎ (before.issued ≡ true)

@@ -8,7 +8,7 @@ use Rattle.block_machine.specs.Rules.{IsSameGrantName}
 use Rattle.block_machine.specs.State.{Pending}
 use Rattle.block_machine.specs.Steps.{Answer, HasGrant}
 use Rattle.block_machine.specs.Expected.{AllStepsFaithful}
-use Rattle.block_machine.specs.Events.{AbstractState, CallRecord, RevokeOf, Service, Served, WasRevoked, IsRun, reply_of, steps_of, abstract_after_all}
+use Rattle.block_machine.specs.Events.{AbstractState, CallRecord, RevokeOf, Service, Replied, WasRevoked, IsRun, reply_of, steps_of, abstract_after_all}
 
 -- In a run of calls two requests of one grant are unanswered at once: one is issued, and the other waits for it. Then
 -- the client's grant is revoked: the one that waits is answered Revoked, and the row is gone. The issued one stays,
@@ -22,36 +22,39 @@ pub record RevokesWhileIssued : Type 0 where
   pub steps_are_faithful : AllStepsFaithful initial_state.machine (steps_of run)
   -- the run's events: these before the grant is revoked, and one after it
   pub early : List (CallRecord (Unit {0}))
-  pub call : CallRecord (Unit {0})
+  pub revoking_call : CallRecord (Unit {0})
   pub service : CallRecord (Unit {0})
-  pub comes : run ≡ service ∷ call ∷ early
+  pub run_is : run ≡ service ∷ revoking_call ∷ early
   pub client : ClientId
   pub number : ℕ
-  pub takes : call.ask ≡ RevokeOf client number
+  pub call_revokes : revoking_call.call ≡ RevokeOf client number
   pub issued : Pending
-  pub waits : Pending
-  pub both : (abstract_after_all initial_state early).machine.book ≡ issued ∷ waits ∷ []
-  pub under : IsSameGrantName client number issued.request.asked.client issued.request.asked.grant
-      × IsSameGrantName client number waits.request.asked.client waits.request.asked.grant
+  pub waiter : Pending
+  pub book_has_both : (abstract_after_all initial_state early).machine.book ≡ issued ∷ waiter ∷ []
+  pub both_are_under_grant : IsSameGrantName client number issued.request.asked.client issued.request.asked.grant
+      × IsSameGrantName client number waiter.request.asked.client waiter.request.asked.grant
   pub is_issued : issued.issued ≡ true
-  pub is_waiting : waits.issued ≡ false
-  pub replies : call.said ≡ WasRevoked (Some (reply_of (waits, Revoked) ∷ []))
-  pub stays : (abstract_after_all initial_state (call ∷ early)).machine.book ≡ issued ∷ []
-  pub gone : HasGrant (abstract_after_all initial_state (call ∷ early)).machine issued → ⊥
-  pub asks_for_service : service.ask ≡ Service
+  pub is_waiting : waiter.issued ≡ false
+  pub replies : revoking_call.result ≡ WasRevoked (Some (reply_of (waiter, Revoked) ∷ []))
+  pub issued_stays : (abstract_after_all initial_state (revoking_call ∷ early)).machine.book ≡ issued ∷ []
+  pub grant_is_gone : HasGrant (abstract_after_all initial_state (revoking_call ∷ early)).machine issued → ⊥
+  pub asks_for_service : service.call ≡ Service
   pub done : Pending
   pub request_is : done.request ≡ issued.request
   pub answers : Contains service.steps (Answer done Ok)
   -- or else the port fails first
-  pub failing : CallRecord (Unit {0})
-  pub runs_too : IsRun initial_state (failing ∷ call ∷ early)
-  pub told_too : AllStepsFaithful initial_state.machine (steps_of (failing ∷ call ∷ early))
-  pub serves_too : failing.ask ≡ Service
-  pub fails : Contains failing.evidence.failed issued.request.port
-  pub ready : failing.ports.state issued.request.port ≡ Ready
-  pub once : issued.issues ≡ 1
-  pub tells : failing.said ≡ Served (reply_of (issued, Revoked) ∷ [])
-  pub none_left : (abstract_after_all initial_state (failing ∷ call ∷ early)).machine.book ≡ []
+  pub failing_service : CallRecord (Unit {0})
+  pub failing_runs : IsRun initial_state (failing_service ∷ revoking_call ∷ early)
+  pub failing_steps_are_faithful : AllStepsFaithful initial_state.machine
+      (steps_of (failing_service ∷ revoking_call ∷ early))
+  pub failing_is_service : failing_service.call ≡ Service
+  pub port_is_named_failed : Contains failing_service.evidence.showing_error issued.request.port
+  pub ready : failing_service.ports.state issued.request.port ≡ Ready
+  pub issued_once : issued.issue_count ≡ 1
+  pub tells : failing_service.result ≡ Replied (reply_of (issued, Revoked) ∷ [])
+  pub book_becomes_empty : (abstract_after_all initial_state (failing_service ∷ revoking_call ∷ early)).machine.book
+      ≡ []
   pub frame : Frame
-  pub its_frame : issued.request.asked.frames.items ≡ frame ∷ []
-  pub freed : (abstract_after_all initial_state (failing ∷ call ∷ early)).machine.lent frame ≡ None
+  pub frames_are : issued.request.asked.frames.items ≡ frame ∷ []
+  pub frame_is_given_back : (abstract_after_all initial_state (failing_service ∷ revoking_call ∷ early)).machine.lent
+      frame ≡ None

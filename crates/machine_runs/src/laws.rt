@@ -3,31 +3,17 @@
 //! device.
 
 ghost use Rattle.std.specs.Prelude.{◌≡◌, ◌≢◌, ◌⊎◌, ◌+◌, ◌<◌, ◌≤◌, ◌==◌, ℕ, false, true, List, ◌∷◌, ◌++◌, cond, count_by, Contains};
-ghost use Rattle.ata_types.specs.declared.Port.{Port};
-ghost use Rattle.ata_types.specs.declared.PortState.TheVariants.{Ready, Dead};
-ghost use Rattle.ata_types.specs.declared.request.Frame.{Frame};
-ghost use Rattle.ata_types.specs.declared.request.RequestId.{RequestId};
-ghost use Rattle.ata_types.specs.declared.request.Op.TheVariants.{Flush};
-ghost use Rattle.ata_types.specs.declared.request.Outcome.{Outcome};
-ghost use Rattle.ata_types.specs.declared.request.Outcome.TheVariants.{Ok, Aborted};
-ghost use Rattle.ata_types.specs.declared.request.Reply.{Reply};
-ghost use Rattle.ata_types.specs.declared.grant.GrantRow.{GrantRow};
-ghost use Rattle.block_machine.specs.DueRequests.{are_conflicting};
-ghost use Rattle.block_machine.specs.State.{Block, Accepted, Pending, Machine, sector_of, newly_unanswered};
-ghost use Rattle.block_machine.specs.Steps.{Step, Answer, HasGrant, after_step, HoldsFrames, MayStillMove};
-ghost use Rattle.block_machine.specs.Expected.{IsInitial, IsLegal, HasTouched, HasTouchedSinceIssue, HasEndedSinceIssue, IsExpectedBlock, after, bytes_when_plugged, disk_number_read};
-ghost use Rattle.block_machine.specs.Confinement.{GrantsNoWrites, WasAccepted, MayChangeByte, MayChangeSector};
-ghost use Rattle.block_machine.specs.Events.{AbstractState, CallRecord, NoneDueWhereReady, Happens, EveryReadHolds, IsLawfulAnswer, IsRun, IsStillStuck, accepts_id, answers_id, issues_id, gives_id, replies_of, all_replies, WasGivenId, abstract_after_all, steps_of};
-ghost use Rattle.machine_runs.specs.AnswerOrigins.{AsksFor, WasUnansweredBefore, CallAnswersOk, WasAsked, waits_again};
-ghost use Rattle.machine_runs.specs.RevocationRuns.{RevokesWhileIssued};
-ghost use Rattle.machine_runs.specs.ExampleRuns.{FindsFlushedOrLater, WaitsItsTurn, QuarantineEndsWithReset, MeetsErrors, IsAnsweredByTick, IsUnpluggedBeforeTick, GoesAgainInResets, DiesInAService, ReadsWrongWithoutKeptRule};
+ghost use Rattle.ata_types.specs.{declared.Port.{Port}, declared.PortState.TheVariants.{Ready, Dead}, declared.request.Frame.{Frame}, declared.request.RequestId.{RequestId}, declared.request.Op.TheVariants.{Flush}, declared.request.Outcome.{Outcome}, declared.request.Outcome.TheVariants.{Ok, Aborted}, declared.request.Reply.{Reply}, declared.grant.GrantRow.{GrantRow}};
+ghost use Rattle.block_machine.specs.{DueRequests.{are_conflicting}, State.{Block, Accepted, Pending, Machine, sector_of, newly_unanswered}, Steps.{Step, Answer, HasGrant, after_step, HoldsFrames, MayStillMove}, Expected.{IsInitial, IsLegal, HasTouched, HasTouchedSinceIssue, HasEndedSinceIssue, IsExpectedBlock, after, bytes_when_plugged, disk_number_read}, Confinement.{GrantsNoWriteOrTrim, WasAccepted, MayChangeByte, MayChangeSector}};
+ghost use Rattle.block_machine.specs.Events.{AbstractState, CallRecord, NoneDueWhereReady, Happens, EveryReadHoldsExpected, IsLawfulAnswer, IsRun, IsStillStuck, accepts_id, answers_id, issues_id, gives_id, replies_of, all_replies, WasGivenId, abstract_after_all, steps_of};
+ghost use Rattle.machine_runs.specs.{AnswerOrigins.{AsksFor, WasUnansweredBefore, CallAnswersOk, WasAsked, requeues_id}, RevocationRuns.{RevokesWhileIssued}, ExampleRuns.{FindsFlushedOrLater, WaitsItsTurn, QuarantineEndsWithReset, ServiceAnswersAllErrors, TickAnswersEnded, TickFindsUnplugged, ResetsReissueThenAbort, ServiceEndsPortDead, ReadsWrongWithoutKeptRule}};
 
 /// Where no grant lets its client write or trim, what is left on a sector for a read is what the disk that it found
 /// there held when it was put in.
 pub fn law_unwritten_disk_is_as_plugged()
     ensures { (start : Machine) (history : List Step) (read : Accepted) (sector : ℕ) (block : Block)
         → IsInitial start → IsLegal start history
-        → ((row : GrantRow) → Contains start.rows row → GrantsNoWrites row)
+        → ((row : GrantRow) → Contains start.rows row → GrantsNoWriteOrTrim row)
         → IsExpectedBlock start history read sector block
         → block ≡ bytes_when_plugged start read.port (disk_number_read read sector history) history sector }
 {}
@@ -85,7 +71,7 @@ pub fn law_answered_was_accepted<D>()
 /// Over every run one submit at most gives an id.
 pub fn law_ids_are_given_once<D>()
     ensures { (first : AbstractState) (run : List (CallRecord D)) (id : RequestId) → IsRun first run
-        → count_by (λ event. gives_id id event.said) run ≤ 1 }
+        → count_by (λ event. gives_id id event.result) run ≤ 1 }
 {}
 
 /// Over every run an id stands in one reply at most.
@@ -97,7 +83,7 @@ pub fn law_replied_once<D>()
 /// Each reply of a call tells a client of an id that an earlier submit of that client gave.
 pub fn law_replied_was_given<D>()
     ensures { (first : AbstractState) (past : List (CallRecord D)) (event : CallRecord D) (reply : Reply)
-        → IsRun first (event ∷ past) → Contains (replies_of event.said) reply
+        → IsRun first (event ∷ past) → Contains (replies_of event.result) reply
         → WasGivenId reply.id reply.client past }
 {}
 
@@ -110,7 +96,7 @@ pub fn law_accepted_was_asked<D>()
 /// Each reply of a call is an answer of its steps, to a request for which an earlier submit of the run asked.
 pub fn law_replied_was_asked<D>()
     ensures { (first : AbstractState) (past : List (CallRecord D)) (event : CallRecord D) (reply : Reply)
-        → IsRun first (event ∷ past) → Contains (replies_of event.said) reply
+        → IsRun first (event ∷ past) → Contains (replies_of event.result) reply
         → (e : Pending) × Contains event.steps (Answer e reply.outcome) × (e.request.id ≡ reply.id)
         × (e.request.asked.client ≡ reply.client) × WasAsked e.request past }
 {}
@@ -128,7 +114,7 @@ pub fn law_unanswered_was_there_or_asked<D>()
 /// ended. And where each read of the run holds what is left, a read that is answered so has it at the call's end.
 pub fn law_ok_was_served<D>()
     ensures { (first : AbstractState) (past : List (CallRecord D)) (event : CallRecord D) (e : Pending)
-        → IsRun first (event ∷ past) → EveryReadHolds first (event ∷ past)
+        → IsRun first (event ∷ past) → EveryReadHoldsExpected first (event ∷ past)
         → Contains event.steps (Answer e Ok) → CallAnswersOk first past event e }
 {}
 
@@ -179,8 +165,8 @@ pub fn law_ok_was_ended<D>()
 pub fn law_issues_are_counted()
     ensures { (start : Machine) (history : List Step) (e : Pending) → IsInitial start → IsLegal start history
         → Contains (after start history).book e
-        → (count_by (issues_id e.request.id) history ≡ e.issues)
-        × (count_by (issues_id e.request.id) history ≡ count_by (waits_again e.request.id) history + cond e.issued 1
+        → (count_by (issues_id e.request.id) history ≡ e.issue_count)
+        × (count_by (issues_id e.request.id) history ≡ count_by (requeues_id e.request.id) history + cond e.issued 1
         0) }
 {}
 
@@ -205,7 +191,7 @@ pub fn law_ages_are_bounded<D>()
 
 /// At each moment of a run an unanswered request is on a port that is ready, or on one that is dead since a reset that
 /// was stuck.
-pub fn law_unanswered_where_ready<D>()
+pub fn law_unanswered_on_ready_or_stuck<D>()
     ensures { (first : AbstractState) (run : List (CallRecord D)) (e : Pending) → IsRun first run
         → Contains (abstract_after_all first run).machine.book e
         → ((abstract_after_all first run).ports.state e.request.port ≡ Ready)
@@ -238,7 +224,7 @@ pub fn law_bytes_change_by_touch_or_store()
 /// A sector of a port's disk changes by a touch of it by a write or trim of the port, or by a disk that is put in.
 pub fn law_sectors_change_by_touch_or_plug()
     ensures { (m : Machine) (step : Step) (port : Port) (sector place : ℕ)
-        → (after_step m step).disks port sector place ≢ m.disks port sector place
+        → (after_step m step).disk_bytes port sector place ≢ m.disk_bytes port sector place
         → MayChangeSector step port sector }
 {}
 
@@ -286,29 +272,29 @@ pub fn law_a_revoking_run_exists()
 /// A run exists in which two ports serve requests, the one fails and the other loses its disk, and a fault, an
 /// unplugged request, one that is issued anew and one that is aborted are told as they have to be.
 pub fn law_a_run_with_errors_exists()
-    ensures { MeetsErrors }
+    ensures { ServiceAnswersAllErrors }
 {}
 
 /// A run exists in which a tick answers a request that had ended.
 pub fn law_a_tick_answers_in_a_run()
-    ensures { IsAnsweredByTick }
+    ensures { TickAnswersEnded }
 {}
 
 /// A run exists in which a tick finds a port hung whose disk was taken out, and tells its requests Unplugged, issued or
 /// not.
 pub fn law_an_unplugged_run_exists()
-    ensures { IsUnpluggedBeforeTick }
+    ensures { TickFindsUnplugged }
 {}
 
 /// A run exists in which resets issue a request anew, abort it after its fourth issue, and issue one that waited for
 /// it.
 pub fn law_a_four_resets_run_exists()
-    ensures { GoesAgainInResets }
+    ensures { ResetsReissueThenAbort }
 {}
 
 /// A run exists in which a port meets a fatal error, is stopped by a service, and gets stuck in its boot.
 pub fn law_a_run_with_dead_port_exists()
-    ensures { DiesInAService }
+    ensures { ServiceEndsPortDead }
 {}
 
 /// Without the rule on kept requests a read may go wrong.

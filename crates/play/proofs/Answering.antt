@@ -13,7 +13,7 @@ use Rattle.device_model.specs.ModelState.{device_at, is_starved}
 use Rattle.device_model.specs.declared.model.Model.{Model}
 use Rattle.block_server.specs.Promise.{Simulates}
 use Rattle.block_server.specs.ServerView.{ServerView}
-use Rattle.play.specs.PlayedScript.{Prints, none, call, IsServerOfModel, Played, RanFirstLines}
+use Rattle.play.specs.PlayedScript.{Prints, prints_nothing, prints_call, IsServerOfModel, Played, RanFirstLines}
 
 -- no call keeps the promise, nor do calls after others that keep it break it
 pub record GoOn {A : Type 0} (device : A → Device) : Type 0 where
@@ -23,8 +23,8 @@ pub record GoOn {A : Type 0} (device : A → Device) : Type 0 where
 
 pub all_keep : {A : Type 0} (device : A → Device) (starved : A → Bool) (trace : Bool) → GoOn device → (old new : ServerView A) (shown : ℕ) (calls : List (Call DeviceStep))
     (said : List (CallResult (ArrayVec Reply))) (text last : List ℕ) → Prints device starved trace old new shown calls said text last → Simulates device old new calls said
-all_keep device starved trace laws old new shown calls said text last none = laws.none old
-all_keep device starved trace laws old new shown all said text last (call {mid = mid} {shown = before} {calls = calls} {asked = asked} {said = saying} {one = one} {before = printed} {last = latest} prints fed keeps) =
+all_keep device starved trace laws old new shown calls said text last prints_nothing = laws.none old
+all_keep device starved trace laws old new shown all said text last (prints_call {mid = mid} {shown = before} {calls = calls} {asked = asked} {said = saying} {one = one} {before = printed} {last = latest} prints fed keeps) =
     laws.more old mid new calls (asked ∷ []) saying (one ∷ []) (all_keep device starved trace laws old mid before calls saying printed latest prints) keeps
 
 -- where both tell, the test of both is true
@@ -39,20 +39,20 @@ abbrev pub played_of : {S : Type 0} (size : S → ℕ) (told : S → Option (ℕ
     → IsServerOfModel size told values image blank server → RanFirstLines (device_at size told) is_starved trace script server last old new
     → GoOn (device_at size told) → (model : Model S) → model ≡ last.adapter → Played size told config script image blank trace old new model
 played_of size told config script image blank trace old new values read server last started ran laws model left =
-    let begun = started.made.starts_history in
+    let begun = started.is_initial_server.starts_history in
     record {
       values = values;
-      read = read;
+      config_is_read = read;
       server = server;
-      last = last;
+      last_server = last;
       ran = ran;
       answers = record {
-        started = started;
+        is_server_of_model = started;
         initial_state = begun.0;
-        begun = begun.1;
-        telling = λ image_tells blank_tells.
-            ap (λ (d : Device). d.telling) begun.1.stands.device_is ∙ started.made.takes_over.adapter_is_kept.telling ∙ started.modelled.made.telling_is ∙ ap (λ (b : Bool). b && true) (both_tell _ _ image_tells blank_tells);
-        promise = all_keep (device_at size told) is_starved trace laws server last ran.shown ran.played ran.said ran.text ran.last ran.prints begun.0 [] begun.1;
+        history_begins = begun.1;
+        told_disks_are_told = λ image_tells blank_tells.
+            ap (λ (d : Device). d.telling) begun.1.state_is_at_history_end.device_is ∙ started.is_initial_server.takes_over.adapter_is_kept.telling ∙ started.is_model.is_new_model.telling_is ∙ ap (λ (b : Bool). b && true) (both_tell _ _ image_tells blank_tells);
+        keeps_promise = all_keep (device_at size told) is_starved trace laws server last ran.shown_entry_count ran.played ran.call_results ran.text ran.last_text ran.prints begun.0 [] begun.1;
       };
-      left = left;
+      model_is_adapter_at_end = left;
     }

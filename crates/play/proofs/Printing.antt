@@ -17,9 +17,9 @@ use Rattle.adapter.specs.declared.access.DeviceStep.{DeviceStep}
 use Rattle.adapter.specs.declared.tape.Entry.{Entry}
 use Rattle.block_server.specs.Promise.{Simulates}
 use Rattle.block_server.specs.ServerView.{ServerView}
-use Rattle.script.specs.Script.{Asks, AskForCalls, done, IsFirstLine, IsScript, LineLaws, SplitsAt, asked_lines, lines_of, lines_after}
+use Rattle.script.specs.Script.{Asks, AskForCalls, no_lines, IsFirstLine, IsScript, LineLaws, SplitsAt, asked_calls, lines_of, lines_after}
 use Rattle.play.specs.PrintedText.{call_text}
-use Rattle.play.specs.PlayedScript.{Prints, none, call, PrintsPart, RanFirstLines, RanWholeScript}
+use Rattle.play.specs.PlayedScript.{Prints, prints_nothing, prints_call, PrintsPart, RanFirstLines, RanWholeScript}
 
 pub appends_none : (known : Option (List ℕ)) → Appends known known []
 appends_none None = tt
@@ -70,18 +70,18 @@ module _ {A : Type 0} (device : A → Device) (starved : A → Bool) (trace : Bo
     texts = [];
     cut = cut;
     played = [];
-    asks = done;
+    asks = no_lines;
     said = [];
     text = [];
     last = [];
-    prints = none;
+    prints = prints_nothing;
     printed = appends_none before;
   }
 
   -- the lines of one text more
   asks_more : (laws : LineLaws) (texts : List (List ℕ)) (played : List (Call DeviceStep)) (text : List ℕ) (asked : Option (Call DeviceStep)) → AskForCalls texts played → Asks text asked
-      → AskForCalls (texts ++ text ∷ []) (played ++ asked_lines asked)
-  asks_more laws texts played text asked asks more = laws.asked_lists_join texts (text ∷ []) played (asked_lines asked) asks (laws.one_line_asks text asked more)
+      → AskForCalls (texts ++ text ∷ []) (played ++ asked_calls asked)
+  asks_more laws texts played text asked asks more = laws.asked_lists_join texts (text ∷ []) played (asked_calls asked) asks (laws.one_line_asks text asked more)
 
   cut_on : (texts : List (List ℕ)) (text : List ℕ) (left : Option (Bor (List ℕ))) → all ≡ texts ++ text ∷ lines_after left
       → all ≡ (texts ++ text ∷ []) ++ lines_after left
@@ -113,12 +113,12 @@ module _ {A : Type 0} (device : A → Device) (starved : A → Bool) (trace : Bo
     cut = cut_on so_far.texts text left (cut_more all so_far.texts t.now text left so_far.cut is);
     played = so_far.played ++ asked ∷ [];
     asks = asks_more laws so_far.texts so_far.played text (Some asked) so_far.asks asks;
-    said = so_far.said ++ p.one ∷ [];
+    said = so_far.said ++ p.call_result ∷ [];
     text = so_far.text ++ so_far.last;
-    last = call_text trace shown (device next.adapter).tape p.one;
-    prints = call so_far.prints fed p.keeps;
+    last = call_text trace shown (device next.adapter).tape p.call_result;
+    prints = prints_call so_far.prints fed p.simulates;
     printed = appends_more before mid after (so_far.text ++ so_far.last) _ so_far.printed
-        (subst (λ (printed : List ℕ). Appends mid after printed) (take_all p.part p.text whole ∙ p.text_is) p.printed);
+        (subst (λ (printed : List ℕ). Appends mid after printed) (take_all p.part p.text whole ∙ p.text_is) p.part_is_printed);
   }
 
 module _ {A : Type 0} (device : A → Device) (starved : A → Bool) (trace : Bool) (first : ServerView A) (script : List ℕ) where
@@ -131,19 +131,19 @@ module _ {A : Type 0} (device : A → Device) (starved : A → Bool) (trace : Bo
     record {
       played = so_far.played ++ asked ∷ [];
       rest = from.rest;
-      asks = subst (λ (texts : List (List ℕ)). AskForCalls texts ((so_far.played ++ asked ∷ []) ++ from.rest))
+      is_script = subst (λ (texts : List (List ℕ)). AskForCalls texts ((so_far.played ++ asked ∷ []) ++ from.rest))
           (sym (cut_on device starved trace first (lines_of script) so_far.texts text left (cut_more (lines_of script) so_far.texts t.now text left so_far.cut is)))
           (laws.asked_lists_join (so_far.texts ++ text ∷ []) (lines_after left) (so_far.played ++ asked ∷ []) from.rest
           (asks_more device starved trace first (lines_of script) laws so_far.texts so_far.played text (Some asked) so_far.asks asks) from.after_ask);
-      shown = length (device next.adapter).tape;
-      said = so_far.said ++ p.one ∷ [];
+      shown_entry_count = length (device next.adapter).tape;
+      call_results = so_far.said ++ p.call_result ∷ [];
       text = so_far.text ++ so_far.last;
-      last = call_text trace shown (device next.adapter).tape p.one;
-      prints = call so_far.prints fed p.keeps;
+      last_text = call_text trace shown (device next.adapter).tape p.call_result;
+      prints = prints_call so_far.prints fed p.simulates;
       part = p.part;
-      printed = appends_more before mid after (so_far.text ++ so_far.last) _ so_far.printed
-          (subst (λ (whole : List ℕ). Appends mid after (take p.part whole)) p.text_is p.printed);
-      silent = p.silent;
+      text_is_printed = appends_more before mid after (so_far.text ++ so_far.last) _ so_far.printed
+          (subst (λ (whole : List ℕ). Appends mid after (take p.part whole)) p.text_is p.part_is_printed);
+      starved_prints_nothing = p.starved_prints_nothing;
     },
     refl,
   )
@@ -154,15 +154,15 @@ module _ {A : Type 0} (device : A → Device) (starved : A → Bool) (trace : Bo
     record {
       played = [];
       rest = lines;
-      asks = asks;
-      shown = 0;
-      said = [];
+      is_script = asks;
+      shown_entry_count = 0;
+      call_results = [];
       text = [];
-      last = [];
-      prints = none;
+      last_text = [];
+      prints = prints_nothing;
       part = 0;
-      printed = appends_none before;
-      silent = λ is. refl;
+      text_is_printed = appends_none before;
+      starved_prints_nothing = λ is. refl;
     },
     refl,
   )
@@ -174,18 +174,18 @@ module _ {A : Type 0} (device : A → Device) (starved : A → Bool) (trace : Bo
     record {
       played = so_far.played;
       rest = [];
-      asks = subst (λ (lines : List (Call DeviceStep)). AskForCalls (lines_of script) lines) (sym (append-nil so_far.played))
+      is_script = subst (λ (lines : List (Call DeviceStep)). AskForCalls (lines_of script) lines) (sym (append-nil so_far.played))
           (subst (λ (texts : List (List ℕ)). AskForCalls texts so_far.played) (sym (so_far.cut ∙ append-nil so_far.texts)) so_far.asks);
-      shown = shown;
-      said = so_far.said;
+      shown_entry_count = shown;
+      call_results = so_far.said;
       text = so_far.text;
-      last = so_far.last;
+      last_text = so_far.last;
       prints = so_far.prints;
       part = length so_far.last;
-      printed = subst (λ (part : List ℕ). Appends before after (so_far.text ++ part)) (sym (take_all (length so_far.last) so_far.last (omega arith))) so_far.printed;
-      silent = λ is. absurd (false≢true (sym fed ∙ is));
+      text_is_printed = subst (λ (part : List ℕ). Appends before after (so_far.text ++ part)) (sym (take_all (length so_far.last) so_far.last (omega arith))) so_far.printed;
+      starved_prints_nothing = λ is. absurd (false≢true (sym fed ∙ is));
     },
-    record { played = refl; printed = omega arith; is_not_starved = fed },
+    record { all_is_played = refl; all_is_printed = omega arith; is_not_starved = fed },
   )
 
 -- a call whose text is these bytes, of which a part was printed
@@ -194,13 +194,13 @@ abbrev pub part_of : {A : Type 0} (device : A → Device) (starved : A → Bool)
     → tape ≡ (device new.adapter).tape → bytes ≡ call_text trace shown tape one → Appends before after (take part bytes)
     → (starved new.adapter ≡ true → part ≡ 0) → PrintsPart device starved trace shown asked old new before after
 part_of device starved trace shown asked one old new before after part bytes tape keeps tape_is bytes_are printed silent = record {
-  one = one;
-  keeps = keeps;
+  call_result = one;
+  simulates = keeps;
   text = bytes;
   text_is = bytes_are ∙ ap (λ (t : List Entry). call_text trace shown t one) tape_is;
   part = part;
-  printed = printed;
-  silent = silent;
+  part_is_printed = printed;
+  starved_prints_nothing = silent;
 }
 
 -- some bytes were written, and then some of those after them

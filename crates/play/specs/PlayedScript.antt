@@ -20,7 +20,7 @@ use Rattle.device_model.specs.ModelState.{IsNewModel, device_at, is_starved}
 use Rattle.device_model.specs.declared.config.ModelConfig.{ModelConfig}
 use Rattle.device_model.specs.declared.disks.Disks.{Disks}
 use Rattle.device_model.specs.declared.model.Model.{Model}
-use Rattle.script.specs.Script.{IsFirstBad, IsScript}
+use Rattle.script.specs.Script.{IsFirstBadLine, IsScript}
 use Rattle.script.specs.declared.script.BadLine.{BadLine as FirstBad}
 use Rattle.sector_store.specs.declared.pages.Trim.{Trim}
 use Rattle.sector_store.specs.declared.pages.Trim.TheVariants.{Full, Weak, Without}
@@ -42,7 +42,7 @@ trim_word Without = codes "none"
 -- The model is as the configuration says, and has all four ports.
 pub record SettingsMatchConfig (config : Config) (settings : ModelConfig) : Type 0 where
   pub frames : settings.frames ≡ config.frames
-  pub ports : settings.pi ≡ 0x0f
+  pub pi_has_ports_0_to_3 : settings.pi ≡ 0x0f
   pub slots : settings.slots ≡ config.slots
   pub queuing : settings.ncq ≡ config.ncq
   pub depth : settings.depth ≡ config.depth
@@ -53,8 +53,8 @@ pub record SettingsMatchConfig (config : Config) (settings : ModelConfig) : Type
 pub record IsModelWith {S : Type 0} (size : S → ℕ) (told : S → Option (ℕ → List ℕ)) (config : Config) (disks : Disks S)
     (m : Model S) : Type 0 where
   pub settings : ModelConfig
-  pub set : SettingsMatchConfig config settings
-  pub made : IsNewModel size told settings disks m
+  pub settings_match_config : SettingsMatchConfig config settings
+  pub is_new_model : IsNewModel size told settings disks m
 
 -- the image is disk 0 of port 0, which is in it, and the blank disk is its disk 1; no other port has disks
 abbrev pub IsModelOf : {S : Type 0} → (S → ℕ) → (S → Option (ℕ → List ℕ)) → Config → (image blank : S) → Model S
@@ -68,28 +68,29 @@ pub record IsServerOfModel {S : Type 0} (size : S → ℕ) (told : S → Option 
     (image blank : S)
     (server : ServerView (Model S)) : Type 0 where
   pub model : Model S
-  pub modelled : IsModelOf size told config image blank model
-  pub made : IsInitialServer (device_at size told) config model server
+  pub is_model : IsModelOf size told config image blank model
+  pub is_initial_server : IsInitialServer (device_at size told) config model server
 
 -- What these calls answered, from this server to that one, keeps the server's promise. The history begins where a new
 -- server stands, of this configuration and of a model of image and blank disk; and where both disks tell their sectors,
 -- the adapter's disks do.
-pub record AreAnswers {S : Type 0} (size : S → ℕ) (told : S → Option (ℕ → List ℕ)) (config : Config) (image blank : S)
+pub record AnswersKeepPromise {S : Type 0} (size : S → ℕ) (told : S → Option (ℕ → List ℕ)) (config : Config)
+    (image blank : S)
     (server last : ServerView (Model S)) (calls : List (Call DeviceStep))
     (said : List (CallResult (ArrayVec Reply))) : Type 0 where
-  pub started : IsServerOfModel size told config image blank server
+  pub is_server_of_model : IsServerOfModel size told config image blank server
   pub initial_state : JointState Device
-  pub begun : LeadsToServer initial_state [] (server_of (device_at size told) server)
-  pub telling : IsSome (told image) → IsSome (told blank) → initial_state.device.telling ≡ true
-  pub promise : KeepsPromise (device_at size told) initial_state [] server last calls said
+  pub history_begins : LeadsToServer initial_state [] (server_of (device_at size told) server)
+  pub told_disks_are_told : IsSome (told image) → IsSome (told blank) → initial_state.device.telling ≡ true
+  pub keeps_promise : KeepsPromise (device_at size told) initial_state [] server last calls said
 
 -- These calls lead from the old server to the new one, say this in turn, and keep the server's promise each; none is
 -- made of an adapter that is starved. The text of the last call stands by itself, after that of those before it; where
 -- there is none, both are empty. So many entries of the tape count as shown then: all, once a call was made.
 pub data Prints {A : Type 0} (device : A → Device) (starved : A → Bool) (trace : Bool) (old : ServerView A)
     : ServerView A → ℕ → List (Call DeviceStep) → List (CallResult (ArrayVec Reply)) → List ℕ → List ℕ → Type 0 where
-  none : Prints device starved trace old old 0 [] [] [] []
-  call : {mid new : ServerView A} {shown : ℕ} {calls : List (Call DeviceStep)} {asked : Call DeviceStep}
+  prints_nothing : Prints device starved trace old old 0 [] [] [] []
+  prints_call : {mid new : ServerView A} {shown : ℕ} {calls : List (Call DeviceStep)} {asked : Call DeviceStep}
       {said : List (CallResult (ArrayVec Reply))} {one : CallResult (ArrayVec Reply)}
       {before last : List ℕ}
       → Prints device starved trace old mid shown calls said before last → starved mid.adapter ≡ false
@@ -103,13 +104,13 @@ pub data Prints {A : Type 0} (device : A → Device) (starved : A → Bool) (tra
 pub record PrintsPart {A : Type 0} (device : A → Device) (starved : A → Bool) (trace : Bool) (shown : ℕ)
     (asked : Call DeviceStep) (old new : ServerView A)
     (before after : Option (List ℕ)) : Type 0 where
-  pub one : CallResult (ArrayVec Reply)
-  pub keeps : Simulates device old new (asked ∷ []) (one ∷ [])
+  pub call_result : CallResult (ArrayVec Reply)
+  pub simulates : Simulates device old new (asked ∷ []) (call_result ∷ [])
   pub text : List ℕ
-  pub text_is : text ≡ call_text trace shown (device new.adapter).tape one
+  pub text_is : text ≡ call_text trace shown (device new.adapter).tape call_result
   pub part : ℕ
-  pub printed : Appends before after (take part text)
-  pub silent : starved new.adapter ≡ true → part ≡ 0
+  pub part_is_printed : Appends before after (take part text)
+  pub starved_prints_nothing : starved new.adapter ≡ true → part ≡ 0
 
 -- ---- the whole
 
@@ -121,23 +122,23 @@ pub record RanFirstLines {A : Type 0} (device : A → Device) (starved : A → B
     (before after : Option (List ℕ)) : Type 0 where
   pub played : List (Call DeviceStep)
   pub rest : List (Call DeviceStep)
-  pub asks : IsScript script (played ++ rest)
-  pub shown : ℕ
-  pub said : List (CallResult (ArrayVec Reply))
+  pub is_script : IsScript script (played ++ rest)
+  pub shown_entry_count : ℕ
+  pub call_results : List (CallResult (ArrayVec Reply))
   pub text : List ℕ
-  pub last : List ℕ
-  pub prints : Prints device starved trace old new shown played said text last
+  pub last_text : List ℕ
+  pub prints : Prints device starved trace old new shown_entry_count played call_results text last_text
   pub part : ℕ
-  pub printed : Appends before after (text ++ take part last)
-  pub silent : starved new.adapter ≡ true → part ≡ 0
+  pub text_is_printed : Appends before after (text ++ take part last_text)
+  pub starved_prints_nothing : starved new.adapter ≡ true → part ≡ 0
 
 -- all of it was played and printed, and nothing was left out
 pub record RanWholeScript {A : Type 0} {device : A → Device} {starved : A → Bool} {trace : Bool} {script : List ℕ}
     {old new : ServerView A}
     {before after : Option (List ℕ)} (ran : RanFirstLines device starved trace script old new before after) : Type 0
   where
-    pub played : ran.rest ≡ []
-    pub printed : length ran.last ≤ ran.part
+    pub all_is_played : ran.rest ≡ []
+    pub all_is_printed : length ran.last_text ≤ ran.part
     pub is_not_starved : starved new.adapter ≡ false
 
 -- The configuration's text and the whole script were read. A new server was asked what the first lines ask, and of what
@@ -148,12 +149,12 @@ pub record Played {S : Type 0} (size : S → ℕ) (told : S → Option (ℕ → 
     (image blank : S) (trace : Bool)
     (old new : Option (List ℕ)) (model : Model S) : Type 0 where
   pub values : Config
-  pub read : TextReadsAs config values
+  pub config_is_read : TextReadsAs config values
   pub server : ServerView (Model S)
-  pub last : ServerView (Model S)
-  pub ran : RanFirstLines (device_at size told) is_starved trace script server last old new
-  pub answers : AreAnswers size told values image blank server last ran.played ran.said
-  pub left : model ≡ last.adapter
+  pub last_server : ServerView (Model S)
+  pub ran : RanFirstLines (device_at size told) is_starved trace script server last_server old new
+  pub answers : AnswersKeepPromise size told values image blank server last_server ran.played ran.call_results
+  pub model_is_adapter_at_end : model ≡ last_server.adapter
 
 -- what a fault of a configuration's text ends a run as
 abbrev pub ended_by_config : ConfigFault → Ended
@@ -178,24 +179,27 @@ IsWhyItStopped starved part stop.Unwritten = starved ≡ false
 
 -- Why nothing is played: the configuration has a fault, or it has none and the script has a bad line, or memory was
 -- refused.
-abbrev pub IsRefused : List ℕ → List ℕ → Ended → Type 0
-IsRefused config script (BadConfig kind) = IsTextFault config kind
-IsRefused config script (BadLine number) = (values : Config) × TextReadsAs config values × IsFirstBad script number
-IsRefused config script NoMemory = Unit {0}
-IsRefused config script Done = ⊥
-IsRefused config script Unwritten = ⊥
+abbrev pub IsWhyNothingIsPlayed : List ℕ → List ℕ → Ended → Type 0
+IsWhyNothingIsPlayed config script (BadConfig kind) = IsTextFault config kind
+IsWhyNothingIsPlayed config script (BadLine number) = (values : Config) × TextReadsAs config values
+    × IsFirstBadLine script number
+IsWhyNothingIsPlayed config script NoMemory = Unit {0}
+IsWhyNothingIsPlayed config script Done = ⊥
+IsWhyNothingIsPlayed config script Unwritten = ⊥
 
 -- How it ended, with what the output was and is, and the model that it gives back. With one, lines were played: it is
 -- done where all of them were, and printed; else the first ones were, and why it stopped is told. Where the output
 -- failed, the model isn't starved; where memory was refused, nothing of the last line is printed, and the model says
 -- whether the memory was refused to it. Without a model nothing is printed.
-abbrev pub Ends : {S : Type 0} → (S → ℕ) → (S → Option (ℕ → List ℕ)) → List ℕ → List ℕ → S → S → Bool → Option (List ℕ)
+abbrev pub EndsPlay : {S : Type 0} → (S → ℕ) → (S → Option (ℕ → List ℕ)) → List ℕ → List ℕ → S → S → Bool
+    → Option (List ℕ)
     → Option (List ℕ) → Ended → Option (Model S) → Type 0
-Ends size told config script image blank trace old new Done (Some model) =
+EndsPlay size told config script image blank trace old new Done (Some model) =
     (played : Played size told config script image blank trace old new model) × RanWholeScript played.ran
-Ends size told config script image blank trace old new Unwritten (Some model) =
+EndsPlay size told config script image blank trace old new Unwritten (Some model) =
     Played size told config script image blank trace old new model × (is_starved model ≡ false)
-Ends size told config script image blank trace old new NoMemory (Some model) =
+EndsPlay size told config script image blank trace old new NoMemory (Some model) =
     (played : Played size told config script image blank trace old new model) × (played.ran.part ≡ 0)
-Ends size told config script image blank trace old new ended (Some model) = ⊥
-Ends size told config script image blank trace old new ended None = IsRefused config script ended × (new ≡ old)
+EndsPlay size told config script image blank trace old new ended (Some model) = ⊥
+EndsPlay size told config script image blank trace old new ended None = IsWhyNothingIsPlayed config script ended
+    × (new ≡ old)

@@ -26,24 +26,24 @@ replies_text [] = answer_line answer.Quiet
 replies_text (reply ∷ replies) = flat_map (λ r. answer_line (answer.Replied r)) (reply ∷ replies)
 
 -- that the call is done, and a line for each reply
-abbrev pub done_text : List Reply → List ℕ
-done_text replies = answer_line answer.Done ++ flat_map (λ r. answer_line (answer.Replied r)) replies
+abbrev pub reset_text : List Reply → List ℕ
+reset_text replies = answer_line answer.Done ++ flat_map (λ r. answer_line (answer.Replied r)) replies
 
 -- what a call said
-abbrev pub said_text : CallResult (ArrayVec Reply) → List ℕ
-said_text (said.Submitted (Ok id)) = answer_line (answer.Accepted id)
-said_text (said.Submitted (Err refusal)) = answer_line (answer.Refused refusal)
-said_text (said.Stored (Ok done)) = answer_line answer.Stored
-said_text (said.Stored (Err fault)) = answer_line (answer.Barred fault)
-said_text (said.Loaded (Ok bytes)) = answer_line (answer.Bytes (as_reference bytes.items))
-said_text (said.Loaded (Err fault)) = answer_line (answer.Barred fault)
-said_text (said.Served replies) = replies_text replies.items
-said_text (said.WasReset (Ok replies)) = done_text replies.items
-said_text (said.WasReset (Err stuck)) = answer_line answer.Stuck
-said_text (said.WasRevoked (Ok replies)) = done_text replies.items
-said_text (said.WasRevoked (Err none)) = answer_line (answer.Refused (refusal.Rule NoGrant))
-said_text (said.State state) = answer_line (answer.State state)
-said_text (said.Stepped done) = answer_line (answer.Stepped done)
+abbrev pub call_result_text : CallResult (ArrayVec Reply) → List ℕ
+call_result_text (said.Submitted (Ok id)) = answer_line (answer.Accepted id)
+call_result_text (said.Submitted (Err refusal)) = answer_line (answer.Refused refusal)
+call_result_text (said.Stored (Ok done)) = answer_line answer.Stored
+call_result_text (said.Stored (Err fault)) = answer_line (answer.AccessRefused fault)
+call_result_text (said.Loaded (Ok bytes)) = answer_line (answer.Bytes (as_reference bytes.items))
+call_result_text (said.Loaded (Err fault)) = answer_line (answer.AccessRefused fault)
+call_result_text (said.Replied replies) = replies_text replies.items
+call_result_text (said.WasReset (Ok replies)) = reset_text replies.items
+call_result_text (said.WasReset (Err stuck)) = answer_line answer.Stuck
+call_result_text (said.WasRevoked (Ok replies)) = reset_text replies.items
+call_result_text (said.WasRevoked (Err none)) = answer_line (answer.Refused (refusal.Rule NoGrant))
+call_result_text (said.State state) = answer_line (answer.State state)
+call_result_text (said.Stepped done) = answer_line (answer.Stepped done)
 
 -- a flush that has ended has a line, and no other command has
 abbrev pub end_text : Operation → Done → List ℕ
@@ -71,4 +71,4 @@ trace_text false shown tape = []
 -- what is printed of a call: with a trace, what the tape has gained past the entries that were shown before, and then
 -- what the call said
 abbrev pub call_text : Bool → ℕ → List Entry → CallResult (ArrayVec Reply) → List ℕ
-call_text trace shown tape one = trace_text trace shown tape ++ said_text one
+call_text trace shown tape one = trace_text trace shown tape ++ call_result_text one

@@ -35,8 +35,8 @@ pub fn new_model<S: SectorStore>(
     blank: S,
 ) -> Result<Model<S>, NoMemory>
     requires { LacksEveryFault config.now }
-    ensures ready { IfOk result (λ m. IsReadyFor config.now (device_at S.size S.told m)) }
-    ensures made { IfOk result (IsModelOf S.size S.told config.now image blank) }
+    ensures is_ready_for_config { IfOk result (λ m. IsReadyFor config.now (device_at S.size S.told m)) }
+    ensures is_model { IfOk result (IsModelOf S.size S.told config.now image blank) }
 {
     new_model_of_disks(alloc, config, Disks::of_port_0(image, blank))
 }
@@ -49,8 +49,8 @@ pub fn new_model_of_disks<S: SectorStore>(
     disks: Disks<S>,
 ) -> Result<Model<S>, NoMemory>
     requires { LacksEveryFault config.now }
-    ensures ready { IfOk result (λ m. IsReadyFor config.now (device_at S.size S.told m)) }
-    ensures made { IfOk result (IsModelWith S.size S.told config.now disks) }
+    ensures is_ready_for_config { IfOk result (λ m. IsReadyFor config.now (device_at S.size S.told m)) }
+    ensures is_model { IfOk result (IsModelWith S.size S.told config.now disks) }
 {
     let settings = ModelConfig {
         frames: config.frames as u16,

@@ -1,11 +1,8 @@
 // What is printed of a call.
-ghost use Rattle.std.specs.Prelude.{◌≡◌, ◌≢◌, ◌≤◌, ℕ, IfErr, OnOk, length, take};
-ghost use Rattle.std.specs.Io.KnownBytes.{Appends};
-ghost use Rattle.std.specs.declared.io.ErrorKind.TheVariants.{Interrupted};
+ghost use Rattle.std.specs.{Prelude.{◌≡◌, ◌≢◌, ◌≤◌, ℕ, IfErr, OnOk, length, take}, Io.KnownBytes.{Appends}, declared.io.ErrorKind.TheVariants.{Interrupted}, List.{flat_map}};
 ghost use Rattle.block_server.specs.CallResults.{with_replies};
-ghost use Rattle.play.specs.PrintedText.{call_text, end_text, entries_text, replies_text, done_text, said_text, trace_text};
+ghost use Rattle.play.specs.PrintedText.{call_text, end_text, entries_text, replies_text, reset_text, call_result_text, trace_text};
 ghost use Rattle.script.specs.Answer.{answer_line};
-ghost use Rattle.std.specs.List.{flat_map};
 
 use adapter::{Done, Entry, Operation};
 use ata_types::{CallResult, Refusal, Reply, Rule};
@@ -52,7 +49,7 @@ fn print_replies<W: io::Write>(out: &mut W, replies: &[Reply]) -> io::Result<()>
 
 /// Prints that the call is done, and a line for each reply.
 fn print_done<W: io::Write>(out: &mut W, replies: &[Reply]) -> io::Result<()>
-    ensures { OnOk result (Appends (W.contents out.old) (W.contents out.new) (done_text replies.now)) }
+    ensures { OnOk result (Appends (W.contents out.old) (W.contents out.new) (reset_text replies.now)) }
 {
     Answer::Done.print(out)?;
     print_each(out, replies)
@@ -61,7 +58,7 @@ fn print_done<W: io::Write>(out: &mut W, replies: &[Reply]) -> io::Result<()>
 /// Prints what a call said, of which the replies of a service, a tick, a reset or a revocation stand in a list.
 fn print_said<W: io::Write>(out: &mut W, said: &CallResult<()>, replies: &[Reply]) -> io::Result<()>
     ensures { OnOk result
-        (Appends (W.contents out.old) (W.contents out.new) (said_text (with_replies said.now replies.now))) }
+        (Appends (W.contents out.old) (W.contents out.new) (call_result_text (with_replies said.now replies.now))) }
 {
     match said {
         CallResult::Submitted(Ok(id)) => Answer::Accepted(*id).print(out),
@@ -69,9 +66,9 @@ fn print_said<W: io::Write>(out: &mut W, said: &CallResult<()>, replies: &[Reply
         CallResult::Stored(Ok(())) => Answer::Stored.print(out),
         CallResult::Loaded(Ok(bytes)) => Answer::Bytes(bytes.as_slice()).print(out),
         CallResult::Stored(Err(fault)) | CallResult::Loaded(Err(fault)) => {
-            Answer::Barred(*fault).print(out)
+            Answer::AccessRefused(*fault).print(out)
         }
-        CallResult::Served(()) => print_replies(out, replies),
+        CallResult::Replied(()) => print_replies(out, replies),
         CallResult::WasReset(Ok(())) | CallResult::WasRevoked(Ok(())) => print_done(out, replies),
         CallResult::WasReset(Err(_)) => Answer::Stuck.print(out),
         CallResult::WasRevoked(Err(_)) => Answer::Refused(Refusal::Rule(Rule::NoGrant)).print(out),

@@ -1,18 +1,12 @@
 // A script, played from its first line to its last.
-ghost use Rattle.std.specs.Prelude.{◌≡◌, ◌≤◌, ◌∷◌, ◌⊎◌, [], false, List, None, Err, IfOk, IfErr, IfSome, OnOk, Some, length};
-ghost use Rattle.std.specs.Vec.{vec_capacity};
-ghost use Rattle.ata_types.specs.declared.call.Call.{Call};
-ghost use Rattle.ata_types.specs.declared.call.CallResult.{CallResult};
+ghost use Rattle.std.specs.{Prelude.{◌≡◌, ◌≤◌, ◌∷◌, ◌⊎◌, [], false, List, None, Err, IfOk, IfErr, IfSome, OnOk, Some, length}, Vec.{vec_capacity}};
+ghost use Rattle.ata_types.specs.{declared.call.Call.{Call}, declared.call.CallResult.{CallResult}};
 ghost use Rattle.adapter.specs.declared.access.DeviceStep.{DeviceStep};
-ghost use Rattle.block_server.specs.CallResults.{with_replies};
-ghost use Rattle.block_server.specs.InitialServer.{IsInitialServer, IsReadyFor};
-ghost use Rattle.block_server.specs.Promise.{Simulates};
-ghost use Rattle.block_server.specs.ServerView.{ServerView};
-ghost use Rattle.configuration.specs.Document.{TextReadsAs};
-ghost use Rattle.configuration.specs.Rules.{LacksEveryFault};
+ghost use Rattle.block_server.specs.{CallResults.{with_replies}, InitialServer.{IsInitialServer, IsReadyFor}, Promise.{Simulates}, ServerView.{ServerView}};
+ghost use Rattle.configuration.specs.{Document.{TextReadsAs}, Rules.{LacksEveryFault}};
 ghost use Rattle.script.specs.Script.{IsScript};
 ghost use Rattle.device_model.specs.ModelState.{device_at, is_starved};
-ghost use Rattle.play.specs.PlayedScript.{Ends, IsRefused, IsServerOfModel, RanWholeScript, IsWhyItStopped, PrintsPart, RanFirstLines};
+ghost use Rattle.play.specs.PlayedScript.{EndsPlay, IsWhyNothingIsPlayed, IsServerOfModel, RanWholeScript, IsWhyItStopped, PrintsPart, RanFirstLines};
 
 use crate::model_setup::new_model;
 use crate::printed::{print_call, write_out};
@@ -48,7 +42,7 @@ pub enum Ended {
 
 /// How a run ended, and what it left.
 #[derive(Drop)]
-pub struct Finished<S: SectorStore> {
+pub struct PlayResult<S: SectorStore> {
     pub ended: Ended,
     /// The model, with its disks, as the last line that was played left it. There is none where the run had no server
     /// to ask.
@@ -112,8 +106,8 @@ impl From<BadLine> for Ended {
 /// The values of a configuration's text, where the lines of the script are good, too.
 pub fn parse_inputs(alloc: Global, config: &[u8], script: &[u8]) -> Result<Config, Ended>
     ensures read { IfOk result (TextReadsAs config.now) }
-    ensures good { OnOk result ((calls : List (Call DeviceStep)) × IsScript script.now calls) }
-    ensures refused { IfErr result (IsRefused config.now script.now) }
+    ensures is_script { OnOk result ((calls : List (Call DeviceStep)) × IsScript script.now calls) }
+    ensures refused { IfErr result (IsWhyNothingIsPlayed config.now script.now) }
 {
     let values = Config::parse(alloc, config)?;
     check_script(script)?;
@@ -198,7 +192,7 @@ fn play_line<A: TapedAdapter, W: io::Write>(
 {
     make_call(server, call, &mut room.said);
     let adapter = server.adapter();
-    let is_starved = adapter.has_ended();
+    let is_starved = adapter.is_exhausted();
     if is_starved {
         return Err(PlayError::NoMemory);
     }
@@ -237,7 +231,7 @@ fn play_lines<A: TapedAdapter, W: io::Write>(
         × OnOk result (RanWholeScript ran) × IfErr result (IsWhyItStopped (A.ended server.new.adapter) ran.part) }
 {
     law_lines_are_asked_in_turn();
-    if server.adapter().has_ended() {
+    if server.adapter().is_exhausted() {
         return Err(PlayError::NoMemory);
     }
     let mut said = CallResults::new(alloc);
@@ -264,12 +258,25 @@ fn play_lines<A: TapedAdapter, W: io::Write>(
     Ok(())
 }
 
+/// What a play is of: the text of a configuration, a script, and the two disks of port 0.
+#[derive(Drop)]
+pub struct PlayInputs<'a, S: SectorStore> {
+    pub config: &'a [u8],
+    pub script: &'a [u8],
+    /// Disk 0 of port 0.
+    pub image: S,
+    /// Disk 1 of port 0.
+    pub blank: S,
+    /// Whether what the tape gains is printed, too.
+    pub trace: bool,
+}
+
 /// The end of a run that had no server to ask.
-fn unbegun<S: SectorStore>(ended: Ended) -> Finished<S>
+fn unbegun<S: SectorStore>(ended: Ended) -> PlayResult<S>
     ensures ended { result.ended ≡ ended }
     ensures model { result.model ≡ None }
 {
-    Finished { ended, model: None }
+    PlayResult { ended, model: None }
 }
 
 /// Plays a script against a new server of this configuration over this adapter, and prints at once what each line
@@ -284,16 +291,17 @@ pub fn play_adapter<A: TapedAdapter + Drop, W: io::Write>(
     trace: bool,
     out: &mut W,
 ) -> (Result<(), PlayError>, Option<A>)
-    requires sound { LacksEveryFault config.now }
-    requires good { (calls : List (Call DeviceStep)) × IsScript script.now calls }
-    requires ready { IsReadyFor config.now (A.device adapter) }
-    ensures left { IfSome result.1 (λ left. ((left ≡ adapter) × (result.0 ≡ Err PlayError.NoMemory)
+    requires lacks_every_fault { LacksEveryFault config.now }
+    requires is_script { (calls : List (Call DeviceStep)) × IsScript script.now calls }
+    requires is_ready_for_config { IsReadyFor config.now (A.device adapter) }
+    ensures adapter_is_given_back { IfSome result.1 (λ left. ((left ≡ adapter) × (result.0 ≡ Err PlayError.NoMemory)
         × (W.contents out.new ≡ W.contents out.old))
         ⊎ ((server last : ServerView A) × IsInitialServer A.device config.now adapter server
         × (left ≡ last.adapter)
         × (ran : RanFirstLines A.device A.ended trace script.now server last (W.contents out.old) (W.contents out.new))
         × OnOk result.0 (RanWholeScript ran) × IfErr result.0 (IsWhyItStopped (A.ended last.adapter) ran.part))) }
-    ensures none { result.1 ≡ None → (result.0 ≡ Err PlayError.NoMemory) × (W.contents out.new ≡ W.contents out.old) }
+    ensures no_adapter_means_no_memory { result.1 ≡ None → (result.0 ≡ Err PlayError.NoMemory)
+        × (W.contents out.new ≡ W.contents out.old) }
 {
     // The configuration is sound, so memory is all that can be wanting.
     let server = match Server::new(alloc, config, adapter) {
@@ -319,32 +327,28 @@ pub fn play_adapter<A: TapedAdapter + Drop, W: io::Write>(
 /// memory was refused. The model is given back as that line left it.
 pub fn play<S: SectorStore, W: io::Write>(
     alloc: Global,
-    config: &[u8],
-    script: &[u8],
-    image: S,
-    blank: S,
-    trace: bool,
+    inputs: PlayInputs<S>,
     out: &mut W,
-) -> Finished<S>
-    ensures { Ends S.size S.told config.now script.now image blank trace (W.contents out.old) (W.contents out.new)
-        result.ended result.model }
+) -> PlayResult<S>
+    ensures { let its = inputs.entry in EndsPlay S.size S.told its.config.now its.script.now its.image its.blank
+        its.trace (W.contents out.old) (W.contents out.new) result.ended result.model }
 {
-    let values = match parse_inputs(alloc, config, script) {
+    let values = match parse_inputs(alloc, inputs.config, inputs.script) {
         Ok(values) => values,
         Err(ended) => return unbegun(ended),
     };
-    let Ok(mut server) = start(alloc, &values, image, blank) else {
+    let Ok(mut server) = start(alloc, &values, inputs.image, inputs.blank) else {
         return unbegun(Ended::NoMemory);
     };
     law_runs_keep_their_promise::<Model<S>>();
-    let performed = play_lines(alloc, &mut server, script, trace, out);
+    let performed = play_lines(alloc, &mut server, inputs.script, inputs.trace, out);
     let model = Some(close_server(server));
     match performed {
-        Ok(()) => Finished {
+        Ok(()) => PlayResult {
             ended: Ended::Done,
             model,
         },
-        Err(stop) => Finished {
+        Err(stop) => PlayResult {
             ended: Ended::from(stop),
             model,
         },

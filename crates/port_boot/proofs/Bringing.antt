@@ -8,18 +8,18 @@ use Rattle.hba_regs.specs.declared.reg.PortReg.{PortReg}
 use Rattle.adapter.specs.Access.{Access}
 use Rattle.adapter.specs.Device.{Notes, Device}
 use Rattle.adapter.specs.declared.tape.Entry.{Entry}
-use Rattle.refinement.specs.Fragments.{AnyUse, IsPortAccessWriting, IsSimulated, IsSimulatedAlong}
+use Rattle.refinement.specs.Fragments.{AnySlotStates, ReadsPortOrWrites, IsSimulated, IsSimulatedAlong}
 use Rattle.refinement.specs.Driver.{AllFree}
 use Rattle.refinement.specs.Slots.{SlotStates}
 use Rattle.refinement.specs.Fragments.{TapeGrows}
-use Rattle.port_control.specs.Calls.{FindsDisk, FindsFault, StaysReceiving, Starts}
+use Rattle.port_control.specs.Calls.{ResetsAndFindsDisk, ResetsAndFindsFault, StaysReceiving, Starts}
 use Rattle.port_control.specs.Engines.{StopsReceiving}
-use Rattle.port_control.specs.Ports.{IsCommandRegister, IsPlacingRegister, IsResetRegister, ReceivesFises, BacksFault, SendsComresetThen, IsDeviceFound}
+use Rattle.port_control.specs.Ports.{IsCommandRegister, IsPlacingRegister, IsResetRegister, IsStoppedReceiving, BacksFault, SendsComresetThen, IsDeviceFound}
 use Rattle.port_control.specs.declared.PortFault.{PortFault}
 use Rattle.port_control.specs.declared.PortFault.TheVariants.{NoDevice, Busy, EngineStuck, NotAta}
 use Rattle.port_boot.specs.States.{BacksState, IsBootRegister, IsBootable, IsBroughtUp, EndsBeforeStart, IsStateOfFault}
 use Rattle.port_boot.specs.Laws.SlotCondition.{AnyUses, PortUnused}
-use Rattle.port_boot.specs.Laws.RegisterSet.{BootRegisters, Commanding, Placing, Resetting}
+use Rattle.port_boot.specs.Laws.RegisterSet.{BootRegisters, Commanding, PlacingRegisters, ResetRegisters}
 use Rattle.port_boot.specs.Laws.AccessPurpose.{Controlling}
 use Rattle.port_boot.specs.Laws.{Laws, SlotCondition, RegisterSet, registers_of, slot_uses_meeting}
 use Rattle.refinement.specs.Tape.{TapeTells}
@@ -31,7 +31,7 @@ neither_second false b e = e
 neither_second true b e = absurd (true≢false e)
 
 -- what stands behind the state of a port whose device showed a fault
-pub fault_ends : (port : ℕ) (new : Device) (state : PortState) (fault : PortFault) → IsStateOfFault state fault → fault ≢ EngineStuck → ReceivesFises port (new.port port) → BacksFault fault (new.port port).notes →
+pub fault_ends : (port : ℕ) (new : Device) (state : PortState) (fault : PortFault) → IsStateOfFault state fault → fault ≢ EngineStuck → IsStoppedReceiving port (new.port port) → BacksFault fault (new.port port).notes →
     (wanted : Option (List ℕ)) → BacksState wanted state port new
 fault_ends port new state fault told other receives shown wanted = by fault told other shown
   where
@@ -54,93 +54,93 @@ starting r is = inl (inl is)
 module _ (laws : Laws) where
   -- ---- stretches of accesses
 
-  module _ (set : RegisterSet) (fitting : SlotCondition) (port : Port) (old new : Device) (f : IsSimulated (IsPortAccessWriting (registers_of set) port) (slot_uses_meeting fitting port) old new) where
+  module _ (set : RegisterSet) (fitting : SlotCondition) (port : Port) (old new : Device) (f : IsSimulated (ReadsPortOrWrites (registers_of set) port) (slot_uses_meeting fitting port) old new) where
     pub later : length old.tape ≤ length new.tape
     later =
-        let g = driven_grows laws (IsPortAccessWriting (registers_of set) port) old new f.is_driven in
+        let g = driven_grows laws (ReadsPortOrWrites (registers_of set) port) old new f.is_driven in
         let n : length new.tape ≡ length old.tape + length g.0 = ap (λ (es : List Entry). length es) g.1 ∙ length-append old.tape g.0 in
         omega (arith, n)
 
     pub bootable_after : ((uses : SlotStates) → AllFree uses port.0 → slot_uses_meeting fitting port uses) → IsBootable port old → IsBootable port new
     bootable_after fits b =
-        let s = same_over laws (IsPortAccessWriting (registers_of set) port) old new f.is_driven in
+        let s = same_over laws (ReadsPortOrWrites (registers_of set) port) old new f.is_driven in
         record {
           adapter_is_on = stays_on laws set port old new f.is_driven b.adapter_is_on;
           has_port = there_after s b.has_port;
-          driver_memory_fits = let same = s.size in let room = b.driver_memory_fits in omega (arith, same, room);
-          machine_is_related = (b.machine_is_related.0, b.machine_is_related.1, laws.fragments.agreed (Controlling set fitting port) (λ uses. uses) b.machine_is_related.0 old new (fits b.machine_is_related.0 b.machine_is_related.1) f b.machine_is_related.2);
+          driver_memory_fits = let same = s.memory_size in let room = b.driver_memory_fits in omega (arith, same, room);
+          machine_is_related = (b.machine_is_related.0, b.machine_is_related.1, laws.fragments.some_machine_agrees (Controlling set fitting port) (λ uses. uses) b.machine_is_related.0 old new (fits b.machine_is_related.0 b.machine_is_related.1) f b.machine_is_related.2);
         }
 
   -- it is a part of the boot, and as much is told of it
   pub told_boots : (TapeTells : List Access → Type 0) (set : RegisterSet) (fitting : SlotCondition) (port : Port) (old new : Device) → ((r : PortReg) → registers_of set r → IsBootRegister r) →
-      ((uses : SlotStates) → AllFree uses port.0 → slot_uses_meeting fitting port uses) → IsSimulatedAlong TapeTells (IsPortAccessWriting (registers_of set) port) (slot_uses_meeting fitting port) old new →
-      IsSimulatedAlong TapeTells (IsPortAccessWriting IsBootRegister port) (λ uses. AllFree uses port.0) old new
+      ((uses : SlotStates) → AllFree uses port.0 → slot_uses_meeting fitting port uses) → IsSimulatedAlong TapeTells (ReadsPortOrWrites (registers_of set) port) (slot_uses_meeting fitting port) old new →
+      IsSimulatedAlong TapeTells (ReadsPortOrWrites IsBootRegister port) (λ uses. AllFree uses port.0) old new
   told_boots TapeTells set fitting port old new wider fits f =
-      told_wider laws TapeTells (Controlling set fitting port) (Controlling BootRegisters PortUnused port) (λ uses. uses) old new (laws.control_wider set BootRegisters port wider) fits f
+      told_wider laws TapeTells (Controlling set fitting port) (Controlling BootRegisters PortUnused port) (λ uses. uses) old new (laws.control_of_larger_set set BootRegisters port wider) fits f
 
-  pub boots : (set : RegisterSet) (fitting : SlotCondition) (port : Port) (old new : Device) → IsSimulated (IsPortAccessWriting (registers_of set) port) (slot_uses_meeting fitting port) old new →
-      ((r : PortReg) → registers_of set r → IsBootRegister r) → ((uses : SlotStates) → AllFree uses port.0 → slot_uses_meeting fitting port uses) → IsSimulated (IsPortAccessWriting IsBootRegister port) (λ uses. AllFree uses port.0) old new
-  boots set fitting port old new f wider fits = (told_boots (λ made. Unit {0}) set fitting port old new wider fits (record { followed = f; tells = tt })).followed
+  pub boots : (set : RegisterSet) (fitting : SlotCondition) (port : Port) (old new : Device) → IsSimulated (ReadsPortOrWrites (registers_of set) port) (slot_uses_meeting fitting port) old new →
+      ((r : PortReg) → registers_of set r → IsBootRegister r) → ((uses : SlotStates) → AllFree uses port.0 → slot_uses_meeting fitting port uses) → IsSimulated (ReadsPortOrWrites IsBootRegister port) (λ uses. AllFree uses port.0) old new
+  boots set fitting port old new f wider fits = (told_boots (λ made. Unit {0}) set fitting port old new wider fits (record { is_simulated = f; accesses_are_such = tt })).is_simulated
 
-  pub placed_bootable : (port : Port) (old mid : Device) → IsBootable port old → IsSimulated (IsPortAccessWriting IsPlacingRegister port) AnyUse old mid → IsBootable port mid
-  placed_bootable port old mid b first = bootable_after Placing AnyUses port old mid first (λ uses free. tt) b
+  pub placed_bootable : (port : Port) (old mid : Device) → IsBootable port old → IsSimulated (ReadsPortOrWrites IsPlacingRegister port) AnySlotStates old mid → IsBootable port mid
+  placed_bootable port old mid b first = bootable_after PlacingRegisters AnyUses port old mid first (λ uses free. tt) b
 
-  module _ (port : Port) (old mid reset : Device) (b : IsBootable port old) (first : IsSimulatedAlong (StopsReceiving port) (IsPortAccessWriting IsPlacingRegister port) AnyUse old mid)
-      (second : IsSimulated (IsPortAccessWriting IsResetRegister port) AnyUse mid reset) where
+  module _ (port : Port) (old mid reset : Device) (b : IsBootable port old) (first : IsSimulatedAlong (StopsReceiving port) (ReadsPortOrWrites IsPlacingRegister port) AnySlotStates old mid)
+      (second : IsSimulated (ReadsPortOrWrites IsResetRegister port) AnySlotStates mid reset) where
     pub reset_bootable : IsBootable port reset
-    reset_bootable = bootable_after Resetting AnyUses port mid reset second (λ uses free. tt) (placed_bootable port old mid b first.followed)
+    reset_bootable = bootable_after ResetRegisters AnyUses port mid reset second (λ uses free. tt) (placed_bootable port old mid b first.is_simulated)
 
-    pub reset_boots : IsSimulatedAlong (StopsReceiving port) (IsPortAccessWriting IsBootRegister port) (λ uses. AllFree uses port.0) old reset
-    reset_boots = told_then laws (StopsReceiving port) (Controlling BootRegisters PortUnused port) (λ early late. laws.falls_then early late 4 14 port) old mid reset
-        (told_boots (StopsReceiving port) Placing AnyUses port old mid placing (λ uses free. tt) first) (boots Resetting AnyUses port mid reset second resetting (λ uses free. tt))
+    pub reset_boots : IsSimulatedAlong (StopsReceiving port) (ReadsPortOrWrites IsBootRegister port) (λ uses. AllFree uses port.0) old reset
+    reset_boots = told_then laws (StopsReceiving port) (Controlling BootRegisters PortUnused port) (λ early late. laws.falls_with_later_accesses early late 4 14 port) old mid reset
+        (told_boots (StopsReceiving port) PlacingRegisters AnyUses port old mid placing (λ uses free. tt) first) (boots ResetRegisters AnyUses port mid reset second resetting (λ uses free. tt))
 
     early : TapeGrows old mid
-    early = driven_grows laws (IsPortAccessWriting IsPlacingRegister port) old mid first.followed.is_driven
+    early = driven_grows laws (ReadsPortOrWrites IsPlacingRegister port) old mid first.is_simulated.is_driven
 
     late : TapeGrows mid reset
-    late = driven_grows laws (IsPortAccessWriting IsResetRegister port) mid reset second.is_driven
+    late = driven_grows laws (ReadsPortOrWrites IsResetRegister port) mid reset second.is_driven
 
     pub reset_since : {Then : Device → Device → Type 0} → SendsComresetThen port Then mid reset → length old.tape ≤ (reset.port port.0).notes.sctl_written_at
-    reset_since was = le_trans (later Placing AnyUses port old mid first.followed) was.sctl_written_in_call
+    reset_since was = le_trans (later PlacingRegisters AnyUses port old mid first.is_simulated) was.sctl_written_in_call
 
     -- what was found is so of the whole
     found_before : IsDeviceFound port.0 mid reset → IsDeviceFound port.0 old reset
     found_before found = record {
       no_cause_is_set = found.no_cause_is_set;
       errors_are_clear = record {
-        serr_n = λ none. found.errors_are_clear.serr_n (plugs_in_parts laws port.0 old mid reset early late none).1;
-        serr_x = λ none. found.errors_are_clear.serr_x (comes_in_parts laws port.0 old mid reset early late none).1;
+        serr_n_is_clear = λ none. found.errors_are_clear.serr_n_is_clear (plugs_in_parts laws port.0 old mid reset early late none).1;
+        serr_x_is_clear = λ none. found.errors_are_clear.serr_x_is_clear (comes_in_parts laws port.0 old mid reset early late none).1;
       };
       no_link_is_due = λ none. found.no_link_is_due (comes_in_parts laws port.0 old mid reset early late none).1;
       link_is_up = λ none. found.link_is_up (plugs_in_parts laws port.0 old mid reset early late none).1;
       is_clean_to_start = found.is_clean_to_start;
     }
 
-    pub ends_early : (state : PortState) (fault : PortFault) → IsStateOfFault state fault → StaysReceiving port mid reset → FindsFault port fault mid reset → EndsBeforeStart port state old reset
+    pub ends_early : (state : PortState) (fault : PortFault) → IsStateOfFault state fault → StaysReceiving port mid reset → ResetsAndFindsFault port fault mid reset → EndsBeforeStart port state old reset
     ends_early state fault told r f = record {
       fault = fault;
       state_is = told;
       placed = mid;
-      places = first.followed.is_driven;
-      resets = f.reset;
+      places = first.is_simulated.is_driven;
+      resets = f.comreset_is_sent;
       link_is_coming_up = λ none. r.link_is_coming_up (comes_in_parts laws port.0 old mid reset early late none).1;
       device_is_found = λ other. found_before (f.device_is_found other);
     }
 
-    module _ (new : Device) (third : IsSimulated (IsPortAccessWriting IsCommandRegister port) (λ uses. AllFree uses port.0) reset new) where
-      pub up_boots : IsSimulatedAlong (StopsReceiving port) (IsPortAccessWriting IsBootRegister port) (λ uses. AllFree uses port.0) old new
-      up_boots = told_then laws (StopsReceiving port) (Controlling BootRegisters PortUnused port) (λ early late. laws.falls_then early late 4 14 port) old reset new reset_boots
+    module _ (new : Device) (third : IsSimulated (ReadsPortOrWrites IsCommandRegister port) (λ uses. AllFree uses port.0) reset new) where
+      pub up_boots : IsSimulatedAlong (StopsReceiving port) (ReadsPortOrWrites IsBootRegister port) (λ uses. AllFree uses port.0) old new
+      up_boots = told_then laws (StopsReceiving port) (Controlling BootRegisters PortUnused port) (λ early late. laws.falls_with_later_accesses early late 4 14 port) old reset new reset_boots
           (boots Commanding PortUnused port reset new third starting (λ uses free. free))
 
       last : TapeGrows reset new
-      last = driven_grows laws (IsPortAccessWriting IsCommandRegister port) reset new third.is_driven
+      last = driven_grows laws (ReadsPortOrWrites IsCommandRegister port) reset new third.is_driven
 
-      pub brought_up : FindsDisk port mid reset → Starts port reset new → IsBroughtUp port old new
+      pub brought_up : ResetsAndFindsDisk port mid reset → Starts port reset new → IsBroughtUp port old new
       brought_up f s =
           let written = ap (λ (n : Notes). n.sctl_written_at) s.other_notes_are_kept.1 in
           let l = later Commanding PortUnused port reset new third in
-          let marked = f.reset.sctl_time_in_tape in
-          let since = reset_since f.reset in
+          let marked = f.comreset_is_sent.sctl_time_in_tape in
+          let since = reset_since f.comreset_is_sent in
           let still : (new.port port.0).notes.sctl_written_at ≤ length new.tape = omega (arith, written, l, marked) in
           let later_still : length old.tape ≤ (new.port port.0).notes.sctl_written_at = omega (arith, since, written) in
           let found = found_before f.device_is_found in
@@ -149,17 +149,17 @@ module _ (laws : Laws) where
           record {
             bootable = bootable_after Commanding PortUnused port reset new third (λ uses free. free) reset_bootable;
             runs = s.runs;
-            no_comreset = s.other_notes_are_kept.0 ∙ f.reset.no_comreset;
-            device_was_seen = (ap (λ (n : Notes). n.last_ssts % 16) s.other_notes_are_kept.1 ∙ f.disk_is_seen.0.0, ap (λ (n : Notes). n.link_count) s.other_notes_are_kept.1 ∙ f.disk_is_seen.0.1);
+            no_comreset = s.other_notes_are_kept.0 ∙ f.comreset_is_sent.no_comreset;
+            device_was_seen = (ap (λ (n : Notes). n.last_ssts % 16) s.other_notes_are_kept.1 ∙ f.disk_is_seen.0.0, ap (λ (n : Notes). n.link_wait_count) s.other_notes_are_kept.1 ∙ f.disk_is_seen.0.1);
             st_set_in_tape = subst (λ (n : ℕ). n ≤ length new.tape) (sym s.st_set_is_last) (le_refl (length new.tape));
             sctl_written_in_boot = later_still;
             sctl_time_in_tape = still;
-            brings_up_port = record { placed = mid; places = first.followed.is_driven; found = reset; resets = f.reset; starts = third.is_driven; st_set_is_last = s.st_set_is_last };
+            brings_up_port = record { placed = mid; places = first.is_simulated.is_driven; found = reset; resets = f.comreset_is_sent; starts = third.is_driven; st_set_is_last = s.st_set_is_last };
             no_cause_is_set = λ place small. s.no_cause_rises place (found.no_cause_is_set place small);
             errors_are_clear = record {
-              serr_n = λ none. let parts = plugs_in_parts laws port.0 old reset new (laws.tape.grows_more old mid reset early late) last none in changes.serr_n parts.1 (found.errors_are_clear.serr_n parts.0);
-              serr_x = λ none. let parts = comes_in_parts laws port.0 old reset new (laws.tape.grows_more old mid reset early late) last none in changes.serr_x parts.1 (found.errors_are_clear.serr_x parts.0);
+              serr_n_is_clear = λ none. let parts = plugs_in_parts laws port.0 old reset new (laws.tape.growth_is_transitive old mid reset early late) last none in changes.serr_n_rises_by_plug_events parts.1 (found.errors_are_clear.serr_n_is_clear parts.0);
+              serr_x_is_clear = λ none. let parts = comes_in_parts laws port.0 old reset new (laws.tape.growth_is_transitive old mid reset early late) last none in changes.serr_x_rises_by_disk_coming parts.1 (found.errors_are_clear.serr_x_is_clear parts.0);
             };
             faults_are_on_record = s.faults_are_on_record quiet;
-            port_is_started = λ none. let parts = plugs_in_parts laws port.0 old reset new (laws.tape.grows_more old mid reset early late) last none in s.port_is_started (found.link_is_up parts.0) parts.1;
+            port_is_started = λ none. let parts = plugs_in_parts laws port.0 old reset new (laws.tape.growth_is_transitive old mid reset early late) last none in s.port_is_started (found.link_is_up parts.0) parts.1;
           }

@@ -13,23 +13,23 @@ use Rattle.adapter.specs.Access.{Access, Writes}
 use Rattle.adapter.specs.Access.Access.{Reading, Writing, Loading, Storing}
 use Rattle.adapter.specs.Device.{Device}
 use Rattle.adapter.specs.Rules.{IsOn}
-use Rattle.refinement.specs.Fragments.{IsPortAccessWriting, IsDrivenBy}
-use Rattle.refinement.specs.Errors.{NoneFatal, NoneFails}
+use Rattle.refinement.specs.Fragments.{ReadsPortOrWrites, IsDrivenBy}
+use Rattle.refinement.specs.Errors.{NoFatalErrors, NoFaults}
 use Rattle.refinement.specs.PortFacts.{Undisturbed, ShowsNoTrouble}
-use Rattle.refinement.specs.Links.{NoPlugEvents, DoesNotWrite}
+use Rattle.refinement.specs.PreservedParts.{NoPlugEvents, DoesNotWrite}
 use Rattle.refinement.specs.StartedPort.{IsStarted}
 use Rattle.refinement.specs.Fragments.{TapeGrows}
-use Rattle.disk_page.specs.PageRequests.{IsPageAccess, LeavesRunning}
+use Rattle.disk_page.specs.PageRequests.{IsPageAccess, LeavesPortWhileAsking}
 use Rattle.port_control.specs.Engines.{Stops}
-use Rattle.port_control.specs.Ports.{IsCommandRegister, HasClearErrors}
+use Rattle.port_control.specs.Ports.{IsCommandRegister, SerrShowsOnlyNewPlugs}
 use Rattle.port_control.specs.declared.PortFault.{PortFault}
 use Rattle.port_control.specs.declared.PortFault.TheVariants.{NoDevice, Busy, EngineStuck, NotAta}
-use Rattle.identify.specs.Page.{unfit_number}
+use Rattle.identify.specs.IdentityPage.{unfit_number}
 use Rattle.identify.specs.declared.DiskInfo.{DiskInfo}
 use Rattle.identify.specs.declared.Unfit.{Unfit as Fault}
 use Rattle.identify.specs.declared.Unfit.TheVariants.{BadChecksum, Word83, No48Bit, SectorSize, NoFlush, NoSectors}
 use Rattle.port_boot.specs.Outcomes.{EndsReady, EndsUnready, FailsToIdentify, Identifies, BootBringsUp}
-use Rattle.port_boot.specs.States.{IsStateOfFault, IsStateByPage, IsBootRegister, IsBeforeStart, IsStoppedAs, IsBootAccess, IsBroughtUp, AsksDisk, BringsReady, EndsBeforeStart, EndsAfterStart, IsAfterStart, ShowsOnlyNewErrors, BitsRiseWithCause, StaysRunning, StopsWithLinkUp}
+use Rattle.port_boot.specs.States.{IsStateOfFault, IsStateByPage, IsBootRegister, IsBeforeStart, IsStoppedAs, IsBootAccess, IsBroughtUp, AsksDiskThenEnables, BringsReady, EndsBeforeStart, EndsAfterStart, IsAfterStart, ShowsOnlyNewErrors, BitsRiseWithCause, StaysRunning, StopsWithLinkUp}
 use Rattle.port_boot.proofs.Identifying.{whole_ended, whole_ready}
 use Rattle.port_boot.proofs.Staying.{boot_driven}
 use Rattle.port_boot.proofs.Enduring.{Endures, Lasts, endures, lasts, lasts_access, lasts_more, goes_more}
@@ -114,51 +114,51 @@ module _ (laws : Laws) where
         (λ (e : Px port Ie ≡ Px port Sctl). absurd (cc)) call (λ (e : Px port Ie ≡ Px port Cmd). absurd (cc)))).runs
 
     -- or the port is stopped
-    pub stops_then : (new : Device) → IsOn mid → LeavesRunning port.0 old mid → IsDrivenBy (IsPortAccessWriting IsCommandRegister port) mid new → StopsWithLinkUp port old new
+    pub stops_then : (new : Device) → IsOn mid → LeavesPortWhileAsking port.0 old mid → IsDrivenBy (ReadsPortOrWrites IsCommandRegister port) mid new → StopsWithLinkUp port old new
     stops_then new on l stop =
         let late : Endures port.0 mid new = endures laws port stop.accesses mid new on stop.all_are_done
-        (All-weaker (IsPortAccessWriting IsCommandRegister port) (DoesNotWrite Ghc) (λ access is. laws.of_spares_ghc port access (laws.control_of Commanding port access is)) stop.accesses stop.accesses_are_of_kind)
-        (All-weaker (IsPortAccessWriting IsCommandRegister port) (DoesNotWrite (Px port Sctl)) (laws.control_spares Commanding port Sctl no_control) stop.accesses stop.accesses_are_of_kind) in
-        let det : (mid.port port.0).sctl_det ≡ 0 = l.controls.sctl_det ∙ up.no_comreset in
+        (All-weaker (ReadsPortOrWrites IsCommandRegister port) (DoesNotWrite Ghc) (λ access is. laws.accesses_of_port_spare_ghc port access (laws.control_spares_other_ports Commanding port access is)) stop.accesses stop.accesses_are_of_kind)
+        (All-weaker (ReadsPortOrWrites IsCommandRegister port) (DoesNotWrite (Px port Sctl)) (laws.control_spares_other_registers Commanding port Sctl no_control) stop.accesses stop.accesses_are_of_kind) in
+        let det : (mid.port port.0).sctl_det ≡ 0 = l.controls_are_kept.sctl_det_is_kept ∙ up.no_comreset in
         record {
           asks_disk_then_stops = record { asked = mid; asks = driven; stops = stop };
           bits_rise_with_cause = goes_more laws port.0 old mid new asked.grows late.grows asked.runs.bits_rise_with_cause late.goes;
           link_is_up = λ calm h.
               let parts = calm_in_parts laws port.0 old mid new asked.grows late.grows calm in
-              late.up parts.1 (laws.started_up (mid.port port.0) (asked.runs.stays_started parts.0 h) (λ e. absurd (omega (arith, det, e))));
+              late.up parts.1 (laws.started_port_is_up (mid.port port.0) (asked.runs.stays_started parts.0 h) (λ e. absurd (omega (arith, det, e))));
         }
 
   -- ---- the whole boot
 
   module _ (port : Port) (start old new : Device) (up : IsBroughtUp port start old) (early : TapeGrows start old) (late : TapeGrows old new) where
     linked : (old.port port.0).link_due ≡ false
-    linked = (up.faults_are_on_record up.runs.st).no_link_is_due
+    linked = (up.faults_are_on_record up.runs.st_is_set).no_link_is_due
 
-    clear_since : BitsRiseWithCause port.0 old new → HasClearErrors port.0 start new
+    clear_since : BitsRiseWithCause port.0 old new → SerrShowsOnlyNewPlugs port.0 start new
     clear_since goes =
         let disks = goes.changes_by_disks linked in
         record {
-          serr_n = λ none. let parts = plugs_in_parts laws port.0 start old new early late none in disks.serr_n parts.1 (up.errors_are_clear.serr_n parts.0);
-          serr_x = λ none. let parts = comes_in_parts laws port.0 start old new early late none in disks.serr_x parts.1 (up.errors_are_clear.serr_x parts.0);
+          serr_n_is_clear = λ none. let parts = plugs_in_parts laws port.0 start old new early late none in disks.serr_n_rises_by_plug_events parts.1 (up.errors_are_clear.serr_n_is_clear parts.0);
+          serr_x_is_clear = λ none. let parts = comes_in_parts laws port.0 start old new early late none in disks.serr_x_rises_by_disk_coming parts.1 (up.errors_are_clear.serr_x_is_clear parts.0);
         }
 
-    fatal_since : BitsRiseWithCause port.0 old new → NoneFatal port.0 start new → (place : ℕ) → 27 ≤ place → place ≤ 29 → (new.port port.0).is place ≡ false
+    fatal_since : BitsRiseWithCause port.0 old new → NoFatalErrors port.0 start new → (place : ℕ) → 27 ≤ place → place ≤ 29 → (new.port port.0).is place ≡ false
     fatal_since goes none place low high =
-        goes.changes_by_errors.fatal (laws.tape.fatal_parts port.0 start old new early.0 late.0 early.1 late.1 none).1 place low high (up.no_cause_is_set place (omega (arith, high)))
+        goes.changes_by_errors.fatal (laws.tape.no_fatal_errors_in_parts port.0 start old new early.0 late.0 early.1 late.1 none).1 place low high (up.no_cause_is_set place (omega (arith, high)))
 
-    fault_since : BitsRiseWithCause port.0 old new → NoneFails port.0 start new → (new.port port.0).is 30 ≡ false
-    fault_since goes none = goes.changes_by_errors.fault (laws.tape.fails_parts port.0 start old new early.0 late.0 early.1 late.1 none).1 (up.no_cause_is_set 30 (omega arith))
+    fault_since : BitsRiseWithCause port.0 old new → NoFaults port.0 start new → (new.port port.0).is 30 ≡ false
+    fault_since goes none = goes.changes_by_errors.fault (laws.tape.no_faults_in_parts port.0 start old new early.0 late.0 early.1 late.1 none).1 (up.no_cause_is_set 30 (omega arith))
 
     -- where no disk went or came, and nothing else went wrong since the port was up
     no_trouble : BitsRiseWithCause port.0 old new → NoPlugEvents port.0 start new → Undisturbed port.0 old new → ShowsNoTrouble (new.port port.0)
     no_trouble goes plugs calm =
         let clear = clear_since goes in
         record {
-          serr_n = clear.serr_n plugs;
-          serr_x = clear.serr_x (laws.tape.plugs_come port.0 start new plugs);
+          serr_n_is_clear = clear.serr_n_is_clear plugs;
+          serr_x_is_clear = clear.serr_x_is_clear (laws.tape.no_plug_event_no_disk port.0 start new plugs);
           no_error_bit_is_set = λ place low high. elim (cases_eq place 30) [
-            | inl e ↦ let P : ℕ → Type 0 = λ k. (new.port port.0).is k ≡ false in subst P (sym e) (goes.changes_by_errors.fault (laws.undisturbed_fails port.0 old new calm) (up.no_cause_is_set 30 (omega arith)))
-            | inr ne ↦ goes.changes_by_errors.fatal (laws.undisturbed_fatal port.0 old new calm) place low (omega (arith, high, ne)) (up.no_cause_is_set place (omega (arith, high)))
+            | inl e ↦ let P : ℕ → Type 0 = λ k. (new.port port.0).is k ≡ false in subst P (sym e) (goes.changes_by_errors.fault (laws.undisturbed_has_no_fault port.0 old new calm) (up.no_cause_is_set 30 (omega arith)))
+            | inr ne ↦ goes.changes_by_errors.fatal (laws.undisturbed_has_no_fatal port.0 old new calm) place low (omega (arith, high, ne)) (up.no_cause_is_set place (omega (arith, high)))
           ];
         }
 
@@ -166,25 +166,25 @@ module _ (laws : Laws) where
     started_then : Undisturbed port.0 start new → Undisturbed port.0 old new × IsStarted (old.port port.0)
     started_then calm =
         let parts = calm_in_parts laws port.0 start old new early late calm in
-        (parts.1, up.port_is_started (laws.undisturbed_plugs port.0 start old parts.0))
+        (parts.1, up.port_is_started (laws.undisturbed_has_no_plug_events port.0 start old parts.0))
 
     pub shows_news : StaysRunning port.0 old new → ShowsOnlyNewErrors port.0 start new
     shows_news runs = record {
       errors_are_clear = clear_since runs.bits_rise_with_cause;
-      fatal = fatal_since runs.bits_rise_with_cause;
-      fault = fault_since runs.bits_rise_with_cause;
+      fatal_bits_are_clear = fatal_since runs.bits_rise_with_cause;
+      tfes_is_clear = fault_since runs.bits_rise_with_cause;
       faults_are_on_record = runs.faults_are_on_record up.faults_are_on_record;
-      port_runs_well = λ calm. let s = started_then calm in laws.well_of (new.port port.0) (runs.stays_started s.0 s.1) (no_trouble runs.bits_rise_with_cause (laws.undisturbed_plugs port.0 start new calm) s.0);
+      port_runs_well = λ calm. let s = started_then calm in laws.started_quiet_port_runs_well (new.port port.0) (runs.stays_started s.0 s.1) (no_trouble runs.bits_rise_with_cause (laws.undisturbed_has_no_plug_events port.0 start new calm) s.0);
     }
 
-    pub gets_ready : AsksDisk port old new → StaysRunning port.0 old new → BringsReady port start new
+    pub gets_ready : AsksDiskThenEnables port old new → StaysRunning port.0 old new → BringsReady port start new
     gets_ready then runs = record {
       up = old;
       brings_up = up.brings_up_port;
       asks_disk = then;
       port_runs_well = λ plugs calm.
           let parts = plugs_in_parts laws port.0 start old new early late plugs in
-          laws.well_of (new.port port.0) (runs.stays_started calm (up.port_is_started parts.0)) (no_trouble runs.bits_rise_with_cause plugs calm);
+          laws.started_quiet_port_runs_well (new.port port.0) (runs.stays_started calm (up.port_is_started parts.0)) (no_trouble runs.bits_rise_with_cause plugs calm);
     }
 
     pub ends_late : StopsWithLinkUp port old new → EndsAfterStart port start new
@@ -202,7 +202,7 @@ module _ (laws : Laws) where
   module _ (port : Port) (start old new : Device) (rises : BootBringsUp port start old) (wanted : Option (List ℕ))
       (written : (new.port port.0).notes.sctl_written_at ≡ (old.port port.0).notes.sctl_written_at) where
     risen : TapeGrows start old
-    risen = driven_grows laws (IsPortAccessWriting IsBootRegister port) start old rises.boots.followed.is_driven
+    risen = driven_grows laws (ReadsPortOrWrites IsBootRegister port) start old rises.boots.is_simulated.is_driven
 
     since : length start.tape ≤ (new.port port.0).notes.sctl_written_at
     since = let before = rises.is_brought_up.sctl_written_in_boot in omega (arith, before, written)

@@ -11,7 +11,7 @@ use Rattle.hba_regs.specs.declared.reg.Reg.{Reg}
 use Rattle.hba_regs.specs.declared.reg.Reg.TheVariants.{Cap, Ghc, Pi, Vs, Cap2, Bohc, Px}
 use Rattle.hba_regs.specs.declared.reg.Reg.TheVariants as adapter
 use Rattle.adapter.specs.Steps.{halt_after_start}
-use Rattle.adapter.specs.Access.{Access, Does, DoesAll, noted, port_after_write, port_after_hba_is_write, port_after_fre_write, port_after_st_write, written, named_causes}
+use Rattle.adapter.specs.Access.{Access, Does, DoesAll, device_after_reading, port_after_write, port_after_hba_is_write, port_after_fre_write, port_after_st_write, device_after_write, named_causes_mask}
 use Rattle.adapter.specs.Access.Access.{Reading, Writing, Loading, Storing}
 use Rattle.adapter.specs.Device.{Device, DevicePort}
 use Rattle.adapter.specs.Memory.{changed}
@@ -65,7 +65,7 @@ steps_own port old new s h = leads_own port s.steps old new s.lead h
 
 -- ---- what a call does beside
 
-noted_own : (port : ℕ) (r : Reg) (v : ℕ) (d : Device) → ShownDiskIsIn (d.port port) → ShownDiskIsIn ((noted r v d).port port)
+noted_own : (port : ℕ) (r : Reg) (v : ℕ) (d : Device) → ShownDiskIsIn (d.port port) → ShownDiskIsIn ((device_after_reading r v d).port port)
 noted_own port (Px p r) v d h = at d.port p.0 port _ h (λ x. x)
 noted_own port adapter.Is v d h = h
 noted_own port Cap v d h = h
@@ -99,7 +99,7 @@ acknowledged_own : (is : Bool) (p : DevicePort) → ShownDiskIsIn p → ShownDis
 acknowledged_own true p h = h
 acknowledged_own false p h = h
 
-put_own : (port : ℕ) (r : Reg) (v : ℕ) (d : Device) → ShownDiskIsIn (d.port port) → ShownDiskIsIn ((written r v d).port port)
+put_own : (port : ℕ) (r : Reg) (v : ℕ) (d : Device) → ShownDiskIsIn (d.port port) → ShownDiskIsIn ((device_after_write r v d).port port)
 put_own port (Px p r) v d h = at d.port p.0 port _ h (written_own r v (length d.tape) (d.port p.0))
 put_own port adapter.Is v d h = acknowledged_own (bit v port) (d.port port) h
 put_own port Cap v d h = h
@@ -112,10 +112,10 @@ put_own port Bohc v d h = h
 -- ---- calls
 
 pub access_own : (port : ℕ) (access : Access) (old new : Device) → Does access old new → ShownDiskIsIn (old.port port) → ShownDiskIsIn (new.port port)
-access_own port (Reading r v) old new x h = subst (λ (d : Device). ShownDiskIsIn (d.port port)) (sym x.effect) (noted_own port r v x.mid (steps_own port old x.mid x.steps h))
-access_own port (Writing r v) old new x h = subst (λ (d : Device). ShownDiskIsIn (d.port port)) (sym x.effect) (put_own port r v x.mid (steps_own port old x.mid x.steps h))
+access_own port (Reading r v) old new x h = subst (λ (d : Device). ShownDiskIsIn (d.port port)) (sym x.effect) (noted_own port r v x.at_access (steps_own port old x.at_access x.steps h))
+access_own port (Writing r v) old new x h = subst (λ (d : Device). ShownDiskIsIn (d.port port)) (sym x.effect) (put_own port r v x.at_access (steps_own port old x.at_access x.steps h))
 access_own port (Loading at_byte bytes) old new x h = steps_own port old new x.steps h
-access_own port (Storing at_byte bytes) old new x h = subst (λ (d : Device). ShownDiskIsIn (d.port port)) (sym x.effect) (steps_own port old x.mid x.steps h)
+access_own port (Storing at_byte bytes) old new x h = subst (λ (d : Device). ShownDiskIsIn (d.port port)) (sym x.effect) (steps_own port old x.at_access x.steps h)
 
 pub all_own : (port : ℕ) (accesses : List Access) (old new : Device) → DoesAll accesses old new → ShownDiskIsIn (old.port port) → ShownDiskIsIn (new.port port)
 all_own port [] old new e h = subst (λ (d : Device). ShownDiskIsIn (d.port port)) (sym e) h
@@ -135,9 +135,9 @@ module _ (port : Port) where
 
   signature_own : (signature : ℕ) (old new : Device) → FindsSignature port signature old new → Own old → Own new
   signature_own signature old new f h =
-      let seen = until_own Ssts _ old f.links.seen f.links.sees h in
-      let between = access_own port.0 (Writing (Px port Serr) 0xffffffff) f.links.seen f.links.clears.between f.links.clears.errors seen in
-      let linked = access_own port.0 (Writing (Px port Is) 0xffffffff) f.links.clears.between f.linked f.links.clears.causes between in
+      let seen = until_own Ssts _ old f.finds_link.after_link_is_seen f.finds_link.reads_until_link h in
+      let between = access_own port.0 (Writing (Px port Serr) 0xffffffff) f.finds_link.after_link_is_seen f.finds_link.clears.between f.finds_link.clears.clears_serr seen in
+      let linked = access_own port.0 (Writing (Px port Is) 0xffffffff) f.finds_link.clears.between f.linked f.finds_link.clears.clears_is between in
       access_own port.0 (Reading (Px port Sig) signature) f.idle new f.reads (until_own Tfd _ f.linked f.idle f.waits linked)
 
   pub ready_own : (old new : Device) → BringsReady port old new → Own new
@@ -146,8 +146,8 @@ module _ (port : Port) where
       let resets = up.resets in
       let sends = resets.sends in
       let sent : Own resets.sent = subst (λ (d : Device). Own d) (sym sends.effect)
-      (itself sends.mid.port port.0 _ (λ none. absurd (not_three none))) in
+      (itself sends.at_access.port port.0 _ (λ none. absurd (not_three none))) in
       let ended = access_own port.0 (Writing (Px port Sctl) 0) resets.sent resets.ended resets.ends sent in
       let found = signature_own 0x101 resets.ended up.found resets.does_rest ended in
       let started = driven_own _ up.found way.up up.starts found in
-      access_own port.0 (Writing (Px port Ie) named_causes) way.asks_disk.asked new way.asks_disk.tells (driven_own _ way.up way.asks_disk.asked way.asks_disk.asks started)
+      access_own port.0 (Writing (Px port Ie) named_causes_mask) way.asks_disk.asked new way.asks_disk.enables_interrupts (driven_own _ way.up way.asks_disk.asked way.asks_disk.asks started)

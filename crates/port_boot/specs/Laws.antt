@@ -4,10 +4,10 @@ use Rattle.ata_types.specs.declared.Port.{Port}
 use Rattle.adapter.specs.Access.{Access, Does, Writes}
 use Rattle.refinement.specs.Laws.{FragmentLaws, TapeLaws}
 use Rattle.refinement.specs.Driver.{AllFree}
-use Rattle.refinement.specs.Fragments.{AnyAccess, AnyUse, HasNoCommand, IsPortAccessWriting, IsDrivenBy, SparesOtherPorts, GainsNoMove}
-use Rattle.refinement.specs.Errors.{ChangesByErrors, NoneFails, NoneFatal}
+use Rattle.refinement.specs.Fragments.{AnyAccess, AnySlotStates, HasNoCommand, ReadsPortOrWrites, IsDrivenBy, SparesOtherPorts, GainsNoMove}
+use Rattle.refinement.specs.Errors.{ErrorBitsRiseByErrors, NoFaults, NoFatalErrors}
 use Rattle.hba_regs.specs.declared.reg.PortReg.TheVariants.{Ci, Cmd, Sctl}
-use Rattle.refinement.specs.StartedPort.{ClearsNoStart, IsStarted, IsUp}
+use Rattle.refinement.specs.StartedPort.{ClearsNoStart, IsStarted, IsUpForStart}
 use Rattle.adapter.specs.Device.{Device, DevicePort}
 use Rattle.adapter.specs.Device.Halt.{NotHalted}
 use Rattle.refinement.specs.Relation.{StateRelation}
@@ -18,14 +18,14 @@ use Rattle.adapter.specs.declared.tape.Entry.{Entry}
 use Rattle.port_control.specs.Engines.{FailsToStop, FailsToStopReceiving, EngineFalls, EngineSticks}
 use Rattle.refinement.specs.Slots.{IsOver, SlotStates}
 use Rattle.hba_regs.specs.declared.reg.Reg.TheVariants.{Ghc, Px}
-use Rattle.disk_page.specs.PageRequests.{IsPageAccess, LeavesRunning}
+use Rattle.disk_page.specs.PageRequests.{IsPageAccess, LeavesPortWhileAsking}
 use Rattle.port_boot.specs.States.{IsBootRegister, IsBootAccess}
 use Rattle.adapter.specs.Rules.{IsOn, MayWrite, IsStable}
 use Rattle.port_control.specs.Ports.{IsPlacingRegister, IsResetRegister, IsCommandRegister}
-use Rattle.refinement.specs.PortFacts.{FaultsOnRecord, RunsWell, ShowsNoTrouble, Undisturbed}
+use Rattle.refinement.specs.PortFacts.{RecordsFaultsIfSt, RunsWell, ShowsNoTrouble, Undisturbed}
 use Rattle.command_table.specs.TableStores.{IsUnused}
 use Rattle.adapter.specs.declared.command.Operation.{Operation}
-use Rattle.refinement.specs.Links.{NoPlugEvents, SameAdapter, DoesNotWrite}
+use Rattle.refinement.specs.PreservedParts.{NoPlugEvents, SameAdapter, DoesNotWrite}
 use Rattle.hba_regs.specs.declared.reg.PortReg.{PortReg}
 use Rattle.adapter.specs.RegisterEffects.{PortRegisterWritten}
 use Rattle.hba_regs.specs.declared.reg.Reg.{Reg}
@@ -37,27 +37,27 @@ use Rattle.hba_regs.specs.Bits.{bit}
 -- sets of registers that are written
 pub data RegisterSet : Type 0 where
   Commanding : RegisterSet
-  Placing : RegisterSet
-  Resetting : RegisterSet
+  PlacingRegisters : RegisterSet
+  ResetRegisters : RegisterSet
   BootRegisters : RegisterSet
   ButIssued : RegisterSet
 
 abbrev pub registers_of : RegisterSet → PortReg → Type 0
 registers_of Commanding = IsCommandRegister
-registers_of Placing = IsPlacingRegister
-registers_of Resetting = IsResetRegister
+registers_of PlacingRegisters = IsPlacingRegister
+registers_of ResetRegisters = IsResetRegister
 registers_of BootRegisters = IsBootRegister
 registers_of ButIssued = λ r. r ≢ Ci
 
 -- the uses of slots that fit: any, with slot 0 of the port unused, or with none of its slots used
 pub data SlotCondition : Type 0 where
   AnyUses : SlotCondition
-  HeadUnused : SlotCondition
+  Slot0Unused : SlotCondition
   PortUnused : SlotCondition
 
 abbrev pub slot_uses_meeting : SlotCondition → Port → SlotStates → Type 0
-slot_uses_meeting AnyUses port = AnyUse
-slot_uses_meeting HeadUnused port = IsUnused port.0 0
+slot_uses_meeting AnyUses port = AnySlotStates
+slot_uses_meeting Slot0Unused port = IsUnused port.0 0
 slot_uses_meeting PortUnused port = λ uses. AllFree uses port.0
 
 -- a port's registers are read, and those of a set written; a port is booted; or its disk is asked for its page
@@ -67,7 +67,7 @@ pub data AccessPurpose : Type 0 where
   Asking : Port → AccessPurpose
 
 abbrev pub accesses_for : AccessPurpose → Access → Type 0
-accesses_for (Controlling set fitting port) = IsPortAccessWriting (registers_of set) port
+accesses_for (Controlling set fitting port) = ReadsPortOrWrites (registers_of set) port
 accesses_for (Booting fitting port) = IsBootAccess port
 accesses_for (Asking port) = IsPageAccess port
 
@@ -80,69 +80,81 @@ slot_uses_for (Asking port) = IsUnused port.0 0
 
 pub record Laws : Type 0 where
   -- one access
-  pub put_at : (port : Port) (r : PortReg) (v : ℕ) (old new : Device) → Writes (Px port r) v old new → old.hr ≡ false
+  pub write_changes_port_register : (port : Port) (r : PortReg) (v : ℕ) (old new : Device)
+      → Writes (Px port r) v old new → old.hr ≡ false
       → PortRegisterWritten port.0 r v old new
-  pub access_on : (access : Access) (old new : Device) → IsOn old
+  pub access_keeps_on : (access : Access) (old new : Device) → IsOn old
       → ((v : ℕ) → access ≡ Writing Ghc v → (bit v 31 ≡ true) × (bit v 0 ≡ false)) → Does access old new → IsOn new
   pub write_stays : (r : Reg) (v : ℕ) (d : Device) → ((port : Port) → r ≢ Px port Ci) → MayWrite r v d
       → IsStable (MayWrite r v) d
   pub tape : TapeLaws
-  pub access_unmoving : (port : ℕ) (o : Operation) (access : Access) (old new : Device) → HasNoCommand (old.port port)
+  pub access_gains_no_move : (port : ℕ) (o : Operation) (access : Access) (old new : Device)
+      → HasNoCommand (old.port port)
       → Does access old new → GainsNoMove port o old new
-  pub controls_unmoving : (port : Port) (o : Operation) (old new : Device)
-      → IsDrivenBy (IsPortAccessWriting (λ r. r ≢ Ci) port) old new → HasNoCommand (old.port port.0)
+  pub accesses_gain_no_move : (port : Port) (o : Operation) (old new : Device)
+      → IsDrivenBy (ReadsPortOrWrites (λ r. r ≢ Ci) port) old new → HasNoCommand (old.port port.0)
       → GainsNoMove port.0 o old new
       × HasNoCommand (new.port port.0)
   -- what goes on
-  pub access_raises : (port : Port) (access : Access) (old new : Device) → Does access old new
-      → ChangesByErrors port.0 old new
-  pub access_stays_up : (port : Port) (access : Access) (old new : Device) → old.hr ≡ false
-      → DoesNotWrite (Px port Sctl) access → Undisturbed port.0 old new → Does access old new → IsUp (old.port port.0)
-      → IsUp (new.port port.0)
-  pub access_started : (port : Port) (access : Access) (old new : Device) → old.hr ≡ false → ClearsNoStart port access
+  pub access_changes_by_errors : (port : Port) (access : Access) (old new : Device) → Does access old new
+      → ErrorBitsRiseByErrors port.0 old new
+  pub access_keeps_up : (port : Port) (access : Access) (old new : Device) → old.hr ≡ false
+      → DoesNotWrite (Px port Sctl) access → Undisturbed port.0 old new → Does access old new
+      → IsUpForStart (old.port port.0)
+      → IsUpForStart (new.port port.0)
+  pub access_keeps_started : (port : Port) (access : Access) (old new : Device) → old.hr ≡ false
+      → ClearsNoStart port access
       → DoesNotWrite (Px port Sctl) access → Undisturbed port.0 old new → Does access old new
       → IsStarted (old.port port.0) → IsStarted (new.port port.0)
-  pub access_recorded : (port : Port) (access : Access) (old new : Device) → DoesNotWrite (Px port Cmd) access
-      → DoesNotWrite (Px port Sctl) access → Does access old new → FaultsOnRecord old.tape (old.port port.0) port.0
-      → FaultsOnRecord new.tape (new.port port.0) port.0
-  pub halts_access : (uses : SlotStates) (m : Machine) (port : Port) (access : Access) (old new : Device)
+  pub access_keeps_fault_record : (port : Port) (access : Access) (old new : Device) → DoesNotWrite (Px port Cmd) access
+      → DoesNotWrite (Px port Sctl) access → Does access old new → RecordsFaultsIfSt old.tape (old.port port.0) port.0
+      → RecordsFaultsIfSt new.tape (new.port port.0) port.0
+  pub access_keeps_halt_of_taken : (uses : SlotStates) (m : Machine) (port : Port) (access : Access) (old new : Device)
       → IsReachable m
       → StateRelation uses m old → DoesNotWrite (Px port Cmd) access → Does access old new
       → HaltOfTakenIfSt (old.port port.0) → HaltOfTakenIfSt (new.port port.0)
-  pub halts_calm : (p : DevicePort) → p.halt ≡ NotHalted → HaltIsOfTaken p
-  pub started_up : (p : DevicePort) → IsStarted p → p.sctl_det ≢ 1 → IsUp p
-  pub well_of : (p : DevicePort) → IsStarted p → ShowsNoTrouble p → RunsWell p
-  pub started_well : (p : DevicePort) → RunsWell p → IsStarted p
+  pub not_halted_is_halt_of_taken : (p : DevicePort) → p.halt ≡ NotHalted → HaltIsOfTaken p
+  pub started_port_is_up : (p : DevicePort) → IsStarted p → p.sctl_det ≢ 1 → IsUpForStart p
+  pub started_quiet_port_runs_well : (p : DevicePort) → IsStarted p → ShowsNoTrouble p → RunsWell p
+  pub runs_well_is_started : (p : DevicePort) → RunsWell p → IsStarted p
   -- what the tape tells
-  pub undisturbed_plugs : (port : ℕ) (old new : Device) → Undisturbed port old new → NoPlugEvents port old new
-  pub undisturbed_fatal : (port : ℕ) (old new : Device) → Undisturbed port old new → NoneFatal port old new
-  pub undisturbed_fails : (port : ℕ) (old new : Device) → Undisturbed port old new → NoneFails port old new
+  pub undisturbed_has_no_plug_events : (port : ℕ) (old new : Device) → Undisturbed port old new
+      → NoPlugEvents port old new
+  pub undisturbed_has_no_fatal : (port : ℕ) (old new : Device) → Undisturbed port old new → NoFatalErrors port old new
+  pub undisturbed_has_no_fault : (port : ℕ) (old new : Device) → Undisturbed port old new → NoFaults port old new
   -- fragments
-  pub of_on : (port : Port) (old new : Device) → IsOn old → IsDrivenBy (SparesOtherPorts port) old new → IsOn new
-  pub same_any : (old new : Device) → IsDrivenBy AnyAccess old new → SameAdapter old new
-  pub tape_any : (old new : Device) → IsDrivenBy AnyAccess old new → (gained : List Entry)
+  pub accesses_of_port_keep_on : (port : Port) (old new : Device) → IsOn old
+      → IsDrivenBy (SparesOtherPorts port) old new → IsOn new
+  pub accesses_keep_adapter : (old new : Device) → IsDrivenBy AnyAccess old new → SameAdapter old new
+  pub accesses_extend_tape : (old new : Device) → IsDrivenBy AnyAccess old new → (gained : List Entry)
       × (new.tape ≡ old.tape ++ gained)
-  pub of_spares_ghc : (port : Port) (access : Access) → SparesOtherPorts port access → DoesNotWrite Ghc access
-  pub asking_is_of : (port : Port) (access : Access) → IsPageAccess port access → SparesOtherPorts port access
-  pub asked_none : (port : ℕ) (old new : Device) → LeavesRunning port old new → HasNoCommand (old.port port)
+  pub accesses_of_port_spare_ghc : (port : Port) (access : Access) → SparesOtherPorts port access
+      → DoesNotWrite Ghc access
+  pub asking_spares_other_ports : (port : Port) (access : Access) → IsPageAccess port access
+      → SparesOtherPorts port access
+  pub asking_leaves_no_command : (port : ℕ) (old new : Device) → LeavesPortWhileAsking port old new
+      → HasNoCommand (old.port port)
       → IsOver (new.port port) 0 → HasNoCommand (new.port port)
   -- what is told of engines
   pub failing_sticks : (port : Port) (accesses : List Access) → FailsToStop port accesses → EngineSticks port accesses
   pub failing_receiving_sticks : (port : Port) (accesses : List Access) → FailsToStopReceiving port accesses
       → EngineSticks port accesses
-  pub falls_then : (early late : List Access) (start running : ℕ) (port : Port) → EngineFalls start running port early
+  pub falls_with_later_accesses : (early late : List Access) (start running : ℕ) (port : Port)
+      → EngineFalls start running port early
       → EngineFalls start running port (early ++ late)
-  pub falls_since : (early late : List Access) (start running : ℕ) (port : Port) → EngineFalls start running port late
+  pub falls_with_earlier_accesses : (early late : List Access) (start running : ℕ) (port : Port)
+      → EngineFalls start running port late
       → EngineFalls start running port (early ++ late)
-  pub sticks_since : (early late : List Access) (port : Port) → EngineSticks port late
+  pub sticks_with_earlier_accesses : (early late : List Access) (port : Port) → EngineSticks port late
       → EngineSticks port (early ++ late)
   -- this crate's kinds of accesses
-  pub control_of : (set : RegisterSet) (port : Port) (access : Access)
-      → IsPortAccessWriting (registers_of set) port access
+  pub control_spares_other_ports : (set : RegisterSet) (port : Port) (access : Access)
+      → ReadsPortOrWrites (registers_of set) port access
       → SparesOtherPorts port access
-  pub control_spares : (set : RegisterSet) (port : Port) (r : PortReg) → (registers_of set r → ⊥) → (access : Access)
-      → IsPortAccessWriting (registers_of set) port access → DoesNotWrite (Px port r) access
-  pub control_wider : (set more : RegisterSet) (port : Port)
+  pub control_spares_other_registers : (set : RegisterSet) (port : Port) (r : PortReg) → (registers_of set r → ⊥)
+      → (access : Access)
+      → ReadsPortOrWrites (registers_of set) port access → DoesNotWrite (Px port r) access
+  pub control_of_larger_set : (set more : RegisterSet) (port : Port)
       → ((r : PortReg) → registers_of set r → registers_of more r) → (access : Access)
-      → IsPortAccessWriting (registers_of set) port access → IsPortAccessWriting (registers_of more) port access
+      → ReadsPortOrWrites (registers_of set) port access → ReadsPortOrWrites (registers_of more) port access
   pub fragments : FragmentLaws AccessPurpose accesses_for slot_uses_for

@@ -5,17 +5,17 @@ use Rattle.ata_types.specs.declared.Port.{Port}
 use Rattle.ata_types.specs.declared.PortState.{PortState}
 use Rattle.ata_types.specs.declared.PortState.TheVariants.{Dead}
 use Rattle.adapter.specs.Device.{Device}
-use Rattle.refinement.specs.Fragments.{IsPortAccessWriting, IsSimulated, IsSimulatedAlong}
+use Rattle.refinement.specs.Fragments.{ReadsPortOrWrites, IsSimulated, IsSimulatedAlong}
 use Rattle.refinement.specs.Driver.{AllFree}
 use Rattle.refinement.specs.Halting.{HaltIsOfTaken}
 use Rattle.identify.specs.declared.DiskInfo.{DiskInfo}
 use Rattle.port_control.specs.Engines.{Stops, StopsReceiving}
-use Rattle.port_boot.specs.States.{BacksState, EndsBeforeStart, EndsAfterStart, AsksDisk, BringsReady, IsBoot, IsBootTo, IsBootRegister, IsBroughtUp, IsBeforeStart, IsAfterStart, IsBootAccess, IsReady, StaysRunning, ShowsOnlyNewErrors, StopsOnWay, StopsWithLinkUp}
+use Rattle.port_boot.specs.States.{BacksState, EndsBeforeStart, EndsAfterStart, AsksDiskThenEnables, BringsReady, IsBoot, IsBootTo, IsBootRegister, IsBroughtUp, IsBeforeStart, IsAfterStart, IsBootAccess, IsReadyAfterBoot, StaysRunning, ShowsOnlyNewErrors, StopsOnWay, StopsWithLinkUp}
 
 -- A boot that leaves the port ready: what stands behind that; PxSCTL was written in it; what it is to a machine that
 -- agrees; and its way, with what the port shows of trouble; and what halts it is of a command that is taken.
 pub record EndsReady (wanted : Option (List ℕ)) (port : Port) (info : DiskInfo) (old new : Device) : Type 0 where
-  pub ready : IsReady wanted port.0 new info
+  pub ready : IsReadyAfterBoot wanted port.0 new info
   pub sctl_written_in_boot : length old.tape ≤ (new.port port.0).notes.sctl_written_at
   pub boots : IsBoot (StopsReceiving port) port old new
   pub brings_ready : BringsReady port old new
@@ -34,7 +34,7 @@ pub record EndsUnready (wanted : Option (List ℕ)) (port : Port) (state : PortS
 
 -- It brought the port up.
 pub record BootBringsUp (port : Port) (old new : Device) : Type 0 where
-  pub boots : IsSimulatedAlong (StopsReceiving port) (IsPortAccessWriting IsBootRegister port)
+  pub boots : IsSimulatedAlong (StopsReceiving port) (ReadsPortOrWrites IsBootRegister port)
       (λ uses. AllFree uses port.0) old
       new
   pub is_brought_up : IsBroughtUp port old new
@@ -50,9 +50,9 @@ pub record BootFailsToBringUp (port : Port) (state : PortState) (old new : Devic
 
 -- It fits, and the port is ready.
 pub record Identifies (wanted : Option (List ℕ)) (port : Port) (info : DiskInfo) (old new : Device) : Type 0 where
-  pub ready : IsReady wanted port.0 new info
+  pub ready : IsReadyAfterBoot wanted port.0 new info
   pub boots : IsSimulated (IsBootAccess port) (λ uses. AllFree uses port.0) old new
-  pub asks_disk : AsksDisk port old new
+  pub asks_disk : AsksDiskThenEnables port old new
   pub halt_is_of_taken : HaltIsOfTaken (new.port port.0)
   pub runs_on : StaysRunning port.0 old new
 

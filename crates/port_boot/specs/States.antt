@@ -9,33 +9,33 @@ use Rattle.ata_types.specs.declared.limits.TheConstants.{MOST_READINGS}
 use Rattle.hba_regs.specs.declared.reg.PortReg.{PortReg}
 use Rattle.hba_regs.specs.declared.reg.PortReg.TheVariants.{Ie}
 use Rattle.hba_regs.specs.declared.reg.Reg.TheVariants.{Px}
-use Rattle.adapter.specs.Access.{Access, Writes, named_causes}
+use Rattle.adapter.specs.Access.{Access, Writes, named_causes_mask}
 use Rattle.adapter.specs.Device.{Device, DevicePort}
 use Rattle.adapter.specs.declared.command.Operation.TheVariants.{Identify}
 use Rattle.adapter.specs.declared.tape.Entry.{Entry}
 use Rattle.adapter.specs.declared.tape.Entry.TheVariants as entry
 use Rattle.adapter.specs.declared.tape.Move as tape_move
 use Rattle.adapter.specs.Rules.{IsOn, HasPort}
-use Rattle.refinement.specs.Fragments.{RelatesWith, IsPortAccessWriting, IsDrivenBy, IsSimulatedAlong, IsSimulatedAlongChangingUses}
+use Rattle.refinement.specs.Fragments.{SomeMachineAgreesWith, ReadsPortOrWrites, IsDrivenBy, IsSimulatedAlong, IsSimulatedAlongChangingUses}
 use Rattle.refinement.specs.Driver.{AllFree}
-use Rattle.refinement.specs.Errors.{NoDiskComes, ChangesByDisks, ChangesByErrors, NoneFatal, NoneFails}
-use Rattle.refinement.specs.PortFacts.{FaultsOnRecord, RunsWell, Undisturbed}
-use Rattle.refinement.specs.Links.{NoPlugEvents}
+use Rattle.refinement.specs.Errors.{NoDiskComes, LinkErrorsRiseByDisks, ErrorBitsRiseByErrors, NoFatalErrors, NoFaults}
+use Rattle.refinement.specs.PortFacts.{RecordsFaultsIfSt, RunsWell, Undisturbed}
+use Rattle.refinement.specs.PreservedParts.{NoPlugEvents}
 use Rattle.refinement.specs.Slots.{Own, set_slot_state, IsMove}
-use Rattle.refinement.specs.StartedPort.{IsUp, IsComingUp, IsStarted}
+use Rattle.refinement.specs.StartedPort.{IsUpForStart, IsComingUp, IsStarted}
 use Rattle.disk_page.specs.PageRequests.{IsPageAccess}
-use Rattle.identify.specs.Page.{Describes, HasNoUnfit, IsFirstUnfit, IsSerial, unfit_number}
+use Rattle.identify.specs.IdentityPage.{Describes, IsFitPage, IsFirstUnfit, IsSerial, unfit_number}
 use Rattle.identify.specs.declared.DiskInfo.{DiskInfo}
 use Rattle.identify.specs.declared.Unfit.{Unfit as Fault}
 use Rattle.port_control.specs.Engines.{Stops, StopsReceiving, EngineSticks}
-use Rattle.port_control.specs.Ports.{FailsToStopPort, PortStops, IsCommandRegister, IsStopped, IsRunning, IsPlacingRegister, IsResetRegister, SawDevice, BacksFault, FindsSignature, SeesResetFault, SendsComresetThen, HasClearErrors, IsDeviceFound}
+use Rattle.port_control.specs.Ports.{FailsToStopPort, PortStops, IsCommandRegister, IsStopped, RunsWithoutCommands, IsPlacingRegister, IsResetRegister, SawDevice, BacksFault, FindsSignature, SeesResetFault, SendsComresetThen, SerrShowsOnlyNewPlugs, IsDeviceFound}
 use Rattle.port_control.specs.declared.PortFault.{PortFault}
 use Rattle.port_control.specs.declared.PortFault.TheVariants.{NoDevice, Busy, EngineStuck, NotAta}
 
 -- ---- the page
 
 -- These are the bytes of the port's last page of IDENTIFY DEVICE, which came after PxSCTL was last written.
-pub record HasIdentity (port : ℕ) (d : Device) (page : List ℕ) : Type 0 where
+pub record HasLastIdentifyPage (port : ℕ) (d : Device) (page : List ℕ) : Type 0 where
   pub before : List Entry
   pub move : tape_move.Move
   pub later : List Entry
@@ -51,14 +51,14 @@ SerialMatches None serial = Unit {0}
 SerialMatches (Some wanted) serial = serial ≡ wanted
 
 -- the page has no fault, tells this, and its serial number is the one that is named
-pub record IsFit (wanted : Option (List ℕ)) (page : List ℕ) (info : DiskInfo) : Type 0 where
-  pub no_fault : HasNoUnfit page
+pub record IsFitAndWanted (wanted : Option (List ℕ)) (page : List ℕ) (info : DiskInfo) : Type 0 where
+  pub no_fault : IsFitPage page
   pub page_tells : Describes page info
   pub serial_matches : SerialMatches wanted info.serial
 
 -- the page has no fault, and another serial number than the one that is named
 pub record HasOtherSerial (wanted : Option (List ℕ)) (page : List ℕ) : Type 0 where
-  pub no_fault : HasNoUnfit page
+  pub no_fault : IsFitPage page
   pub serial : List ℕ
   pub page_tells : IsSerial page serial
   pub serial_differs : SerialMatches wanted serial → ⊥
@@ -80,8 +80,8 @@ IsStateByPage wanted _ page = ⊥
 abbrev pub IsUnfit : ℕ → ℕ → Device → Type 0
 IsUnfit n port d = ((n ≡ 7) × BacksFault Busy (d.port port).notes)
     ⊎ ((n ≡ 8) × ((signature : ℕ) × BacksFault (NotAta signature) (d.port port).notes))
-    ⊎ ((n ≡ 9) × SawDevice (d.port port).notes × ((d.port port).notes.command_count ≡ MOST_READINGS))
-    ⊎ ((page : List ℕ) × HasIdentity port d page ×
+    ⊎ ((n ≡ 9) × SawDevice (d.port port).notes × ((d.port port).notes.slot0_issued_count ≡ MOST_READINGS))
+    ⊎ ((page : List ℕ) × HasLastIdentifyPage port d page ×
     ((fault : Fault) × IsFirstUnfit page fault × (n ≡ unfit_number fault)))
 
 -- the state that tells of a fault
@@ -97,25 +97,25 @@ abbrev pub BacksState : Option (List ℕ) → PortState → ℕ → Device → T
 BacksState wanted Absent port d = IsStopped (d.port port) × BacksFault NoDevice (d.port port).notes
 BacksState wanted (Unfit n) port d = IsStopped (d.port port) × IsUnfit n port d
 BacksState wanted Foreign port d = IsStopped (d.port port)
-    × ((page : List ℕ) × HasIdentity port d page × HasOtherSerial wanted page)
+    × ((page : List ℕ) × HasLastIdentifyPage port d page × HasOtherSerial wanted page)
 BacksState wanted Dead port d = ((d.port port).st ≡ false) × BacksFault EngineStuck (d.port port).notes
 BacksState wanted Ready port d = ⊥
 
 -- What stands behind a ready port as long as it isn't booted anew: no COMRESET is being sent, it tells by interrupts of
 -- DHRS, PSS, SDBS, PCS, PRCS, IFS, HBDS, HBFS and TFES (PxIE: AHCI 1.3.1, 3.3.6), and the last page is of a disk that
 -- fits.
-pub record HasFitDisk (wanted : Option (List ℕ)) (port : ℕ) (d : Device) (info : DiskInfo) : Type 0 where
+pub record HasFitDiskAndInterrupts (wanted : Option (List ℕ)) (port : ℕ) (d : Device) (info : DiskInfo) : Type 0 where
   pub no_comreset : (d.port port).sctl_det ≡ 0
-  pub ie_is_named : (d.port port).ie ≡ named_causes
+  pub ie_is_named : (d.port port).ie ≡ named_causes_mask
   pub last_identify_page : List ℕ
-  pub page_is_last : HasIdentity port d last_identify_page
-  pub disk_is_fit : IsFit wanted last_identify_page info
+  pub page_is_last : HasLastIdentifyPage port d last_identify_page
+  pub disk_is_fit : IsFitAndWanted wanted last_identify_page info
 
 -- Behind Ready stands such a disk, on a port that runs, with no command in a slot, and on which a device was seen.
-pub record IsReady (wanted : Option (List ℕ)) (port : ℕ) (d : Device) (info : DiskInfo) : Type 0 where
-  pub runs : IsRunning port (d.port port)
+pub record IsReadyAfterBoot (wanted : Option (List ℕ)) (port : ℕ) (d : Device) (info : DiskInfo) : Type 0 where
+  pub runs : RunsWithoutCommands port (d.port port)
   pub device_was_seen : SawDevice (d.port port).notes
-  pub has_fit_disk : HasFitDisk wanted port d info
+  pub has_fit_disk : HasFitDiskAndInterrupts wanted port d info
 
 -- ---- accesses
 
@@ -125,7 +125,7 @@ IsBootRegister r = IsPlacingRegister r ⊎ (IsResetRegister r ⊎ (r ≡ Ie))
 
 -- it is one of these writes, a reading of a register of the port, or one of asking for the page
 abbrev pub IsBootAccess : Port → Access → Type 0
-IsBootAccess port access = IsPortAccessWriting IsBootRegister port access ⊎ IsPageAccess port access
+IsBootAccess port access = ReadsPortOrWrites IsBootRegister port access ⊎ IsPageAccess port access
 
 -- What a boot is to each machine that agrees with a driver that uses no slot of the port: steps of the device alone,
 -- after which none is used; and so much is told of its accesses.
@@ -147,24 +147,24 @@ IsBootTo Tells port _ old new = IsBoot Tells port old new
 -- idle. Then ST was set, last of all (AHCI 1.3.1, 10.1.2).
 pub record BringsUpPort (port : Port) (old new : Device) : Type 0 where
   pub placed : Device
-  pub places : IsDrivenBy (IsPortAccessWriting IsPlacingRegister port) old placed
+  pub places : IsDrivenBy (ReadsPortOrWrites IsPlacingRegister port) old placed
   pub found : Device
   pub resets : SendsComresetThen port (FindsSignature port 0x101) placed found
-  pub starts : IsDrivenBy (IsPortAccessWriting IsCommandRegister port) found new
+  pub starts : IsDrivenBy (ReadsPortOrWrites IsCommandRegister port) found new
   pub st_set_is_last : (new.port port.0).notes.st_set_at ≡ length new.tape
 
 -- The disk was asked for its page; and last of all the port was made to tell of the causes of interrupts.
-pub record AsksDisk (port : Port) (old new : Device) : Type 0 where
+pub record AsksDiskThenEnables (port : Port) (old new : Device) : Type 0 where
   pub asked : Device
   pub asks : IsDrivenBy (IsPageAccess port) old asked
-  pub tells : Writes (Px port Ie) named_causes asked new
+  pub enables_interrupts : Writes (Px port Ie) named_causes_mask asked new
 
 -- The whole way to a port that is ready. It runs well where no disk went or came on the way, and nothing went wrong
 -- since ST was set.
 pub record BringsReady (port : Port) (old new : Device) : Type 0 where
   pub up : Device
   pub brings_up : BringsUpPort port old up
-  pub asks_disk : AsksDisk port up new
+  pub asks_disk : AsksDiskThenEnables port up new
   pub port_runs_well : NoPlugEvents port.0 old new → Undisturbed port.0 up new → RunsWell (new.port port.0)
 
 -- The port wasn't started: after COMRESET it was looked at, with this fault. Where no disk came, its link is up if
@@ -173,7 +173,7 @@ pub record EndsBeforeStart (port : Port) (state : PortState) (old new : Device) 
   pub fault : PortFault
   pub state_is : IsStateOfFault state fault
   pub placed : Device
-  pub places : IsDrivenBy (IsPortAccessWriting IsPlacingRegister port) old placed
+  pub places : IsDrivenBy (ReadsPortOrWrites IsPlacingRegister port) old placed
   pub resets : SendsComresetThen port (SeesResetFault port fault) placed new
   pub link_is_coming_up : NoDiskComes port.0 old new → IsComingUp (new.port port.0)
   pub device_is_found : fault ≢ NoDevice → IsDeviceFound port.0 old new
@@ -201,17 +201,18 @@ StopsOnWay port state accesses = StopsReceiving port accesses × (IsAfterStart s
 -- and HBFS of PxIS tell a fatal error since, and TFES a fault. Faults since ST was set are on record, so that no link
 -- is due. And where none of these is on the tape, the port runs well.
 pub record ShowsOnlyNewErrors (port : ℕ) (old new : Device) : Type 0 where
-  pub errors_are_clear : HasClearErrors port old new
-  pub fatal : NoneFatal port old new → (place : ℕ) → 27 ≤ place → place ≤ 29 → (new.port port).is place ≡ false
-  pub fault : NoneFails port old new → (new.port port).is 30 ≡ false
-  pub faults_are_on_record : FaultsOnRecord new.tape (new.port port) port
+  pub errors_are_clear : SerrShowsOnlyNewPlugs port old new
+  pub fatal_bits_are_clear : NoFatalErrors port old new → (place : ℕ) → 27 ≤ place → place ≤ 29
+      → (new.port port).is place ≡ false
+  pub tfes_is_clear : NoFaults port old new → (new.port port).is 30 ≡ false
+  pub faults_are_on_record : RecordsFaultsIfSt new.tape (new.port port) port
   pub port_runs_well : Undisturbed port old new → RunsWell (new.port port)
 
 -- The disk was asked for its page, and then the port was stopped: of registers PxCMD alone was written after it.
 pub record AsksThenStops (port : Port) (old new : Device) : Type 0 where
   pub asked : Device
   pub asks : IsDrivenBy (IsPageAccess port) old asked
-  pub stops : IsDrivenBy (IsPortAccessWriting IsCommandRegister port) asked new
+  pub stops : IsDrivenBy (ReadsPortOrWrites IsCommandRegister port) asked new
 
 -- A port that was started, asked, and stopped again: PxSERR tells no disk of before COMRESET; its link isn't due
 -- to come up any more; and where nothing went wrong, it is up.
@@ -219,9 +220,9 @@ pub record EndsAfterStart (port : Port) (old new : Device) : Type 0 where
   pub up : Device
   pub brings_up : BringsUpPort port old up
   pub asks_then_stops : AsksThenStops port up new
-  pub errors_are_clear : HasClearErrors port.0 old new
+  pub errors_are_clear : SerrShowsOnlyNewPlugs port.0 old new
   pub no_link_is_due : (new.port port.0).link_due ≡ false
-  pub undisturbed_link_is_up : Undisturbed port.0 old new → IsUp (new.port port.0)
+  pub undisturbed_link_is_up : Undisturbed port.0 old new → IsUpForStart (new.port port.0)
 
 -- ---- the parts of a boot
 
@@ -230,15 +231,15 @@ pub record EndsAfterStart (port : Port) (old new : Device) : Type 0 where
 pub record IsBootable (port : Port) (d : Device) : Type 0 where
   pub adapter_is_on : IsOn d
   pub has_port : HasPort d port.0
-  pub driver_memory_fits : DRIVER_BYTES ≤ d.size
-  pub machine_is_related : RelatesWith (λ uses. AllFree uses port.0) d
+  pub driver_memory_fits : DRIVER_BYTES ≤ d.memory_size
+  pub machine_is_related : SomeMachineAgreesWith (λ uses. AllFree uses port.0) d
 
 -- The port was brought up: it runs, with no command in a slot; COMRESET was sent since, and a device seen. PxIS is
 -- clear, PxSERR tells no disk of before, the record of faults begins, and where no disk went or came, the port is
 -- started with its link up.
 pub record IsBroughtUp (port : Port) (old new : Device) : Type 0 where
   pub bootable : IsBootable port new
-  pub runs : IsRunning port.0 (new.port port.0)
+  pub runs : RunsWithoutCommands port.0 (new.port port.0)
   pub no_comreset : (new.port port.0).sctl_det ≡ 0
   pub device_was_seen : SawDevice (new.port port.0).notes
   pub st_set_in_tape : (new.port port.0).notes.st_set_at ≤ length new.tape
@@ -246,29 +247,30 @@ pub record IsBroughtUp (port : Port) (old new : Device) : Type 0 where
   pub sctl_time_in_tape : (new.port port.0).notes.sctl_written_at ≤ length new.tape
   pub brings_up_port : BringsUpPort port old new
   pub no_cause_is_set : (place : ℕ) → place < 32 → (new.port port.0).is place ≡ false
-  pub errors_are_clear : HasClearErrors port.0 old new
-  pub faults_are_on_record : FaultsOnRecord new.tape (new.port port.0) port.0
+  pub errors_are_clear : SerrShowsOnlyNewPlugs port.0 old new
+  pub faults_are_on_record : RecordsFaultsIfSt new.tape (new.port port.0) port.0
   pub port_is_started : NoPlugEvents port.0 old new → IsStarted (new.port port.0)
 
 -- What goes on while PxSCTL isn't written and no link is due: no link gets due, N and X rise by disks alone, and the
 -- trouble that PxIS tells by errors alone.
 pub record BitsRiseWithCause (port : ℕ) (old new : Device) : Type 0 where
   pub no_link_gets_due : (old.port port).link_due ≡ false → (new.port port).link_due ≡ false
-  pub changes_by_disks : (old.port port).link_due ≡ false → ChangesByDisks port old new
-  pub changes_by_errors : ChangesByErrors port old new
+  pub changes_by_disks : (old.port port).link_due ≡ false → LinkErrorsRiseByDisks port old new
+  pub changes_by_errors : ErrorBitsRiseByErrors port old new
 
 -- and while ST isn't cleared either: a port that was started is so still where nothing went wrong, and the record of
 -- faults goes on
 pub record StaysRunning (port : ℕ) (old new : Device) : Type 0 where
   pub bits_rise_with_cause : BitsRiseWithCause port old new
   pub stays_started : Undisturbed port old new → IsStarted (old.port port) → IsStarted (new.port port)
-  pub faults_are_on_record : FaultsOnRecord old.tape (old.port port) port → FaultsOnRecord new.tape (new.port port) port
+  pub faults_are_on_record : RecordsFaultsIfSt old.tape (old.port port) port
+      → RecordsFaultsIfSt new.tape (new.port port) port
 
 -- and where ST is cleared in the end, the link of a port that was started is up
 pub record StopsWithLinkUp (port : Port) (old new : Device) : Type 0 where
   pub asks_disk_then_stops : AsksThenStops port old new
   pub bits_rise_with_cause : BitsRiseWithCause port.0 old new
-  pub link_is_up : Undisturbed port.0 old new → IsStarted (old.port port.0) → IsUp (new.port port.0)
+  pub link_is_up : Undisturbed port.0 old new → IsStarted (old.port port.0) → IsUpForStart (new.port port.0)
 
 -- The port was stopped, and is in this state; or its engine is stuck, and it is dead.
 abbrev pub IsStoppedAs : Port → PortState → PortState → Device → Device → Type 0

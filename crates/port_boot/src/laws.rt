@@ -1,24 +1,12 @@
 // Laws of the definitions, for callers: the clause is the theorem. Nothing that runs calls these functions.
 ghost use Rattle.std.specs.Prelude.{ℕ, ◌≡◌, ◌≢◌, ◌++◌, true, false, All, Contains, List, Option, Some};
-ghost use Rattle.ata_types.specs.declared.Port.{Port};
-ghost use Rattle.ata_types.specs.declared.PortState.{PortState};
-ghost use Rattle.ata_types.specs.declared.PortState.TheVariants.{Dead};
-ghost use Rattle.hba_regs.specs.declared.reg.PortReg.TheVariants.{Cmd, Sctl};
-ghost use Rattle.hba_regs.specs.declared.reg.Reg.TheVariants.{Ghc, Px};
-ghost use Rattle.adapter.specs.Access.{Access, Does, DoesAll, is_cause, is_pending, shown_interrupt};
-ghost use Rattle.adapter.specs.Device.{Device};
-ghost use Rattle.adapter.specs.PendingInterrupts.{LeavesIe, KeepsIsBit, SetsCause, interrupting_port};
-ghost use Rattle.adapter.specs.Rules.{IsOn};
-ghost use Rattle.adapter.specs.Steps.{Can, DeviceTransition, Steps, device_after};
-ghost use Rattle.adapter.specs.declared.tape.Entry.{Entry};
-ghost use Rattle.adapter.specs.declared.command.Operation.TheVariants.{Identify};
-ghost use Rattle.refinement.specs.Fragments.{IsPortAccessWriting, IsDrivenBy, SparesOtherPorts, LeavesPort, GainsNoMove};
-ghost use Rattle.refinement.specs.PortFacts.{RunsWell, Undisturbed};
-ghost use Rattle.refinement.specs.Links.{DoesNotWrite};
+ghost use Rattle.ata_types.specs.{declared.Port.{Port}, declared.PortState.{PortState}, declared.PortState.TheVariants.{Dead}};
+ghost use Rattle.hba_regs.specs.{declared.reg.PortReg.TheVariants.{Cmd, Sctl}, declared.reg.Reg.TheVariants.{Ghc, Px}};
+ghost use Rattle.adapter.specs.{Access.{Access, Does, DoesAll, is_named_cause, is_pending, shown_interrupt}, Device.{Device}, PendingInterrupts.{LeavesIe, KeepsIsBit, SetsCause, interrupting_port}, Rules.{IsOn}, Steps.{Can, DeviceTransition, Steps, device_after}, declared.tape.Entry.{Entry}, declared.command.Operation.TheVariants.{Identify}};
+ghost use Rattle.refinement.specs.{Fragments.{ReadsPortOrWrites, IsDrivenBy, SparesOtherPorts, LeavesPort, GainsNoMove}, PortFacts.{RunsWell, Undisturbed}, PreservedParts.{DoesNotWrite}};
 ghost use Rattle.identify.specs.declared.DiskInfo.{DiskInfo};
-ghost use Rattle.port_boot.specs.States.{BacksState, BringsReady, HasFitDisk, HasIdentity, IsBootTo, IsBootAccess, IsReady, StaysRunning, ShownDiskIsIn, StopsOnWay};
-ghost use Rattle.port_control.specs.Engines.{StopsBoth};
-ghost use Rattle.port_control.specs.Ports.{IsCommandRegister};
+ghost use Rattle.port_boot.specs.States.{BacksState, BringsReady, HasFitDiskAndInterrupts, HasLastIdentifyPage, IsBootTo, IsBootAccess, IsReadyAfterBoot, StaysRunning, ShownDiskIsIn, StopsOnWay};
+ghost use Rattle.port_control.specs.{Engines.{StopsBothEngines}, Ports.{IsCommandRegister}};
 
 use super::prerequisites::law_prerequisites;
 use adapter::laws::{law_an_enabled_cause_is_pending, law_what_the_tape_tells_is_pending};
@@ -29,17 +17,19 @@ use adapter::laws::{law_an_enabled_cause_is_pending, law_what_the_tape_tells_is_
 /// is dead, its disk may send a page.
 pub fn law_what_was_found_goes_on()
     ensures page { (port : ℕ) (old new : Device) (page : List ℕ) → GainsNoMove port Identify old new
-        → (new.port port).notes.sctl_written_at ≡ (old.port port).notes.sctl_written_at → HasIdentity port old page
-        → HasIdentity port new page }
+        → (new.port port).notes.sctl_written_at ≡ (old.port port).notes.sctl_written_at
+        → HasLastIdentifyPage port old page
+        → HasLastIdentifyPage port new page }
     ensures disk { (wanted : Option (List ℕ)) (port : ℕ) (old new : Device) (info : DiskInfo)
         → GainsNoMove port Identify old new → (new.port port).sctl_det ≡ (old.port port).sctl_det
         → (new.port port).ie ≡ (old.port port).ie → (new.port port).notes.sctl_written_at
-        ≡ (old.port port).notes.sctl_written_at → HasFitDisk wanted port old info
-        → HasFitDisk wanted port new info }
+        ≡ (old.port port).notes.sctl_written_at → HasFitDiskAndInterrupts wanted port old info
+        → HasFitDiskAndInterrupts wanted port new info }
     ensures ready { (wanted : Option (List ℕ)) (port : ℕ) (old new : Device) (info : DiskInfo)
-        → LeavesPort (old.port port) (new.port port) → GainsNoMove port Identify old new → IsReady wanted port old info
-        → IsReady wanted port new info }
-    ensures ends { (wanted : Option (List ℕ)) (state : PortState) (port : ℕ) (old new : Device)
+        → LeavesPort (old.port port) (new.port port) → GainsNoMove port Identify old new
+        → IsReadyAfterBoot wanted port old info
+        → IsReadyAfterBoot wanted port new info }
+    ensures state_stays_backed { (wanted : Option (List ℕ)) (state : PortState) (port : ℕ) (old new : Device)
         → LeavesPort (old.port port) (new.port port) → (state ≢ Dead → GainsNoMove port Identify old new)
         → BacksState wanted state port old → BacksState wanted state port new }
 {}
@@ -50,15 +40,16 @@ pub fn law_what_was_found_goes_on()
 /// or failed, a fatal error, or a disk that went or came: where GHC.IE is one, this is what a handler of interrupts
 /// waits for.
 pub fn law_a_ready_port_interrupts()
-    ensures shown { (wanted : Option (List ℕ)) (port place : ℕ) (d : Device) (info : DiskInfo)
-        → HasFitDisk wanted port d info → is_cause place ≡ true → shown_interrupt (d.port port) place ≡ true
+    ensures shown_cause_is_pending { (wanted : Option (List ℕ)) (port place : ℕ) (d : Device) (info : DiskInfo)
+        → HasFitDiskAndInterrupts wanted port d info → is_named_cause place ≡ true
+        → shown_interrupt (d.port port) place ≡ true
         → is_pending (d.port port) ≡ true }
-    ensures raised { (wanted : Option (List ℕ)) (port place : ℕ) (step : DeviceTransition) (d : Device)
+    ensures raised_cause_is_pending { (wanted : Option (List ℕ)) (port place : ℕ) (step : DeviceTransition) (d : Device)
         (info : DiskInfo)
-        → HasFitDisk wanted port d info → Can step d → SetsCause step port place
+        → HasFitDiskAndInterrupts wanted port d info → Can step d → SetsCause step port place
         → is_pending ((device_after step d).port port) ≡ true }
-    ensures told { (wanted : Option (List ℕ)) (port : ℕ) (entry : Entry) (accesses : List Access)
-        (gained : List Entry) (old new : Device) (info : DiskInfo) → HasFitDisk wanted port old info
+    ensures tape_event_is_pending { (wanted : Option (List ℕ)) (port : ℕ) (entry : Entry) (accesses : List Access)
+        (gained : List Entry) (old new : Device) (info : DiskInfo) → HasFitDiskAndInterrupts wanted port old info
         → interrupting_port entry ≡ Some port → DoesAll accesses old new → All (KeepsIsBit port) accesses
         → All (LeavesIe port) accesses → old.hr ≡ false → new.tape ≡ old.tape ++ gained
         → Contains gained entry → is_pending (new.port port) ≡ true }
@@ -78,9 +69,10 @@ pub fn law_a_boot_is_of_its_port()
 pub fn law_boots_are_driven()
     ensures boots { (port : Port) (state : PortState) (old new : Device)
         → IsBootTo (StopsOnWay port state) port state old new → IsDrivenBy (IsBootAccess port) old new }
-    ensures stops { (port : Port) (state : PortState) (old new : Device) → IsBootTo (StopsBoth port) port state old new
+    ensures stops { (port : Port) (state : PortState) (old new : Device)
+        → IsBootTo (StopsBothEngines port) port state old new
         → IsDrivenBy (IsBootAccess port) old new }
-    ensures commanding { (port : Port) (access : Access) → IsPortAccessWriting IsCommandRegister port access
+    ensures commanding { (port : Port) (access : Access) → ReadsPortOrWrites IsCommandRegister port access
         → IsBootAccess port access }
 {
     law_prerequisites();
@@ -113,5 +105,6 @@ pub fn law_a_disk_is_in_where_one_shows()
         → ShownDiskIsIn (old.port port) → ShownDiskIsIn (new.port port) }
     ensures accesses { (port : ℕ) (accesses : List Access) (old new : Device) → DoesAll accesses old new
         → ShownDiskIsIn (old.port port) → ShownDiskIsIn (new.port port) }
-    ensures begins { (port : Port) (old new : Device) → BringsReady port old new → ShownDiskIsIn (new.port port.0) }
+    ensures ready_boot_establishes { (port : Port) (old new : Device) → BringsReady port old new
+        → ShownDiskIsIn (new.port port.0) }
 {}

@@ -6,16 +6,10 @@
 #![tactic(auto)]
 
 ghost use Rattle.std.specs.Prelude.{Option, ◌≡◌, ◌↔◌, IsTrue, IfOk, IfErr, OnOk};
-ghost use Rattle.adapter.specs.Access.{named_causes};
-ghost use Rattle.adapter.specs.Device.{Device};
-ghost use Rattle.adapter.specs.Rules.{IsOn, HasPort};
-ghost use Rattle.refinement.specs.Fragments.{RelatesWith, AnyUse};
-ghost use Rattle.port_control.specs.Ports.{IsStopped, HasStCleared};
-ghost use Rattle.port_boot.specs.Outcomes.{EndsReady, EndsUnready, FailsToIdentify, BootFailsToBringUp, Identifies, BootBringsUp};
-ghost use Rattle.port_boot.specs.States.{IsStateOfFault, SerialMatches, IsFit, IsStateByPage, IsBootable, IsBroughtUp, IsStoppedAs};
-ghost use Rattle.adapter.specs.AccessBounds.{MakesAtMost};
-ghost use Rattle.port_control.specs.Costs.{STOP_ACCESSES};
-ghost use Rattle.port_boot.specs.Costs.{BOOT_ACCESSES, IDENTIFY_ACCESSES, BRING_UP_ACCESSES};
+ghost use Rattle.adapter.specs.{Access.{named_causes_mask}, Device.{Device}, Rules.{IsOn, HasPort}, AccessBounds.{MakesAtMost}};
+ghost use Rattle.refinement.specs.Fragments.{SomeMachineAgreesWith, AnySlotStates};
+ghost use Rattle.port_control.specs.{Ports.{IsStopped, ClearsStAlone}, Costs.{STOP_ACCESSES}};
+ghost use Rattle.port_boot.specs.{Outcomes.{EndsReady, EndsUnready, FailsToIdentify, BootFailsToBringUp, Identifies, BootBringsUp}, States.{IsStateOfFault, SerialMatches, IsFitAndWanted, IsStateByPage, IsBootable, IsBroughtUp, IsStoppedAs}, Costs.{BOOT_ACCESSES, IDENTIFY_ACCESSES, BRING_UP_ACCESSES}};
 
 use adapter::Adapter;
 use ata_types::{Port, PortState};
@@ -61,7 +55,7 @@ fn fits(wanted: &Option<[u8; 20]>, serial: &[u8; 20]) -> bool
 
 /// What a page says of its disk; or what it makes of the port.
 fn judge(page: &[u8; 512], wanted: &Option<[u8; 20]>) -> Result<DiskInfo, PortState>
-    ensures fit { IfOk result (IsFit wanted.now page.now) }
+    ensures fit { IfOk result (IsFitAndWanted wanted.now page.now) }
     ensures judged { IfErr result (λ state. IsStateByPage wanted.now state page.now) }
 {
     let info = match parse(page) {
@@ -80,7 +74,7 @@ fn judge(page: &[u8; 512], wanted: &Option<[u8; 20]>) -> Result<DiskInfo, PortSt
 fn bring_up<A: Adapter>(adapter: &mut A, stopped: Stopped) -> Result<Running, PortState>
     requires bootable { IsBootable stopped.port (A.device adapter.old) }
     requires stopped { IsStopped ((A.device adapter.old).port stopped.port.0) }
-    ensures on { IsOn (A.device adapter.new) }
+    ensures adapter_is_on { IsOn (A.device adapter.new) }
     ensures names { IfOk result (λ running. running.port ≡ stopped.port) }
     ensures rises { OnOk result (BootBringsUp stopped.port (A.device adapter.old) (A.device adapter.new)) }
     ensures fails { IfErr result (λ state. BootFailsToBringUp stopped.port state (A.device adapter.old)
@@ -100,11 +94,11 @@ fn bring_up<A: Adapter>(adapter: &mut A, stopped: Stopped) -> Result<Running, Po
 
 /// Stops the port, which then is in this state; or `Dead`, where its engine is stuck.
 fn halt<A: Adapter>(adapter: &mut A, port: Port, state: PortState) -> PortState
-    requires on { IsOn (A.device adapter.old) }
-    requires there { HasPort (A.device adapter.old) port.0 }
-    requires agreed { RelatesWith AnyUse (A.device adapter.old) }
-    ensures on { IsOn (A.device adapter.new) }
-    ensures has { HasStCleared ((A.device adapter.old).port port.0) ((A.device adapter.new).port port.0) }
+    requires adapter_is_on { IsOn (A.device adapter.old) }
+    requires has_port { HasPort (A.device adapter.old) port.0 }
+    requires some_machine_agrees { SomeMachineAgreesWith AnySlotStates (A.device adapter.old) }
+    ensures adapter_is_on { IsOn (A.device adapter.new) }
+    ensures has { ClearsStAlone ((A.device adapter.old).port port.0) ((A.device adapter.new).port port.0) }
     ensures halted { IsStoppedAs port state result (A.device adapter.old) (A.device adapter.new) }
     ensures cost { MakesAtMost STOP_ACCESSES (A.access_count adapter.old) (A.access_count adapter.new) }
 {
@@ -117,7 +111,7 @@ fn halt<A: Adapter>(adapter: &mut A, port: Port, state: PortState) -> PortState
 /// The causes of which a port tells by interrupts: TFES, HBFS, HBDS, IFS, PRCS, PCS, SDBS, PSS and DHRS (AHCI 1.3.1,
 /// 3.3.6).
 fn causes() -> u32
-    ensures { result ≡ named_causes }
+    ensures { result ≡ named_causes_mask }
 {
     0x7840_004b
 }
@@ -129,7 +123,7 @@ fn identify_disk<A: Adapter>(
     wanted: &Option<[u8; 20]>,
 ) -> Result<DiskInfo, PortState>
     requires up { (start : Device) × IsBroughtUp port start (A.device adapter.old) }
-    ensures on { IsOn (A.device adapter.new) }
+    ensures adapter_is_on { IsOn (A.device adapter.new) }
     ensures written { ((A.device adapter.new).port port.0).notes.sctl_written_at
         ≡ ((A.device adapter.old).port port.0).notes.sctl_written_at }
     ensures identifies { IfOk result (λ info. Identifies wanted.now port info (A.device adapter.old)
@@ -165,7 +159,7 @@ pub fn boot<A: Adapter>(
 ) -> Result<DiskInfo, PortState>
     requires bootable { IsBootable stopped.port (A.device adapter.old) }
     requires stopped { IsStopped ((A.device adapter.old).port stopped.port.0) }
-    ensures on { IsOn (A.device adapter.new) }
+    ensures adapter_is_on { IsOn (A.device adapter.new) }
     ensures ready { IfOk result (λ info. EndsReady wanted.now stopped.port info (A.device adapter.old)
         (A.device adapter.new)) }
     ensures unready { IfErr result (λ state. EndsUnready wanted.now stopped.port state (A.device adapter.old)

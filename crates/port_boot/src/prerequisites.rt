@@ -6,9 +6,9 @@ use disk_page::laws::law_asking_is_of_one_port;
 use port_control::laws::law_what_is_told_of_engines_stays;
 use refinement::access_kinds::{law_controls_are_of_a_port, law_fragment_prerequisites};
 use refinement::fragments::{
-    law_other_ports_are_left, law_tape_prerequisites, law_unused_slots_are_silent,
+    law_other_ports_are_untouched, law_tape_prerequisites, law_unused_slots_are_silent,
 };
-use refinement::laws::law_writing_is_permitted;
+use refinement::laws::law_writing_stays_permitted;
 use refinement::port_facts::{
     law_adapter_stays, law_cleared_stays, law_faults_are_recorded, law_link_comes_up,
     law_running_well_is_found, law_undisturbed_ports_tell_nothing,
@@ -29,9 +29,9 @@ pub fn law_prerequisites()
     law_running_well_is_found();
     law_fragment_prerequisites::<Brand>();
     law_controls_are_of_a_port::<Brand>();
-    law_writing_is_permitted();
+    law_writing_stays_permitted();
     law_halts_are_of_taken_commands();
-    law_other_ports_are_left();
+    law_other_ports_are_untouched();
     law_tape_prerequisites();
     law_unused_slots_are_silent();
     law_asking_is_of_one_port();

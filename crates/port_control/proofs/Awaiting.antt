@@ -8,7 +8,7 @@ use Rattle.hba_regs.specs.declared.reg.PortReg.TheVariants.{Cmd}
 use Rattle.hba_regs.specs.declared.reg.Reg.TheVariants.{Px}
 use Rattle.adapter.specs.Access.{Access}
 use Rattle.adapter.specs.Access.Access.{Reading, Writing, Loading, Storing}
-use Rattle.refinement.specs.Links.{DoesNotWrite}
+use Rattle.refinement.specs.PreservedParts.{DoesNotWrite}
 use Rattle.port_control.specs.Engines.{AwaitsEngineStop, EngineFalls, ShowsStillRunning, ReadsPortCmd}
 
 -- a reading writes nothing
@@ -23,8 +23,8 @@ module _ (start running : ℕ) (port : Port) where
   pub awaits_none : (cleared : ℕ) → bit cleared start ≡ false → (early late : List Access) → late ≡ Writing (Px port Cmd) cleared ∷ [] → AwaitsEngineStop start running port 0 (early ++ late)
   awaits_none cleared zero early late is = record {
     before = early;
-    cleared = cleared;
-    stuck = [];
+    written_cmd = cleared;
+    stuck_readings = [];
     accesses_are = ap (λ (accesses : List Access). early ++ accesses) is;
     start_is_cleared = zero;
     count_is = refl;
@@ -33,32 +33,32 @@ module _ (start running : ℕ) (port : Port) where
 
   -- PxCMD is read
   module _ (n v : ℕ) (early late : List Access) (a : AwaitsEngineStop start running port n early) (is : late ≡ Reading (Px port Cmd) v ∷ []) where
-    then_reads : early ++ late ≡ a.before ++ (Writing (Px port Cmd) a.cleared ∷ (a.stuck ++ Reading (Px port Cmd) v ∷ []))
+    then_reads : early ++ late ≡ a.before ++ (Writing (Px port Cmd) a.written_cmd ∷ (a.stuck_readings ++ Reading (Px port Cmd) v ∷ []))
     then_reads =
         ap (λ (accesses : List Access). accesses ++ late) a.accesses_are
-        ∙ (append_assoc a.before (Writing (Px port Cmd) a.cleared ∷ a.stuck) late
-        ∙ ap (λ (accesses : List Access). a.before ++ (Writing (Px port Cmd) a.cleared ∷ (a.stuck ++ accesses))) is)
+        ∙ (append_assoc a.before (Writing (Px port Cmd) a.written_cmd ∷ a.stuck_readings) late
+        ∙ ap (λ (accesses : List Access). a.before ++ (Writing (Px port Cmd) a.written_cmd ∷ (a.stuck_readings ++ accesses))) is)
 
     pub awaits_more : ShowsStillRunning start running v → AwaitsEngineStop start running port (n + 1) (early ++ late)
     awaits_more shows = record {
       before = a.before;
-      cleared = a.cleared;
-      stuck = a.stuck ++ Reading (Px port Cmd) v ∷ [];
+      written_cmd = a.written_cmd;
+      stuck_readings = a.stuck_readings ++ Reading (Px port Cmd) v ∷ [];
       accesses_are = then_reads;
       start_is_cleared = a.start_is_cleared;
-      count_is = length-append a.stuck (Reading (Px port Cmd) v ∷ []) ∙ ap (λ (k : ℕ). k + 1) a.count_is;
-      all_show_running = All-push (ReadsPortCmd (ShowsStillRunning start running) port) a.stuck (Reading (Px port Cmd) v) a.all_show_running (refl, shows);
+      count_is = length-append a.stuck_readings (Reading (Px port Cmd) v ∷ []) ∙ ap (λ (k : ℕ). k + 1) a.count_is;
+      all_show_running = All-push (ReadsPortCmd (ShowsStillRunning start running) port) a.stuck_readings (Reading (Px port Cmd) v) a.all_show_running (refl, shows);
     }
 
     pub awaits_falls : bit v running ≡ false → EngineFalls start running port (early ++ late)
     awaits_falls zero = record {
       before = a.before;
-      cleared = a.cleared;
-      between = a.stuck;
-      fallen = v;
+      written_cmd = a.written_cmd;
+      between = a.stuck_readings;
+      read_cmd = v;
       later = [];
       accesses_are = then_reads;
       start_is_cleared = a.start_is_cleared;
-      cmd_is_unwritten = All-weaker (ReadsPortCmd (ShowsStillRunning start running) port) (DoesNotWrite (Px port Cmd)) (reading_spares (ShowsStillRunning start running) port) a.stuck a.all_show_running;
+      cmd_is_unwritten = All-weaker (ReadsPortCmd (ShowsStillRunning start running) port) (DoesNotWrite (Px port Cmd)) (reading_spares (ShowsStillRunning start running) port) a.stuck_readings a.all_show_running;
       stop_is_shown = zero;
     }

@@ -10,9 +10,9 @@ use Rattle.adapter.specs.Access.{Reads, Writes}
 use Rattle.adapter.specs.Access.Access.{Reading, Writing}
 use Rattle.adapter.specs.Device.{Device}
 use Rattle.adapter.specs.Rules.{IsOn, MayWrite, IsStable}
-use Rattle.refinement.specs.Fragments.{AnyUse, IsPortAccessWriting, IsSimulated}
-use Rattle.refinement.specs.Links.{DoesNotWrite}
-use Rattle.port_control.specs.Ports.{IsErrorRegister, IsOnAndAgrees, ReceivesFises, SawDevice, ClearsErrors, HasClearErrors, ClearsErrorState}
+use Rattle.refinement.specs.Fragments.{AnySlotStates, ReadsPortOrWrites, IsSimulated}
+use Rattle.refinement.specs.PreservedParts.{DoesNotWrite}
+use Rattle.port_control.specs.Ports.{IsSerrOrIs, IsOnAndAgrees, IsStoppedReceiving, SawDevice, ClearsErrors, SerrShowsOnlyNewPlugs, ClearsErrorState}
 use Rattle.port_control.proofs.Using.{usable_after}
 use Rattle.port_control.proofs.Settling.{comes_in_parts, plugs_in_parts, Settles, settles}
 use Rattle.port_control.specs.Laws.RegisterSet.{Clearing}
@@ -24,10 +24,10 @@ pub ones : (place : ℕ) → place < 32 → bit 0xffffffff place ≡ true
 ones place small = ap (λ (n : ℕ). n == 1) (bit_at_ones 32 place small)
 
 module _ (laws : Laws) where
-  pub serr_may : (port : Port) (v : ℕ) (d : Device) → IsOnAndAgrees AnyUse port d → IsStable (MayWrite (Px port Serr) v) d
+  pub serr_may : (port : Port) (v : ℕ) (d : Device) → IsOnAndAgrees AnySlotStates port d → IsStable (MayWrite (Px port Serr) v) d
   serr_may port v d u = laws.write_stays (Px port Serr) v d (λ p e. cc) (u.adapter_is_on, u.has_port, tt)
 
-  pub is_may : (port : Port) (v : ℕ) (d : Device) → IsOnAndAgrees AnyUse port d → IsStable (MayWrite (Px port Is) v) d
+  pub is_may : (port : Port) (v : ℕ) (d : Device) → IsOnAndAgrees AnySlotStates port d → IsStable (MayWrite (Px port Is) v) d
   is_may port v d u = laws.write_stays (Px port Is) v d (λ p e. cc) (u.adapter_is_on, u.has_port, tt)
 
   -- what PxSSTS was read as stays
@@ -37,30 +37,30 @@ module _ (laws : Laws) where
       let link = (laws.access_notes port (Writing (Px port r) v) old new call).link tt in
       (ap (λ (n : ℕ). n % 16) link.0 ∙ saw.0, link.1 spares ∙ saw.1)
 
-  module _ (port : Port) (old mid new : Device) (u : IsOnAndAgrees AnyUse port old) (serr : Writes (Px port Serr) 0xffffffff old mid) where
-    pub first : IsSimulated (IsPortAccessWriting IsErrorRegister port) AnyUse old mid
+  module _ (port : Port) (old mid new : Device) (u : IsOnAndAgrees AnySlotStates port old) (serr : Writes (Px port Serr) 0xffffffff old mid) where
+    pub first : IsSimulated (ReadsPortOrWrites IsSerrOrIs port) AnySlotStates old mid
     first = followed_write laws (Controlling Clearing port) (Px port Serr) 0xffffffff old mid (refl, inl refl) (serr_may port 0xffffffff old u) (λ uses is. tt) serr
 
-    pub clearing : IsOnAndAgrees AnyUse port mid
+    pub clearing : IsOnAndAgrees AnySlotStates port mid
     clearing = usable_after laws Clearing port old mid u first
 
     -- PxSERR tells no disk of before, whatever is cleared after it
-    pub since_clear : IsSimulated (IsPortAccessWriting IsErrorRegister port) AnyUse mid new → (old.port port.0).link_due ≡ false → HasClearErrors port.0 old new
+    pub since_clear : IsSimulated (ReadsPortOrWrites IsSerrOrIs port) AnySlotStates mid new → (old.port port.0).link_due ≡ false → SerrShowsOnlyNewPlugs port.0 old new
     since_clear second undue =
         let s : Settles port old mid = settles laws port old mid u.adapter_is_on first.is_driven in
         let t : Settles port mid new = settles laws port mid new clearing.adapter_is_on second.is_driven in
         let errors = laws.errors_cleared port 0xffffffff old mid serr in
         let c = t.change (s.undue undue) in
         record {
-          serr_n = λ none. c.serr_n (plugs_in_parts laws port.0 old mid new s.grows t.grows none).1 (errors.0 (ones 16 (omega arith)));
-          serr_x = λ none. c.serr_x (comes_in_parts laws port.0 old mid new s.grows t.grows none).1 (errors.1 (ones 26 (omega arith)));
+          serr_n_is_clear = λ none. c.serr_n_rises_by_plug_events (plugs_in_parts laws port.0 old mid new s.grows t.grows none).1 (errors.0 (ones 16 (omega arith)));
+          serr_x_is_clear = λ none. c.serr_x_rises_by_disk_coming (comes_in_parts laws port.0 old mid new s.grows t.grows none).1 (errors.1 (ones 26 (omega arith)));
         }
 
     module _ (is : Writes (Px port Is) 0xffffffff mid new) where
-      second : IsSimulated (IsPortAccessWriting IsErrorRegister port) AnyUse mid new
+      second : IsSimulated (ReadsPortOrWrites IsSerrOrIs port) AnySlotStates mid new
       second = followed_write laws (Controlling Clearing port) (Px port Is) 0xffffffff mid new (refl, inr refl) (is_may port 0xffffffff mid clearing) (λ uses is. tt) is
 
-      pub clears : IsSimulated (IsPortAccessWriting IsErrorRegister port) AnyUse old new
+      pub clears : IsSimulated (ReadsPortOrWrites IsSerrOrIs port) AnySlotStates old new
       clears = followed_then laws (Controlling Clearing port) old mid new first second
 
       pub cleared_saw : SawDevice (old.port port.0).notes → SawDevice (new.port port.0).notes
@@ -72,23 +72,23 @@ module _ (laws : Laws) where
       cleared_calm place small = laws.causes_cleared port 0xffffffff mid new is place (ones place small)
 
       pub cleared_by : ClearsErrors port old new
-      cleared_by = record { between = mid; errors = serr; causes = is }
+      cleared_by = record { between = mid; clears_serr = serr; clears_is = is }
 
-      pub cleared_clear : (old.port port.0).link_due ≡ false → HasClearErrors port.0 old new
+      pub cleared_clear : (old.port port.0).link_due ≡ false → SerrShowsOnlyNewPlugs port.0 old new
       cleared_clear = since_clear second
 
   -- ---- and PxTFD is read then
 
-  module _ (port : Port) (v : ℕ) (old mid new : Device) (u : IsOnAndAgrees AnyUse port old) (receives : ReceivesFises port.0 (old.port port.0))
-      (undue : (old.port port.0).link_due ≡ false) (det : (old.port port.0).sctl_det ≡ 0) (first : IsSimulated (IsPortAccessWriting IsErrorRegister port) AnyUse old mid)
+  module _ (port : Port) (v : ℕ) (old mid new : Device) (u : IsOnAndAgrees AnySlotStates port old) (receives : IsStoppedReceiving port.0 (old.port port.0))
+      (undue : (old.port port.0).link_due ≡ false) (det : (old.port port.0).sctl_det ≡ 0) (first : IsSimulated (ReadsPortOrWrites IsSerrOrIs port) AnySlotStates old mid)
       (clears : ClearsErrors port old mid) (read : Reads (Px port Tfd) v mid new) where
-    forgetting : IsOnAndAgrees AnyUse port mid
+    forgetting : IsOnAndAgrees AnySlotStates port mid
     forgetting = usable_after laws Clearing port old mid u first
 
-    then : IsSimulated (IsPortAccessWriting IsErrorRegister port) AnyUse mid new
+    then : IsSimulated (ReadsPortOrWrites IsSerrOrIs port) AnySlotStates mid new
     then = followed_read laws (Controlling Clearing port) (Px port Tfd) v mid new refl read
 
-    pub forgets_followed : IsSimulated (IsPortAccessWriting IsErrorRegister port) AnyUse old new
+    pub forgets_followed : IsSimulated (ReadsPortOrWrites IsSerrOrIs port) AnySlotStates old new
     forgets_followed = followed_then laws (Controlling Clearing port) old mid new first then
 
     pub forgets_on : IsOn new
@@ -96,19 +96,19 @@ module _ (laws : Laws) where
 
     -- neither a write nor a reading of another register leaves another value of PxSSTS, or another count
     abbrev SameLink : Device → Device → Type 0
-    SameLink a b = ((b.port port.0).notes.last_ssts ≡ (a.port port.0).notes.last_ssts) × ((b.port port.0).notes.link_count ≡ (a.port port.0).notes.link_count)
+    SameLink a b = ((b.port port.0).notes.last_ssts ≡ (a.port port.0).notes.last_ssts) × ((b.port port.0).notes.link_wait_count ≡ (a.port port.0).notes.link_wait_count)
 
     same_written : (r : PortReg) (w : ℕ) (a b : Device) → DoesNotWrite (Px port Sctl) (Writing (Px port r) w) → Writes (Px port r) w a b → SameLink a b
     same_written r w a b spares call = let link = (laws.access_notes port (Writing (Px port r) w) a b call).link tt in (link.0, link.1 spares)
 
     same_link : SameLink old new
     same_link =
-        let first = same_written Serr 0xffffffff old clears.between (λ (e : Px port Serr ≡ Px port Sctl). absurd (cc)) clears.errors in
-        let second = same_written Is 0xffffffff clears.between mid (λ (e : Px port Is ≡ Px port Sctl). absurd (cc)) clears.causes in
+        let first = same_written Serr 0xffffffff old clears.between (λ (e : Px port Serr ≡ Px port Sctl). absurd (cc)) clears.clears_serr in
+        let second = same_written Is 0xffffffff clears.between mid (λ (e : Px port Is ≡ Px port Sctl). absurd (cc)) clears.clears_is in
         let third = (laws.access_notes port (Reading (Px port Tfd) v) mid new read).link (λ (e : Px port Tfd ≡ Px port Ssts). absurd (cc)) in
         (third.0 ∙ second.0 ∙ first.0, third.1 tt ∙ second.1 ∙ first.1)
 
-    pub forgets : ((place : ℕ) → place < 32 → (mid.port port.0).is place ≡ false) → HasClearErrors port.0 old mid → ClearsErrorState port v old new
+    pub forgets : ((place : ℕ) → place < 32 → (mid.port port.0).is place ≡ false) → SerrShowsOnlyNewPlugs port.0 old mid → ClearsErrorState port v old new
     forgets calm clear =
         let s : Settles port old mid = settles laws port old mid u.adapter_is_on first.is_driven in
         let t : Settles port mid new = settles laws port mid new forgetting.adapter_is_on then.is_driven in
@@ -121,16 +121,16 @@ module _ (laws : Laws) where
           clears = clears;
           reads = read;
           receives = after;
-          last_tfd_is = laws.file_noted port v mid new read;
+          last_tfd_is = laws.last_tfd_is_read port v mid new read;
           last_ssts_is_kept = same_link.0;
           link_count_is_kept = same_link.1;
           no_cause_is_set = quiet;
           errors_are_clear = record {
-            serr_n = λ none. let n = plugs_in_parts laws port.0 old mid new s.grows t.grows none in c.serr_n n.1 (clear.serr_n n.0);
-            serr_x = λ none. let n = comes_in_parts laws port.0 old mid new s.grows t.grows none in c.serr_x n.1 (clear.serr_x n.0);
+            serr_n_is_clear = λ none. let n = plugs_in_parts laws port.0 old mid new s.grows t.grows none in c.serr_n_rises_by_plug_events n.1 (clear.serr_n_is_clear n.0);
+            serr_x_is_clear = λ none. let n = comes_in_parts laws port.0 old mid new s.grows t.grows none in c.serr_x_rises_by_disk_coming n.1 (clear.serr_x_is_clear n.0);
           };
           is_clean_to_start = record {
-            tfes_is_clear = (after.stopped.halted.cr, quiet 30 (omega arith));
+            is_stopped_tfes_clear = (after.stopped.engine_is_stopped.cr_is_clear, quiet 30 (omega arith));
             no_link_is_due = t.undue (s.undue undue);
             no_comreset = λ e. let d = t.det ∙ s.det ∙ det in absurd (omega (arith, e, d));
           };

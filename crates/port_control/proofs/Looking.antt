@@ -13,11 +13,11 @@ use Rattle.hba_regs.specs.declared.reg.Reg.TheVariants.{Px}
 use Rattle.adapter.specs.Access.{Reads, count_after_reading, link_count_after_reading}
 use Rattle.adapter.specs.Access.Access.{Reading}
 use Rattle.adapter.specs.Device.{Notes, DevicePort, Device}
-use Rattle.refinement.specs.Fragments.{AnyUse, IsPortAccessWriting, IsSimulated}
+use Rattle.refinement.specs.Fragments.{AnySlotStates, ReadsPortOrWrites, IsSimulated}
 use Rattle.refinement.specs.Errors.{NoDiskComes}
-use Rattle.refinement.specs.PortFacts.{ShowsDrqTillLink, IsCleanToStart, StoppedTfesClear}
-use Rattle.refinement.specs.StartedPort.{IsUp, IsComingUp}
-use Rattle.port_control.specs.Ports.{IsErrorRegister, IsOnAndAgrees, HasLink, ShowsIdle, SawDevice, SawIdle, IsVainReading, ReadsInVain, ReadsUntil, ShowsSignature}
+use Rattle.refinement.specs.PortFacts.{StoppedWithDrqTillLink, IsCleanToStart, StoppedTfesClear}
+use Rattle.refinement.specs.StartedPort.{IsUpForStart, IsComingUp}
+use Rattle.port_control.specs.Ports.{IsSerrOrIs, IsOnAndAgrees, HasLink, ShowsIdle, SawDevice, SawIdle, IsVainReading, ReadsInVain, ReadsUntil, LastSignatureIsShown}
 use Rattle.port_control.proofs.Using.{usable_read}
 use Rattle.port_control.proofs.Ceasing.{counted_again}
 use Rattle.port_control.proofs.Settling.{comes_in_parts, Settles, settles}
@@ -28,23 +28,23 @@ use Rattle.port_control.proofs.Stretching.{followed_read, followed_then}
 
 -- so many readings of PxSSTS showed no device with a link
 pub record IsMissing (port : Port) (start : Device) (n : ℕ) (d : Device) : Type 0 where
-  pub followed : IsSimulated (IsPortAccessWriting IsErrorRegister port) AnyUse start d
-  pub usable : IsOnAndAgrees AnyUse port d
-  pub on : IsOnAndAgrees AnyUse port start
+  pub followed : IsSimulated (ReadsPortOrWrites IsSerrOrIs port) AnySlotStates start d
+  pub usable : IsOnAndAgrees AnySlotStates port d
+  pub on : IsOnAndAgrees AnySlotStates port start
   pub det : (d.port port.0).sctl_det ≡ 0
-  pub low : n ≤ (d.port port.0).notes.link_count
-  pub high : 0 < n → (d.port port.0).notes.link_count ≤ MOST_READINGS
+  pub low : n ≤ (d.port port.0).notes.link_wait_count
+  pub high : 0 < n → (d.port port.0).notes.link_wait_count ≤ MOST_READINGS
   pub far : 0 < n → (d.port port.0).notes.last_ssts % 16 ≢ 3
   pub misses : ReadsInVain port Ssts HasLink n start d
 
 -- a link is awaited on a port whose TFES is clear
 abbrev AwaitsEngineStop : DevicePort → Type 0
-AwaitsEngineStop p = ShowsDrqTillLink p × StoppedTfesClear p
+AwaitsEngineStop p = StoppedWithDrqTillLink p × StoppedTfesClear p
 
 -- so many readings of PxTFD showed BSY or DRQ
 pub record IsBusyStill (port : Port) (start : Device) (n : ℕ) (d : Device) : Type 0 where
-  pub followed : IsSimulated (IsPortAccessWriting IsErrorRegister port) AnyUse start d
-  pub usable : IsOnAndAgrees AnyUse port d
+  pub followed : IsSimulated (ReadsPortOrWrites IsSerrOrIs port) AnySlotStates start d
+  pub usable : IsOnAndAgrees AnySlotStates port d
   pub det : (d.port port.0).sctl_det ≡ 0
   pub saw : SawDevice (d.port port.0).notes
   pub low : n ≤ (d.port port.0).notes.busy_count
@@ -61,10 +61,10 @@ counted_far det n count far low small =
     ]
 
 module _ (laws : Laws) where
-  pub looks : (port : Port) (r : PortReg) (v : ℕ) (old new : Device) → Reads (Px port r) v old new → IsSimulated (IsPortAccessWriting IsErrorRegister port) AnyUse old new
+  pub looks : (port : Port) (r : PortReg) (v : ℕ) (old new : Device) → Reads (Px port r) v old new → IsSimulated (ReadsPortOrWrites IsSerrOrIs port) AnySlotStates old new
   looks port r v old new call = followed_read laws (Controlling Clearing port) (Px port r) v old new refl call
 
-  looks_more : (port : Port) (r : PortReg) (v : ℕ) (start d e : Device) → IsSimulated (IsPortAccessWriting IsErrorRegister port) AnyUse start d → Reads (Px port r) v d e → IsSimulated (IsPortAccessWriting IsErrorRegister port) AnyUse start e
+  looks_more : (port : Port) (r : PortReg) (v : ℕ) (start d e : Device) → IsSimulated (ReadsPortOrWrites IsSerrOrIs port) AnySlotStates start d → Reads (Px port r) v d e → IsSimulated (ReadsPortOrWrites IsSerrOrIs port) AnySlotStates start e
   looks_more port r v start d e f call = followed_then laws (Controlling Clearing port) start d e f (looks port r v d e call)
 
   -- ---- readings until something shows
@@ -92,21 +92,21 @@ module _ (laws : Laws) where
     off : d.hr ≡ false
     off = w.usable.adapter_is_on.no_reset
 
-    pub missing_followed : IsSimulated (IsPortAccessWriting IsErrorRegister port) AnyUse start e
+    pub missing_followed : IsSimulated (ReadsPortOrWrites IsSerrOrIs port) AnySlotStates start e
     missing_followed = looks_more port Ssts v start d e w.followed call
 
-    missing_count : (e.port port.0).notes.link_count ≡ link_count_after_reading (v % 16) (d.port port.0).notes.link_count
+    missing_count : (e.port port.0).notes.link_wait_count ≡ link_count_after_reading (v % 16) (d.port port.0).notes.link_wait_count
     missing_count =
-        ap (λ (k : Notes). k.link_count) (laws.notes_read port Ssts v d e off call)
-        ∙ ap (λ (det : ℕ). if nat_eq det 0 then link_count_after_reading (v % 16) (d.port port.0).notes.link_count else (d.port port.0).notes.link_count) w.det
+        ap (λ (k : Notes). k.link_wait_count) (laws.notes_read port Ssts v d e off call)
+        ∙ ap (λ (det : ℕ). if nat_eq det 0 then link_count_after_reading (v % 16) (d.port port.0).notes.link_wait_count else (d.port port.0).notes.link_wait_count) w.det
 
     missing_last : (e.port port.0).notes.last_ssts ≡ v
     missing_last = ap (λ (k : Notes). k.last_ssts) (laws.notes_read port Ssts v d e off call)
 
     pub device_seen : v % 16 ≡ 3 → SawDevice (e.port port.0).notes
-    device_seen three = (ap (λ (k : ℕ). k % 16) missing_last ∙ three, missing_count ∙ ap (λ (k : ℕ). link_count_after_reading k (d.port port.0).notes.link_count) three)
+    device_seen three = (ap (λ (k : ℕ). k % 16) missing_last ∙ three, missing_count ∙ ap (λ (k : ℕ). link_count_after_reading k (d.port port.0).notes.link_wait_count) three)
 
-    pub device_up : v % 16 ≡ 3 → NoDiskComes port.0 start e → IsComingUp (start.port port.0) → IsUp (e.port port.0)
+    pub device_up : v % 16 ≡ 3 → NoDiskComes port.0 start e → IsComingUp (start.port port.0) → IsUpForStart (e.port port.0)
     device_up three none coming =
         let s : Settles port start d = settles laws port start d w.on.adapter_is_on w.followed.is_driven in
         let t : Settles port d e = settles laws port d e w.usable.adapter_is_on (looks port Ssts v d e call).is_driven in
@@ -118,11 +118,11 @@ module _ (laws : Laws) where
 
     pub missing_still : n < MOST_READINGS → v % 16 ≢ 3 → IsMissing port start (n + 1) e
     missing_still small far =
-        let one = counted_far (v % 16) n (d.port port.0).notes.link_count far w.low small in
+        let one = counted_far (v % 16) n (d.port port.0).notes.link_wait_count far w.low small in
         let count = missing_count in
         record {
           followed = missing_followed;
-          usable = usable_read laws AnyUse port Ssts v d e w.usable call;
+          usable = usable_read laws AnySlotStates port Ssts v d e w.usable call;
           on = w.on;
           det = (settles laws port d e w.usable.adapter_is_on (looks port Ssts v d e call).is_driven).det ∙ w.det;
           low = rw count one.0;
@@ -135,11 +135,11 @@ module _ (laws : Laws) where
     quiet : d.hr ≡ false
     quiet = w.usable.adapter_is_on.no_reset
 
-    pub busy_followed : IsSimulated (IsPortAccessWriting IsErrorRegister port) AnyUse start e
+    pub busy_followed : IsSimulated (ReadsPortOrWrites IsSerrOrIs port) AnySlotStates start e
     busy_followed = looks_more port Tfd v start d e w.followed call
 
     pub busy_saw : SawDevice (e.port port.0).notes
-    busy_saw = let same = laws.notes_read port Tfd v d e quiet call in (ap (λ (k : Notes). k.last_ssts % 16) same ∙ w.saw.0, ap (λ (k : Notes). k.link_count) same ∙ w.saw.1)
+    busy_saw = let same = laws.notes_read port Tfd v d e quiet call in (ap (λ (k : Notes). k.last_ssts % 16) same ∙ w.saw.0, ap (λ (k : Notes). k.link_wait_count) same ∙ w.saw.1)
 
     pub idle_seen : bit v 7 || bit v 3 ≡ false → SawIdle (e.port port.0).notes
     idle_seen neither = ap (λ (k : Notes). bit k.last_tfd 7 || bit k.last_tfd 3) (laws.notes_read port Tfd v d e quiet call) ∙ neither
@@ -152,7 +152,7 @@ module _ (laws : Laws) where
     busy_quiet awaits clear =
         let h = w.awaits awaits in
         let last : (e.port port.0).notes.last_tfd ≡ v = ap (λ (k : Notes). k.last_tfd) (laws.notes_read port Tfd v d e quiet call) in
-        laws.law_quiet_is_found port v d e h.0 h.1 call (ap (λ (k : ℕ). bit k 3) (sym last) ∙ clear)
+        laws.law_clean_to_start_is_found port v d e h.0 h.1 call (ap (λ (k : ℕ). bit k 3) (sym last) ∙ clear)
 
     pub busy_still : n < MOST_READINGS → bit v 7 || bit v 3 ≡ true → IsBusyStill port start (n + 1) e
     busy_still small busy =
@@ -162,24 +162,24 @@ module _ (laws : Laws) where
         ∙ ap (λ (det : ℕ). if nat_eq det 0 then count_after_reading (bit v 7 || bit v 3) (d.port port.0).notes.busy_count else (d.port port.0).notes.busy_count) w.det in
         record {
           followed = busy_followed;
-          usable = usable_read laws AnyUse port Tfd v d e w.usable call;
+          usable = usable_read laws AnySlotStates port Tfd v d e w.usable call;
           det = (settles laws port d e w.usable.adapter_is_on (looks port Tfd v d e call).is_driven).det ∙ w.det;
           saw = busy_saw;
           low = rw count one.0;
           high = λ _. rw count one.1;
           stays = without_more port Tfd ShowsIdle n w.stays call (λ neither. absurd (true≢false (sym busy ∙ neither)));
-          awaits = λ h. let a = w.awaits h in (laws.reads_awaited port.0 (Px port Tfd) v d e call a.0, laws.reads_unflagged port.0 (Px port Tfd) v d e call a.1);
+          awaits = λ h. let a = w.awaits h in (laws.reads_keep_drq_till_link port.0 (Px port Tfd) v d e call a.0, laws.reads_keep_tfes_clear port.0 (Px port Tfd) v d e call a.1);
           quiet = λ _. busy_quiet;
         }
 
   -- ---- the signature is read
 
-  module _ (port : Port) (d e : Device) (v : ℕ) (u : IsOnAndAgrees AnyUse port d) (call : Reads (Px port Sig) v d e) where
+  module _ (port : Port) (d e : Device) (v : ℕ) (u : IsOnAndAgrees AnySlotStates port d) (call : Reads (Px port Sig) v d e) where
     signed : (e.port port.0).notes ≡ record (d.port port.0).notes { last_sig = v }
     signed = laws.notes_read port Sig v d e u.adapter_is_on.no_reset call
 
     pub sig_saw : SawDevice (d.port port.0).notes → SawDevice (e.port port.0).notes
-    sig_saw saw = (ap (λ (k : Notes). k.last_ssts % 16) signed ∙ saw.0, ap (λ (k : Notes). k.link_count) signed ∙ saw.1)
+    sig_saw saw = (ap (λ (k : Notes). k.last_ssts % 16) signed ∙ saw.0, ap (λ (k : Notes). k.link_wait_count) signed ∙ saw.1)
 
     pub sig_idle : SawIdle (d.port port.0).notes → SawIdle (e.port port.0).notes
     sig_idle idle = ap (λ (k : Notes). bit k.last_tfd 7 || bit k.last_tfd 3) signed ∙ idle
@@ -189,7 +189,7 @@ module _ (laws : Laws) where
 
     -- what PxTFD was read as stays, and so what it showed
     pub sig_quiet : (bit (d.port port.0).notes.last_tfd 3 ≡ false → IsCleanToStart (d.port port.0)) → bit (e.port port.0).notes.last_tfd 3 ≡ false → IsCleanToStart (e.port port.0)
-    sig_quiet was clear = laws.reads_quiet port.0 (Px port Sig) v d e call (was (ap (λ (k : Notes). bit k.last_tfd 3) (sym signed) ∙ clear))
+    sig_quiet was clear = laws.reads_keep_clean_to_start port.0 (Px port Sig) v d e call (was (ap (λ (k : Notes). bit k.last_tfd 3) (sym signed) ∙ clear))
 
-    pub sig_shown : ShowsSignature (e.port port.0)
+    pub sig_shown : LastSignatureIsShown (e.port port.0)
     sig_shown = sig_last ∙ laws.shown_after port Sig v d e u.adapter_is_on.no_reset call

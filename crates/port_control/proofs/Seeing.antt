@@ -9,8 +9,8 @@ use Rattle.adapter.specs.Access.{Reads, Writes, link_count_after_reading}
 use Rattle.adapter.specs.Access.Access.{Writing}
 use Rattle.adapter.specs.Device.{Notes, Device}
 use Rattle.adapter.specs.Rules.{IsOn}
-use Rattle.refinement.specs.Fragments.{AnyUse, IsPortAccessWriting, IsSimulated}
-use Rattle.port_control.specs.Ports.{IsErrorRegister, IsStopped, IsOnAndAgrees, HasClearErrors, BacksFault}
+use Rattle.refinement.specs.Fragments.{AnySlotStates, ReadsPortOrWrites, IsSimulated}
+use Rattle.port_control.specs.Ports.{IsSerrOrIs, IsStopped, IsOnAndAgrees, SerrShowsOnlyNewPlugs, BacksFault}
 use Rattle.port_control.specs.declared.PortFault.TheVariants.{NoDevice}
 use Rattle.port_control.specs.Laws.{Laws}
 use Rattle.port_control.specs.Laws.RegisterSet.{Clearing}
@@ -34,32 +34,32 @@ full_noted det shown = elim (eqb_tells det 0) [
   | inr both ↦ rw both.0 refl
 ]
 
-module _ (laws : Laws) (port : Port) (v : ℕ) (old mid new : Device) (u : IsOnAndAgrees AnyUse port old) (serr : Writes (Px port Serr) 0xffffffff old mid)
+module _ (laws : Laws) (port : Port) (v : ℕ) (old mid new : Device) (u : IsOnAndAgrees AnySlotStates port old) (serr : Writes (Px port Serr) 0xffffffff old mid)
     (read : Reads (Px port Ssts) v mid new) where
-  usable : IsOnAndAgrees AnyUse port mid
+  usable : IsOnAndAgrees AnySlotStates port mid
   usable = clearing laws port old mid new u serr
 
-  pub seen_followed : IsSimulated (IsPortAccessWriting IsErrorRegister port) AnyUse old new
+  pub seen_followed : IsSimulated (ReadsPortOrWrites IsSerrOrIs port) AnySlotStates old new
   seen_followed = followed_then laws (Controlling Clearing port) old mid new (first laws port old mid new u serr) (looks laws port Ssts v mid new read)
 
   pub seen_on : IsOn new
-  seen_on = (usable_read laws AnyUse port Ssts v mid new usable read).adapter_is_on
+  seen_on = (usable_read laws AnySlotStates port Ssts v mid new usable read).adapter_is_on
 
   pub seen_stopped : IsStopped (old.port port.0) → IsStopped (new.port port.0)
   seen_stopped is = stopped_read laws port Ssts v mid new usable.adapter_is_on.no_reset read
       (stopped_write laws port Serr 0xffffffff old mid (serr_may laws port 0xffffffff old u) (λ (e : Serr ≡ Cmd). absurd (cc)) (λ (e : Serr ≡ Sact). cc) serr is)
 
-  pub seen_clear : (old.port port.0).link_due ≡ false → HasClearErrors port.0 old new
+  pub seen_clear : (old.port port.0).link_due ≡ false → SerrShowsOnlyNewPlugs port.0 old new
   seen_clear = since_clear laws port old mid new u serr (looks laws port Ssts v mid new read)
 
   pub seen_there : v % 16 ≡ 3 → (new.port port.0).ssts_det ≡ 3
   seen_there three = sym (laws.shown_after port Ssts v mid new usable.adapter_is_on.no_reset read) ∙ three
 
-  pub seen_none : v % 16 ≢ 3 → (old.port port.0).notes.link_count ≡ MOST_READINGS → BacksFault NoDevice (new.port port.0).notes
+  pub seen_none : v % 16 ≢ 3 → (old.port port.0).notes.link_wait_count ≡ MOST_READINGS → BacksFault NoDevice (new.port port.0).notes
   seen_none far full =
       let noted = laws.notes_read port Ssts v mid new usable.adapter_is_on.no_reset read in
       let still = ((laws.access_notes port (Writing (Px port Serr) 0xffffffff) old mid serr).link tt).1 (λ (e : Px port Serr ≡ Px port Sctl). absurd (cc)) ∙ full in
       let det = (mid.port port.0).sctl_det in (
         λ three. far (sym (ap (λ (k : Notes). k.last_ssts % 16) noted) ∙ three),
-        ap (λ (k : Notes). k.link_count) noted ∙ (ap (λ (n : ℕ). if nat_eq det 0 then link_count_after_reading (v % 16) n else n) still ∙ full_noted det (v % 16)),
+        ap (λ (k : Notes). k.link_wait_count) noted ∙ (ap (λ (n : ℕ). if nat_eq det 0 then link_count_after_reading (v % 16) n else n) still ∙ full_noted det (v % 16)),
       )

@@ -10,16 +10,16 @@ use Rattle.adapter.specs.Access.Access.{Reading, Writing}
 use Rattle.adapter.specs.Device.{Bases, Notes, DevicePort, Device}
 use Rattle.adapter.specs.Rules.{MayWrite, IsStable}
 use Rattle.adapter.specs.RegisterEffects.{PortRegisterRead, PortRegisterWritten}
-use Rattle.refinement.specs.Fragments.{IsPortAccessWriting, IsSimulated}
-use Rattle.refinement.specs.Driver.{AllFree, LeavesUses}
-use Rattle.refinement.specs.Errors.{ChangesByDisks}
-use Rattle.refinement.specs.PortFacts.{IsCleanToStart, FaultsOnRecord}
-use Rattle.refinement.specs.Links.{NoPlugEvents}
+use Rattle.refinement.specs.Fragments.{ReadsPortOrWrites, IsSimulated}
+use Rattle.refinement.specs.Driver.{AllFree, KeepsSlotStates}
+use Rattle.refinement.specs.Errors.{LinkErrorsRiseByDisks}
+use Rattle.refinement.specs.PortFacts.{IsCleanToStart, RecordsFaultsIfSt}
+use Rattle.refinement.specs.PreservedParts.{NoPlugEvents}
 use Rattle.refinement.specs.HaltRecovery.{IsLinked, RunsLinked}
 use Rattle.refinement.specs.Slots.{SlotState, Free, SlotStates, IsOver, RelatesSlot, IsEmptySlot}
-use Rattle.refinement.specs.StartedPort.{IsUp, IsStarted}
+use Rattle.refinement.specs.StartedPort.{IsUpForStart, IsStarted}
 use Rattle.refinement.specs.Fragments.{TapeGrows}
-use Rattle.port_control.specs.Ports.{IsCommandRegister, IsOnAndAgrees, ReceivesFises, IsRunning, SawIdle, SameButStart}
+use Rattle.port_control.specs.Ports.{IsCommandRegister, IsOnAndAgrees, IsStoppedReceiving, RunsWithoutCommands, SawIdle, SameButStart}
 use Rattle.port_control.proofs.Using.{usable_read, receiving_read, usable_by}
 use Rattle.port_control.proofs.Ceasing.{IsButAt, bit_four}
 use Rattle.port_control.proofs.Resetting.{grows_longer}
@@ -56,77 +56,77 @@ over_free : (P : SlotState → Type 0) (u : SlotState) → u ≡ Free → P u �
 over_free P u is h = subst P is h
 
 module _ (laws : Laws) where
-  module _ (port : Port) (was v : ℕ) (old mid : Device) (u : IsOnAndAgrees (NoneUsed port) port old) (read : Reads (Px port Cmd) was old mid) (receives : ReceivesFises port.0 (old.port port.0))
+  module _ (port : Port) (was v : ℕ) (old mid : Device) (u : IsOnAndAgrees (NoneUsed port) port old) (read : Reads (Px port Cmd) was old mid) (receives : IsStoppedReceiving port.0 (old.port port.0))
       (linked : (old.port port.0).notes.last_ssts % 16 ≡ 3) (idle : SawIdle (old.port port.0).notes) (one : bit v 0 ≡ true) (others : IsButAt 0 was v) where
     here : IsOnAndAgrees (NoneUsed port) port mid
     here = usable_read laws (NoneUsed port) port Cmd was old mid u read
 
-    still : ReceivesFises port.0 (mid.port port.0)
+    still : IsStoppedReceiving port.0 (mid.port port.0)
     still = receiving_read laws port Cmd was old mid u.adapter_is_on.no_reset read receives
 
     fre : bit v 4 ≡ true
-    fre = bit_four was v others ∙ (laws.shown_after port Cmd was old mid u.adapter_is_on.no_reset read).1 ∙ still.fre
+    fre = bit_four was v others ∙ (laws.shown_after port Cmd was old mid u.adapter_is_on.no_reset read).1 ∙ still.fre_is_set
 
     same : (mid.port port.0).notes ≡ record (old.port port.0).notes { last_cmd = was; engine_count = (mid.port port.0).notes.engine_count }
     same = let n = laws.notes_read port Cmd was old mid u.adapter_is_on.no_reset read in
         subst (λ (k : Notes). k ≡ record (old.port port.0).notes { last_cmd = was; engine_count = k.engine_count }) (sym n) refl
 
     pub start_may : IsStable (MayWrite (Px port Cmd) v) mid
-    start_may = laws.starting_may port was v mid here.adapter_is_on here.has_port (laws.command_noted port was old mid read)
+    start_may = laws.starting_is_permitted port was v mid here.adapter_is_on here.has_port (laws.last_cmd_is_read port was old mid read)
         (record {
-          cr_is_clear = still.stopped.halted.cr;
-          receives = still.fre;
+          cr_is_clear = still.stopped.engine_is_stopped.cr_is_clear;
+          receives = still.fre_is_set;
           programmed = record {
-            clb = ap (λ (b : Bases). b.clb_set) still.bases;
-            clbu = ap (λ (b : Bases). b.clbu_set) still.bases;
-            fb = ap (λ (b : Bases). b.fb_set) still.bases;
-            fbu = ap (λ (b : Bases). b.fbu_set) still.bases;
+            clb_is_written = ap (λ (b : Bases). b.clb_set) still.areas_are_in_place;
+            clbu_is_written = ap (λ (b : Bases). b.clbu_set) still.areas_are_in_place;
+            fb_is_written = ap (λ (b : Bases). b.fb_set) still.areas_are_in_place;
+            fbu_is_written = ap (λ (b : Bases). b.fbu_set) still.areas_are_in_place;
           };
           link_was_seen = ap (λ (n : Notes). n.last_ssts % 16) same ∙ linked;
           not_busy = ap (λ (n : Notes). bit n.last_tfd 7 || bit n.last_tfd 3) same ∙ idle;
         })
         (record { start = one; receive = fre; others = λ k small st fre. others k small st })
 
-    start_leaves : (uses : SlotStates) → NoneUsed port uses → LeavesUses uses (Px port Cmd) v mid
-    start_leaves uses free = record { start = λ on. inr free; receive = λ on. (here.has_port.0, ap (λ (b : Bases). b.fb) still.bases) }
+    start_leaves : (uses : SlotStates) → NoneUsed port uses → KeepsSlotStates uses (Px port Cmd) v mid
+    start_leaves uses free = record { start = λ on. inr free; receive = λ on. (here.has_port.0, ap (λ (b : Bases). b.fb) still.areas_are_in_place) }
 
     module _ (new : Device) (write : Writes (Px port Cmd) v mid new) where
-      pub start_followed : IsSimulated (IsPortAccessWriting IsCommandRegister port) (NoneUsed port) old new
+      pub start_followed : IsSimulated (ReadsPortOrWrites IsCommandRegister port) (NoneUsed port) old new
       start_followed = followed_then laws (Starting port) old mid new (followed_read laws (Starting port) (Px port Cmd) was old mid refl read)
           (followed_write laws (Starting port) (Px port Cmd) v mid new (refl, refl) start_may start_leaves write)
 
       pub start_usable : IsOnAndAgrees (NoneUsed port) port new
-      start_usable = usable_by laws Commanding port old new (NoneUsed port) start_followed.is_driven (λ uses free. laws.fragments.agreed (Starting port) (λ uses. uses) uses old new free start_followed) u
+      start_usable = usable_by laws Commanding port old new (NoneUsed port) start_followed.is_driven (λ uses free. laws.fragments.some_machine_agrees (Starting port) (λ uses. uses) uses old new free start_followed) u
 
       started : ((new.port port.0).cr ≡ true) × ((new.port port.0).notes.st_set_at ≡ length new.tape)
-      started = laws.start_set port v mid new still.stopped.halted.st one write
+      started = laws.start_set port v mid new still.stopped.engine_is_stopped.st_is_clear one write
 
       w : PortRegisterWritten port.0 Cmd v mid new
-      w = laws.put port Cmd v mid new write here.adapter_is_on.no_reset
+      w = laws.write_changes_port_register port Cmd v mid new write here.adapter_is_on.no_reset
 
-      pub start_runs : IsRunning port.0 (new.port port.0)
+      pub start_runs : RunsWithoutCommands port.0 (new.port port.0)
       start_runs =
           let a = start_usable.machine_is_related in
           let over : (slot : ℕ) → IsOver (new.port port.0) slot =
           λ slot.
           let h : IsEmptySlot (new.port port.0) slot = over_free (RelatesSlot a.2.machine new.memory new.tape (new.port port.0) port.0 slot) (a.0 port.0 slot) (a.1 slot) (a.2.driver_relation.state_relation.relates_slots port.0 slot) in
-          record { issued = h.issued; free = h.free } in
-          let set = laws.command_set port v mid new write in
+          record { is_not_issued = h.is_not_issued; is_not_taken = h.is_not_taken } in
+          let set = laws.cmd_write_sets_st_and_fre port v mid new write in
           record {
-            st = set.0 ∙ one;
-            cr = started.0;
-            fre = set.1 ∙ fre;
-            bases = ap (λ (p : DevicePort). p.bases) w.port_is_written ∙ (command_bases v _ (w.mid.port port.0)).0 ∙ (w.keeps.ports_are_kept port.0).bases ∙ still.bases;
-            ci = λ slot. (over slot).issued;
-            sact = λ slot. laws.free_unarmed a.0 a.2.machine new a.2.driver_relation.state_relation port.0 slot (a.1 slot);
-            taken = λ slot. (over slot).free;
+            st_is_set = set.0 ∙ one;
+            cr_is_set = started.0;
+            fre_is_set = set.1 ∙ fre;
+            areas_are_in_place = ap (λ (p : DevicePort). p.bases) w.port_is_written ∙ (command_bases v _ (w.at_access.port port.0)).0 ∙ (w.keeps.ports_keep_what_steps_keep port.0).bases_are_kept ∙ still.areas_are_in_place;
+            ci_is_clear = λ slot. (over slot).is_not_issued;
+            sact_is_clear = λ slot. laws.free_unarmed a.0 a.2.machine new a.2.driver_relation.state_relation port.0 slot (a.1 slot);
+            none_is_taken = λ slot. (over slot).is_not_taken;
           }
 
       pub start_same : SameButStart (old.port port.0) (new.port port.0)
       start_same =
-          let s : PortRegisterRead port.0 Cmd was old mid = laws.seen port Cmd was old mid read u.adapter_is_on.no_reset in (
-            ap (λ (p : DevicePort). p.sctl_det) w.port_is_written ∙ (command_bases v _ (w.mid.port port.0)).1 ∙ (w.keeps.keeps_outside_reset.controls port.0).sctl_det ∙ (s.keeps.keeps_outside_reset.controls port.0).sctl_det,
-            start_notes (old.port port.0).notes (mid.port port.0).notes (new.port port.0).notes _ _ _ same (laws.command_written_notes port v mid new write),
+          let s : PortRegisterRead port.0 Cmd was old mid = laws.read_changes_port_register port Cmd was old mid read u.adapter_is_on.no_reset in (
+            ap (λ (p : DevicePort). p.sctl_det) w.port_is_written ∙ (command_bases v _ (w.at_access.port port.0)).1 ∙ (w.keeps.keeps_outside_reset.controls_are_kept port.0).sctl_det_is_kept ∙ (s.keeps.keeps_outside_reset.controls_are_kept port.0).sctl_det_is_kept,
+            start_notes (old.port port.0).notes (mid.port port.0).notes (new.port port.0).notes _ _ _ same (laws.cmd_write_keeps_notes port v mid new write),
           )
 
       pub start_set_at : (new.port port.0).notes.st_set_at ≡ length new.tape
@@ -141,43 +141,43 @@ module _ (laws : Laws) where
       pub start_marked : (old.port port.0).notes.sctl_written_at ≤ length old.tape → (new.port port.0).notes.sctl_written_at ≤ length new.tape
       start_marked low =
           let at = ap (λ (n : Notes). n.sctl_written_at) start_same.1 in
-          let longer = grows_longer old new (laws.tape.grows_more old mid new early late) in
+          let longer = grows_longer old new (laws.tape.growth_is_transitive old mid new early late) in
           omega (arith, low, at, longer)
 
-      pub start_well : IsUp (old.port port.0) → NoPlugEvents port.0 old new → IsStarted (new.port port.0)
+      pub start_well : IsUpForStart (old.port port.0) → NoPlugEvents port.0 old new → IsStarted (new.port port.0)
       start_well up none =
           let parts = plugs_in_parts laws port.0 old mid new early late none in
-          laws.start_is_made port v mid new here.adapter_is_on.no_reset still.stopped.halted.st still.stopped.halted.cr one write
-          (laws.access_up port (Reading (Px port Cmd) was) old mid u.adapter_is_on.no_reset receives.stopped.halted.cr (λ n (e : Reading (Px port Cmd) was ≡ Writing (Px port Cmd) n). absurd (cc)) tt parts.0 read up)
+          laws.start_is_made port v mid new here.adapter_is_on.no_reset still.stopped.engine_is_stopped.st_is_clear still.stopped.engine_is_stopped.cr_is_clear one write
+          (laws.access_keeps_up port (Reading (Px port Cmd) was) old mid u.adapter_is_on.no_reset receives.stopped.engine_is_stopped.cr_is_clear (λ n (e : Reading (Px port Cmd) was ≡ Writing (Px port Cmd) n). absurd (cc)) tt parts.0 read up)
           parts.1
 
       pub start_linked : IsLinked (old.port port.0) → NoPlugEvents port.0 old new → RunsLinked (new.port port.0)
       start_linked link none =
           let parts = plugs_in_parts laws port.0 old mid new early late none in
-          laws.start_runs_linked port v mid new here.adapter_is_on.no_reset still.stopped.halted.st still.stopped.halted.cr one parts.1 write
-          (laws.access_linked port (Reading (Px port Cmd) was) old mid u.adapter_is_on.no_reset tt parts.0 read link)
+          laws.start_runs_linked port v mid new here.adapter_is_on.no_reset still.stopped.engine_is_stopped.st_is_clear still.stopped.engine_is_stopped.cr_is_clear one parts.1 write
+          (laws.access_keeps_linked port (Reading (Px port Cmd) was) old mid u.adapter_is_on.no_reset tt parts.0 read link)
 
       -- ---- what was there before: nothing new comes while ST is set
 
       pub start_calm : (place : ℕ) → (old.port port.0).is place ≡ false → (new.port port.0).is place ≡ false
       start_calm place clear =
-          laws.access_clear port place (Writing (Px port Cmd) v) mid new still.stopped.halted.cr write
-          (laws.access_clear port place (Reading (Px port Cmd) was) old mid receives.stopped.halted.cr read clear)
+          laws.access_keeps_cause_clear port place (Writing (Px port Cmd) v) mid new still.stopped.engine_is_stopped.cr_is_clear write
+          (laws.access_keeps_cause_clear port place (Reading (Px port Cmd) was) old mid receives.stopped.engine_is_stopped.cr_is_clear read clear)
 
       undue_mid : (old.port port.0).link_due ≡ false → (mid.port port.0).link_due ≡ false
-      undue_mid undue = laws.tape.access_undue port (Reading (Px port Cmd) was) old mid u.adapter_is_on.no_reset undue tt read
+      undue_mid undue = laws.tape.access_makes_no_link_due port (Reading (Px port Cmd) was) old mid u.adapter_is_on.no_reset undue tt read
 
       pub start_undue : (old.port port.0).link_due ≡ false → (new.port port.0).link_due ≡ false
-      start_undue undue = laws.tape.access_undue port (Writing (Px port Cmd) v) mid new here.adapter_is_on.no_reset (undue_mid undue) (λ (e : Px port Cmd ≡ Px port Sctl). absurd (cc)) write
+      start_undue undue = laws.tape.access_makes_no_link_due port (Writing (Px port Cmd) v) mid new here.adapter_is_on.no_reset (undue_mid undue) (λ (e : Px port Cmd ≡ Px port Sctl). absurd (cc)) write
 
-      pub start_changes : (old.port port.0).link_due ≡ false → ChangesByDisks port.0 old new
-      start_changes undue = laws.tape.change_more port.0 old mid new early late
-          (laws.tape.access_change port (Reading (Px port Cmd) was) old mid u.adapter_is_on.no_reset undue read)
-          (laws.tape.access_change port (Writing (Px port Cmd) v) mid new here.adapter_is_on.no_reset (undue_mid undue) write)
+      pub start_changes : (old.port port.0).link_due ≡ false → LinkErrorsRiseByDisks port.0 old new
+      start_changes undue = laws.tape.link_errors_transitive port.0 old mid new early late
+          (laws.tape.access_raises_by_disks port (Reading (Px port Cmd) was) old mid u.adapter_is_on.no_reset undue read)
+          (laws.tape.access_raises_by_disks port (Writing (Px port Cmd) v) mid new here.adapter_is_on.no_reset (undue_mid undue) write)
 
       -- ST is set on a quiet port
-      pub start_recorded : IsCleanToStart (old.port port.0) → FaultsOnRecord new.tape (new.port port.0) port.0
+      pub start_recorded : IsCleanToStart (old.port port.0) → RecordsFaultsIfSt new.tape (new.port port.0) port.0
       start_recorded quiet =
-          laws.writes_recorded port.0 (Px port Cmd) v mid new start_may
-          (λ d steps set. inr (laws.steps_quiet port.0 mid d steps (laws.reads_quiet port.0 (Px port Cmd) was old mid read quiet))) write
-          (laws.stopped_recorded mid.tape (mid.port port.0) port.0 still.stopped.halted.st)
+          laws.writes_keep_fault_record port.0 (Px port Cmd) v mid new start_may
+          (λ d steps set. inr (laws.steps_keep_clean_to_start port.0 mid d steps (laws.reads_keep_clean_to_start port.0 (Px port Cmd) was old mid read quiet))) write
+          (laws.stopped_port_has_fault_record mid.tape (mid.port port.0) port.0 still.stopped.engine_is_stopped.st_is_clear)

@@ -10,14 +10,14 @@ use Rattle.hba_regs.specs.declared.reg.Reg.TheVariants.{Px}
 use Rattle.adapter.specs.Access.{Access, Reads, Writes, port_after_write, port_after_st_write, port_after_fre_write}
 use Rattle.adapter.specs.Access.Access.{Reading, Writing, Loading, Storing}
 use Rattle.adapter.specs.Device.{Notes, DevicePort, Device}
-use Rattle.adapter.specs.KeptBySteps.{KeepsPort, KeepsControls}
+use Rattle.adapter.specs.KeptBySteps.{PortBitsOnlyFall, KeepsControlsFlagsRise}
 use Rattle.adapter.specs.Rules.{HasPort, MayWrite, IsStable, IsOn}
 use Rattle.adapter.specs.RegisterEffects.{PortRegisterRead, PortRegisterWritten}
-use Rattle.refinement.specs.Fragments.{AnyUse, IsRelated, IsPortAccessWriting, IsSimulated, AnyAccess, TapeGrows, IsDrivenBy, SparesOtherPorts}
-use Rattle.refinement.specs.Links.{SameAdapter}
+use Rattle.refinement.specs.Fragments.{AnySlotStates, SomeMachineAgrees, ReadsPortOrWrites, IsSimulated, AnyAccess, TapeGrows, IsDrivenBy, SparesOtherPorts}
+use Rattle.refinement.specs.PreservedParts.{SameAdapter}
 use Rattle.refinement.specs.Slots.{SlotStates}
-use Rattle.port_control.specs.Engines.{AwaitsEngineStop, FailsToStop, FailsToStopReceiving, EngineFalls, ShowsStillRunning, ReadsPortCmd, ShowsStuck, EngineSticks}
-use Rattle.port_control.specs.Ports.{IsResetRegister, IsOnAndAgrees, IsStopped, ReceivesFises, SameButCmdNotes, SameSctlAndNotes}
+use Rattle.port_control.specs.Engines.{AwaitsEngineStop, FailsToStop, FailsToStopReceiving, EngineFalls, ShowsStillRunning, ReadsPortCmd, ShowsEngineStillRunning, EngineSticks}
+use Rattle.port_control.specs.Ports.{IsResetRegister, IsOnAndAgrees, IsStopped, IsStoppedReceiving, SameButCmdNotes, SameSctlAndNotes}
 use Rattle.port_control.specs.Laws.RegisterSet.{Commanding}
 use Rattle.port_control.specs.Laws.AccessPurpose.{Controlling}
 use Rattle.port_control.specs.Laws.{Laws, RegisterSet, registers_of}
@@ -35,54 +35,54 @@ beside_then a b c x y =
 
 -- ---- a stopped port stays stopped
 
-pub stopped_on : {p q : DevicePort} → KeepsPort p q → IsStopped p → IsStopped q
+pub stopped_on : {p q : DevicePort} → PortBitsOnlyFall p q → IsStopped p → IsStopped q
 stopped_on k h = record {
-  halted = record { st = k.st h.halted.st; cr = k.cr h.halted.cr; ci = λ slot. k.ci slot (h.halted.ci slot); taken = k.stays_without_commands h.halted.cr h.halted.taken };
-  sact = λ slot. k.sact slot (h.sact slot);
+  engine_is_stopped = record { st_is_clear = k.st_stays_clear h.engine_is_stopped.st_is_clear; cr_is_clear = k.cr_stays_clear h.engine_is_stopped.cr_is_clear; no_command_is_issued = λ slot. k.ci_stays_clear slot (h.engine_is_stopped.no_command_is_issued slot); no_command_is_taken = k.stays_without_commands h.engine_is_stopped.cr_is_clear h.engine_is_stopped.no_command_is_taken };
+  sact_is_clear = λ slot. k.sact_stays_clear slot (h.sact_is_clear slot);
 }
 
-pub receiving_on : {port : ℕ} {p q : DevicePort} → KeepsPort p q → KeepsControls p q → ReceivesFises port p → ReceivesFises port q
-receiving_on k c h = record { stopped = stopped_on k h.stopped; fre = c.fre ∙ h.fre; bases = k.bases ∙ h.bases }
+pub receiving_on : {port : ℕ} {p q : DevicePort} → PortBitsOnlyFall p q → KeepsControlsFlagsRise p q → IsStoppedReceiving port p → IsStoppedReceiving port q
+receiving_on k c h = record { stopped = stopped_on k h.stopped; fre_is_set = c.fre_is_kept ∙ h.fre_is_set; areas_are_in_place = k.bases_are_kept ∙ h.areas_are_in_place }
 
 -- a write with ST 0 leaves PxSCTL.DET and the addresses
 pub command_off : (v tape : ℕ) (p : DevicePort) → bit v 0 ≡ false → ((port_after_write Cmd v tape p).sctl_det ≡ p.sctl_det) × ((port_after_write Cmd v tape p).bases ≡ p.bases)
 command_off v tape p off = (ap (λ (b : Bool). (port_after_fre_write (bit v 4) (port_after_st_write b tape p)).sctl_det) off, ap (λ (b : Bool). (port_after_fre_write (bit v 4) (port_after_st_write b tape p)).bases) off)
 
 -- PxSCTL, PxSERR or PxIS is written
-module _ (port : ℕ) (v tape : ℕ) (p : DevicePort) (h : ReceivesFises port p) where
-  same_receiving : (q : DevicePort) → q.st ≡ p.st → q.cr ≡ p.cr → q.ci ≡ p.ci → q.taken ≡ p.taken → q.sact ≡ p.sact → q.fre ≡ p.fre → q.bases ≡ p.bases → ReceivesFises port q
+module _ (port : ℕ) (v tape : ℕ) (p : DevicePort) (h : IsStoppedReceiving port p) where
+  same_receiving : (q : DevicePort) → q.st ≡ p.st → q.cr ≡ p.cr → q.ci ≡ p.ci → q.taken ≡ p.taken → q.sact ≡ p.sact → q.fre ≡ p.fre → q.bases ≡ p.bases → IsStoppedReceiving port q
   same_receiving q st cr ci taken sact fre bases = record {
     stopped = record {
-      halted = record {
-        st = st ∙ h.stopped.halted.st;
-        cr = cr ∙ h.stopped.halted.cr;
-        ci = λ s. ap (λ f. f s) ci ∙ h.stopped.halted.ci s;
-        taken = λ s. ap (λ f. f s) taken ∙ h.stopped.halted.taken s;
+      engine_is_stopped = record {
+        st_is_clear = st ∙ h.stopped.engine_is_stopped.st_is_clear;
+        cr_is_clear = cr ∙ h.stopped.engine_is_stopped.cr_is_clear;
+        no_command_is_issued = λ s. ap (λ f. f s) ci ∙ h.stopped.engine_is_stopped.no_command_is_issued s;
+        no_command_is_taken = λ s. ap (λ f. f s) taken ∙ h.stopped.engine_is_stopped.no_command_is_taken s;
       };
-      sact = λ s. ap (λ f. f s) sact ∙ h.stopped.sact s;
+      sact_is_clear = λ s. ap (λ f. f s) sact ∙ h.stopped.sact_is_clear s;
     };
-    fre = fre ∙ h.fre;
-    bases = bases ∙ h.bases;
+    fre_is_set = fre ∙ h.fre_is_set;
+    areas_are_in_place = bases ∙ h.areas_are_in_place;
   }
 
-  written_receiving : (r : PortReg) → IsResetRegister r → ReceivesFises port (port_after_write r v tape p)
-  written_receiving r (inl e) = subst (λ (z : PortReg). ReceivesFises port (port_after_write z v tape p)) (sym e) (same_receiving _ refl refl refl refl refl refl refl)
-  written_receiving r (inr (inl e)) = subst (λ (z : PortReg). ReceivesFises port (port_after_write z v tape p)) (sym e) (same_receiving _ refl refl refl refl refl refl refl)
-  written_receiving r (inr (inr e)) = subst (λ (z : PortReg). ReceivesFises port (port_after_write z v tape p)) (sym e) (same_receiving _ refl refl refl refl refl refl refl)
+  written_receiving : (r : PortReg) → IsResetRegister r → IsStoppedReceiving port (port_after_write r v tape p)
+  written_receiving r (inl e) = subst (λ (z : PortReg). IsStoppedReceiving port (port_after_write z v tape p)) (sym e) (same_receiving _ refl refl refl refl refl refl refl)
+  written_receiving r (inr (inl e)) = subst (λ (z : PortReg). IsStoppedReceiving port (port_after_write z v tape p)) (sym e) (same_receiving _ refl refl refl refl refl refl refl)
+  written_receiving r (inr (inr e)) = subst (λ (z : PortReg). IsStoppedReceiving port (port_after_write z v tape p)) (sym e) (same_receiving _ refl refl refl refl refl refl refl)
 
 -- an engine that was awaited for 64 readings is stuck
-awaits_sticks : (start running : ℕ) → ((v : ℕ) → ShowsStillRunning start running v → ShowsStuck v) → (port : Port) (accesses : List Access) → AwaitsEngineStop start running port MOST_READINGS accesses → EngineSticks port accesses
+awaits_sticks : (start running : ℕ) → ((v : ℕ) → ShowsStillRunning start running v → ShowsEngineStillRunning v) → (port : Port) (accesses : List Access) → AwaitsEngineStop start running port MOST_READINGS accesses → EngineSticks port accesses
 awaits_sticks start running shows port accesses a = record {
-  before = a.before ++ Writing (Px port Cmd) a.cleared ∷ [];
-  stuck = a.stuck;
+  before = a.before ++ Writing (Px port Cmd) a.written_cmd ∷ [];
+  stuck_readings = a.stuck_readings;
   later = [];
-  accesses_are = a.accesses_are ∙ (sym (append_assoc a.before (Writing (Px port Cmd) a.cleared ∷ []) a.stuck)
-      ∙ ap (λ (rest : List Access). (a.before ++ Writing (Px port Cmd) a.cleared ∷ []) ++ rest) (sym (append-nil a.stuck)));
+  accesses_are = a.accesses_are ∙ (sym (append_assoc a.before (Writing (Px port Cmd) a.written_cmd ∷ []) a.stuck_readings)
+      ∙ ap (λ (rest : List Access). (a.before ++ Writing (Px port Cmd) a.written_cmd ∷ []) ++ rest) (sym (append-nil a.stuck_readings)));
   count_is = a.count_is;
-  all_show_stuck = All-weaker (ReadsPortCmd (ShowsStillRunning start running) port) (ReadsPortCmd ShowsStuck port) reading a.stuck a.all_show_running;
+  all_show_still_running = All-weaker (ReadsPortCmd (ShowsStillRunning start running) port) (ReadsPortCmd ShowsEngineStillRunning port) reading a.stuck_readings a.all_show_running;
 }
   where
-    reading : (access : Access) → ReadsPortCmd (ShowsStillRunning start running) port access → ReadsPortCmd ShowsStuck port access
+    reading : (access : Access) → ReadsPortCmd (ShowsStillRunning start running) port access → ReadsPortCmd ShowsEngineStillRunning port access
     reading (Reading r v) is = (is.0, shows v is.1)
     reading (Writing r v) is = absurd is
     reading (Loading at bytes) is = absurd is
@@ -100,13 +100,13 @@ module _ (early late : List Access) where
   pub falls_then : (start running : ℕ) (port : Port) → EngineFalls start running port early → EngineFalls start running port (early ++ late)
   falls_then start running port f = record {
     before = f.before;
-    cleared = f.cleared;
+    written_cmd = f.written_cmd;
     between = f.between;
-    fallen = f.fallen;
+    read_cmd = f.read_cmd;
     later = f.later ++ late;
     accesses_are = ap (λ (accesses : List Access). accesses ++ late) f.accesses_are
-        ∙ (append_assoc f.before (Writing (Px port Cmd) f.cleared ∷ (f.between ++ (Reading (Px port Cmd) f.fallen ∷ f.later))) late
-        ∙ ap (λ (accesses : List Access). f.before ++ (Writing (Px port Cmd) f.cleared ∷ accesses)) (append_assoc f.between (Reading (Px port Cmd) f.fallen ∷ f.later) late));
+        ∙ (append_assoc f.before (Writing (Px port Cmd) f.written_cmd ∷ (f.between ++ (Reading (Px port Cmd) f.read_cmd ∷ f.later))) late
+        ∙ ap (λ (accesses : List Access). f.before ++ (Writing (Px port Cmd) f.written_cmd ∷ accesses)) (append_assoc f.between (Reading (Px port Cmd) f.read_cmd ∷ f.later) late));
     start_is_cleared = f.start_is_cleared;
     cmd_is_unwritten = f.cmd_is_unwritten;
     stop_is_shown = f.stop_is_shown;
@@ -115,12 +115,12 @@ module _ (early late : List Access) where
   pub falls_since : (start running : ℕ) (port : Port) → EngineFalls start running port late → EngineFalls start running port (early ++ late)
   falls_since start running port f = record {
     before = early ++ f.before;
-    cleared = f.cleared;
+    written_cmd = f.written_cmd;
     between = f.between;
-    fallen = f.fallen;
+    read_cmd = f.read_cmd;
     later = f.later;
     accesses_are = ap (λ (accesses : List Access). early ++ accesses) f.accesses_are
-        ∙ sym (append_assoc early f.before (Writing (Px port Cmd) f.cleared ∷ (f.between ++ (Reading (Px port Cmd) f.fallen ∷ f.later))));
+        ∙ sym (append_assoc early f.before (Writing (Px port Cmd) f.written_cmd ∷ (f.between ++ (Reading (Px port Cmd) f.read_cmd ∷ f.later))));
     start_is_cleared = f.start_is_cleared;
     cmd_is_unwritten = f.cmd_is_unwritten;
     stop_is_shown = f.stop_is_shown;
@@ -129,92 +129,92 @@ module _ (early late : List Access) where
   pub sticks_then : (port : Port) → EngineSticks port early → EngineSticks port (early ++ late)
   sticks_then port s = record {
     before = s.before;
-    stuck = s.stuck;
+    stuck_readings = s.stuck_readings;
     later = s.later ++ late;
     accesses_are = ap (λ (accesses : List Access). accesses ++ late) s.accesses_are
-        ∙ (append_assoc s.before (s.stuck ++ s.later) late ∙ ap (λ (accesses : List Access). s.before ++ accesses) (append_assoc s.stuck s.later late));
+        ∙ (append_assoc s.before (s.stuck_readings ++ s.later) late ∙ ap (λ (accesses : List Access). s.before ++ accesses) (append_assoc s.stuck_readings s.later late));
     count_is = s.count_is;
-    all_show_stuck = s.all_show_stuck;
+    all_show_still_running = s.all_show_still_running;
   }
 
   pub sticks_since : (port : Port) → EngineSticks port late → EngineSticks port (early ++ late)
   sticks_since port s = record {
     before = early ++ s.before;
-    stuck = s.stuck;
+    stuck_readings = s.stuck_readings;
     later = s.later;
-    accesses_are = ap (λ (accesses : List Access). early ++ accesses) s.accesses_are ∙ sym (append_assoc early s.before (s.stuck ++ s.later));
+    accesses_are = ap (λ (accesses : List Access). early ++ accesses) s.accesses_are ∙ sym (append_assoc early s.before (s.stuck_readings ++ s.later));
     count_is = s.count_is;
-    all_show_stuck = s.all_show_stuck;
+    all_show_still_running = s.all_show_still_running;
   }
 
 module _ (laws : Laws) where
   -- ---- what goes on
 
   module _ (set : RegisterSet) (port : Port) (old new : Device) where
-    pub stays_on : IsDrivenBy (IsPortAccessWriting (registers_of set) port) old new → IsOn old → IsOn new
-    stays_on driven on = laws.of_on port old new on
-        (record { accesses = driven.accesses; all_are_done = driven.all_are_done; accesses_are_of_kind = All-weaker (IsPortAccessWriting (registers_of set) port) (SparesOtherPorts port) (laws.control_of set port) driven.accesses driven.accesses_are_of_kind })
+    pub stays_on : IsDrivenBy (ReadsPortOrWrites (registers_of set) port) old new → IsOn old → IsOn new
+    stays_on driven on = laws.accesses_of_port_keep_on port old new on
+        (record { accesses = driven.accesses; all_are_done = driven.all_are_done; accesses_are_of_kind = All-weaker (ReadsPortOrWrites (registers_of set) port) (SparesOtherPorts port) (laws.control_spares_other_ports set port) driven.accesses driven.accesses_are_of_kind })
 
-    any : IsDrivenBy (IsPortAccessWriting (registers_of set) port) old new → IsDrivenBy AnyAccess old new
-    any driven = record { accesses = driven.accesses; all_are_done = driven.all_are_done; accesses_are_of_kind = All-weaker (IsPortAccessWriting (registers_of set) port) AnyAccess (λ access may. tt) driven.accesses driven.accesses_are_of_kind }
+    any : IsDrivenBy (ReadsPortOrWrites (registers_of set) port) old new → IsDrivenBy AnyAccess old new
+    any driven = record { accesses = driven.accesses; all_are_done = driven.all_are_done; accesses_are_of_kind = All-weaker (ReadsPortOrWrites (registers_of set) port) AnyAccess (λ access may. tt) driven.accesses driven.accesses_are_of_kind }
 
-    pub same_adapter : IsDrivenBy (IsPortAccessWriting (registers_of set) port) old new → SameAdapter old new
-    same_adapter driven = laws.same_over old new (any driven)
+    pub same_adapter : IsDrivenBy (ReadsPortOrWrites (registers_of set) port) old new → SameAdapter old new
+    same_adapter driven = laws.accesses_keep_adapter old new (any driven)
 
-    pub tape_gains : IsDrivenBy (IsPortAccessWriting (registers_of set) port) old new → TapeGrows old new
-    tape_gains driven = laws.tape_over old new (any driven)
+    pub tape_gains : IsDrivenBy (ReadsPortOrWrites (registers_of set) port) old new → TapeGrows old new
+    tape_gains driven = laws.accesses_extend_tape old new (any driven)
 
-    pub usable_by : (Fits : SlotStates → Type 0) → IsDrivenBy (IsPortAccessWriting (registers_of set) port) old new → ((uses : SlotStates) → Fits uses → IsRelated uses old → IsRelated uses new) → IsOnAndAgrees Fits port old → IsOnAndAgrees Fits port new
+    pub usable_by : (Fits : SlotStates → Type 0) → IsDrivenBy (ReadsPortOrWrites (registers_of set) port) old new → ((uses : SlotStates) → Fits uses → SomeMachineAgrees uses old → SomeMachineAgrees uses new) → IsOnAndAgrees Fits port old → IsOnAndAgrees Fits port new
     usable_by Fits driven agrees u = record {
       adapter_is_on = stays_on driven u.adapter_is_on;
       has_port = there_after (same_adapter driven) u.has_port;
       machine_is_related = (u.machine_is_related.0, u.machine_is_related.1, agrees u.machine_is_related.0 u.machine_is_related.1 u.machine_is_related.2);
     }
 
-    pub usable_after : IsOnAndAgrees AnyUse port old → IsSimulated (IsPortAccessWriting (registers_of set) port) AnyUse old new → IsOnAndAgrees AnyUse port new
-    usable_after u f = usable_by AnyUse f.is_driven (λ uses fits. laws.fragments.agreed (Controlling set port) (λ uses. uses) uses old new fits f) u
+    pub usable_after : IsOnAndAgrees AnySlotStates port old → IsSimulated (ReadsPortOrWrites (registers_of set) port) AnySlotStates old new → IsOnAndAgrees AnySlotStates port new
+    usable_after u f = usable_by AnySlotStates f.is_driven (λ uses fits. laws.fragments.some_machine_agrees (Controlling set port) (λ uses. uses) uses old new fits f) u
 
   -- over a reading, whatever uses fit
   pub usable_read : (Fits : SlotStates → Type 0) (port : Port) (r : PortReg) (v : ℕ) (old new : Device) → IsOnAndAgrees Fits port old → Reads (Px port r) v old new → IsOnAndAgrees Fits port new
   usable_read Fits port r v old new u call =
       let f = followed_read laws (Controlling Commanding port) (Px port r) v old new refl call in
-      usable_by Commanding port old new Fits f.is_driven (λ uses fits. laws.fragments.agreed (Controlling Commanding port) (λ uses. uses) uses old new tt f) u
+      usable_by Commanding port old new Fits f.is_driven (λ uses fits. laws.fragments.some_machine_agrees (Controlling Commanding port) (λ uses. uses) uses old new tt f) u
 
   -- PxCMD is read
   pub beside_read : (port : Port) (v : ℕ) (old new : Device) → old.hr ≡ false → Reads (Px port Cmd) v old new → SameSctlAndNotes (old.port port.0) (new.port port.0)
   beside_read port v old new off call =
-      let s : PortRegisterRead port.0 Cmd v old new = laws.seen port Cmd v old new call off in
-      ((s.keeps.keeps_outside_reset.controls port.0).sctl_det, subst (SameButCmdNotes (old.port port.0).notes) (sym (laws.notes_read port Cmd v old new off call)) refl)
+      let s : PortRegisterRead port.0 Cmd v old new = laws.read_changes_port_register port Cmd v old new call off in
+      ((s.keeps.keeps_outside_reset.controls_are_kept port.0).sctl_det_is_kept, subst (SameButCmdNotes (old.port port.0).notes) (sym (laws.notes_read port Cmd v old new off call)) refl)
 
   module _ (port : Port) (v : ℕ) (old new : Device) (off : old.hr ≡ false) (zero : bit v 0 ≡ false) (call : Writes (Px port Cmd) v old new) where
     pub beside_command : SameSctlAndNotes (old.port port.0) (new.port port.0)
     beside_command =
-        let w : PortRegisterWritten port.0 Cmd v old new = laws.put port Cmd v old new call off in
-        let same = laws.written_notes port Cmd v old new (λ (e : Cmd ≡ Sctl). absurd (cc)) (λ (e : Cmd ≡ Is). absurd (cc)) (λ _. zero) call in (
-          ap (λ (p : DevicePort). p.sctl_det) w.port_is_written ∙ (command_off v _ (w.mid.port port.0) zero).0 ∙ (w.keeps.keeps_outside_reset.controls port.0).sctl_det,
+        let w : PortRegisterWritten port.0 Cmd v old new = laws.write_changes_port_register port Cmd v old new call off in
+        let same = laws.writes_keep_notes port Cmd v old new (λ (e : Cmd ≡ Sctl). absurd (cc)) (λ (e : Cmd ≡ Is). absurd (cc)) (λ _. zero) call in (
+          ap (λ (p : DevicePort). p.sctl_det) w.port_is_written ∙ (command_off v _ (w.at_access.port port.0) zero).0 ∙ (w.keeps.keeps_outside_reset.controls_are_kept port.0).sctl_det_is_kept,
           subst (SameButCmdNotes (old.port port.0).notes) (sym same) refl,
         )
 
     pub bases_command : (new.port port.0).bases ≡ (old.port port.0).bases
     bases_command =
-        let w : PortRegisterWritten port.0 Cmd v old new = laws.put port Cmd v old new call off in
-        ap (λ (p : DevicePort). p.bases) w.port_is_written ∙ (command_off v _ (w.mid.port port.0) zero).1 ∙ (w.keeps.ports_are_kept port.0).bases
+        let w : PortRegisterWritten port.0 Cmd v old new = laws.write_changes_port_register port Cmd v old new call off in
+        ap (λ (p : DevicePort). p.bases) w.port_is_written ∙ (command_off v _ (w.at_access.port port.0) zero).1 ∙ (w.keeps.ports_keep_what_steps_keep port.0).bases_are_kept
 
   pub stopped_read : (port : Port) (r : PortReg) (v : ℕ) (old new : Device) → old.hr ≡ false → Reads (Px port r) v old new → IsStopped (old.port port.0) → IsStopped (new.port port.0)
-  stopped_read port r v old new off call h = stopped_on ((laws.seen port r v old new call off).keeps.ports_are_kept port.0) h
+  stopped_read port r v old new off call h = stopped_on ((laws.read_changes_port_register port r v old new call off).keeps.ports_keep_what_steps_keep port.0) h
 
-  pub receiving_read : (port : Port) (r : PortReg) (v : ℕ) (old new : Device) → old.hr ≡ false → Reads (Px port r) v old new → ReceivesFises port.0 (old.port port.0) → ReceivesFises port.0 (new.port port.0)
-  receiving_read port r v old new off call h = let s = laws.seen port r v old new call off in receiving_on (s.keeps.ports_are_kept port.0) (s.keeps.keeps_outside_reset.controls port.0) h
+  pub receiving_read : (port : Port) (r : PortReg) (v : ℕ) (old new : Device) → old.hr ≡ false → Reads (Px port r) v old new → IsStoppedReceiving port.0 (old.port port.0) → IsStoppedReceiving port.0 (new.port port.0)
+  receiving_read port r v old new off call h = let s = laws.read_changes_port_register port r v old new call off in receiving_on (s.keeps.ports_keep_what_steps_keep port.0) (s.keeps.keeps_outside_reset.controls_are_kept port.0) h
 
   -- any register but PxSACT is written, PxCMD with ST 0
   pub stopped_write : (port : Port) (r : PortReg) (v : ℕ) (old new : Device) → IsStable (MayWrite (Px port r) v) old → (r ≡ Cmd → bit v 0 ≡ false) → r ≢ Sact → Writes (Px port r) v old new →
       IsStopped (old.port port.0) → IsStopped (new.port port.0)
   stopped_write port r v old new may zero other call h = record {
-    halted = laws.halted_writes port (Px port r) v old new may (λ (e : Px port r ≡ Px port Cmd). zero (let same : r ≡ Cmd = cc in same)) call h.halted;
-    sact = λ slot. laws.writes_clear port slot (Px port r) v old new (λ (e : Px port r ≡ Px port Sact). absurd (other (let same : r ≡ Sact = cc in same))) call (h.sact slot);
+    engine_is_stopped = laws.writes_keep_engine_stopped port (Px port r) v old new may (λ (e : Px port r ≡ Px port Cmd). zero (let same : r ≡ Cmd = cc in same)) call h.engine_is_stopped;
+    sact_is_clear = λ slot. laws.writes_keep_sact_clear port slot (Px port r) v old new (λ (e : Px port r ≡ Px port Sact). absurd (other (let same : r ≡ Sact = cc in same))) call (h.sact_is_clear slot);
   }
 
-  pub receiving_write : (port : Port) (r : PortReg) (v : ℕ) (old new : Device) → old.hr ≡ false → IsResetRegister r → Writes (Px port r) v old new → ReceivesFises port.0 (old.port port.0) → ReceivesFises port.0 (new.port port.0)
+  pub receiving_write : (port : Port) (r : PortReg) (v : ℕ) (old new : Device) → old.hr ≡ false → IsResetRegister r → Writes (Px port r) v old new → IsStoppedReceiving port.0 (old.port port.0) → IsStoppedReceiving port.0 (new.port port.0)
   receiving_write port r v old new off kind call h =
-      let w : PortRegisterWritten port.0 r v old new = laws.put port r v old new call off in
-      subst (ReceivesFises port.0) (sym w.port_is_written) (written_receiving port.0 v _ (w.mid.port port.0) (receiving_on (w.keeps.ports_are_kept port.0) (w.keeps.keeps_outside_reset.controls port.0) h) r kind)
+      let w : PortRegisterWritten port.0 r v old new = laws.write_changes_port_register port r v old new call off in
+      subst (IsStoppedReceiving port.0) (sym w.port_is_written) (written_receiving port.0 v _ (w.at_access.port port.0) (receiving_on (w.keeps.ports_keep_what_steps_keep port.0) (w.keeps.keeps_outside_reset.controls_are_kept port.0) h) r kind)

@@ -5,14 +5,14 @@ use Rattle.ata_types.specs.declared.limits.TheConstants.{MOST_READINGS}
 use Rattle.ata_types.specs.declared.memory.TheConstants.{DRIVER_BYTES}
 use Rattle.adapter.specs.Device.{Device}
 use Rattle.adapter.specs.Rules.{IsOn, HasPort}
-use Rattle.refinement.specs.Fragments.{RelatesWith, AnyUse}
+use Rattle.refinement.specs.Fragments.{SomeMachineAgreesWith, AnySlotStates}
 use Rattle.refinement.specs.Driver.{AllFree}
-use Rattle.refinement.specs.Errors.{NoDiskComes, ChangesByDisks}
-use Rattle.refinement.specs.PortFacts.{IsCleanToStart, FaultsOnRecord}
-use Rattle.refinement.specs.Links.{NoPlugEvents}
+use Rattle.refinement.specs.Errors.{NoDiskComes, LinkErrorsRiseByDisks}
+use Rattle.refinement.specs.PortFacts.{IsCleanToStart, RecordsFaultsIfSt}
+use Rattle.refinement.specs.PreservedParts.{NoPlugEvents}
 use Rattle.refinement.specs.HaltRecovery.{IsLinked, RunsLinked}
-use Rattle.refinement.specs.StartedPort.{IsUp, IsComingUp, IsStarted}
-use Rattle.port_control.specs.Ports.{FindsSignature, HasClearErrors, IsDeviceFound, IsRunning, IsStopped, SeesResetFault, ReceivesFises, SameSctlAndNotes, SameButStart, SawDevice, SawIdle, BacksFault, ShowsSignature, SendsComresetThen}
+use Rattle.refinement.specs.StartedPort.{IsUpForStart, IsComingUp, IsStarted}
+use Rattle.port_control.specs.Ports.{FindsSignature, SerrShowsOnlyNewPlugs, IsDeviceFound, RunsWithoutCommands, IsStopped, SeesResetFault, IsStoppedReceiving, SameSctlAndNotes, SameButStart, SawDevice, SawIdle, BacksFault, LastSignatureIsShown, SendsComresetThen}
 use Rattle.port_control.specs.declared.PortFault.{PortFault}
 use Rattle.port_control.specs.declared.PortFault.TheVariants.{NoDevice, EngineStuck, NotAta}
 
@@ -23,15 +23,15 @@ use Rattle.port_control.specs.declared.PortFault.TheVariants.{NoDevice, EngineSt
 pub record MayBeginReceiving (port : Port) (d : Device) : Type 0 where
   pub adapter_is_on : IsOn d
   pub has_port : HasPort d port.0
-  pub machine_is_related : RelatesWith AnyUse d
+  pub machine_is_related : SomeMachineAgreesWith AnySlotStates d
   pub stopped : IsStopped (d.port port.0)
-  pub driver_memory_fits : DRIVER_BYTES ≤ d.size
+  pub driver_memory_fits : DRIVER_BYTES ≤ d.memory_size
 
 -- Whether it receives FISes then or not: it is stopped still, and PxSCTL.DET and what readings noted, but of PxCMD, are
 -- as they were.
 pub record StaysStopped (port : Port) (old new : Device) : Type 0 where
   pub stopped : IsStopped (new.port port.0)
-  pub same : SameSctlAndNotes (old.port port.0) (new.port port.0)
+  pub sctl_and_notes_are_kept : SameSctlAndNotes (old.port port.0) (new.port port.0)
 
 -- ---- errors, and devices that go and come
 
@@ -39,8 +39,8 @@ pub record StaysStopped (port : Port) (old new : Device) : Type 0 where
 pub record MayClearErrorState (port : Port) (d : Device) : Type 0 where
   pub adapter_is_on : IsOn d
   pub has_port : HasPort d port.0
-  pub machine_is_related : RelatesWith AnyUse d
-  pub receives : ReceivesFises port.0 (d.port port.0)
+  pub machine_is_related : SomeMachineAgreesWith AnySlotStates d
+  pub receives : IsStoppedReceiving port.0 (d.port port.0)
   pub no_link_is_due : (d.port port.0).link_due ≡ false
   pub no_comreset : (d.port port.0).sctl_det ≡ 0
 
@@ -48,9 +48,9 @@ pub record MayClearErrorState (port : Port) (d : Device) : Type 0 where
 -- as after 64 readings that found none. A stopped port is stopped still (AHCI 1.3.1, 3.3.10 and 3.3.12).
 pub record AsksForDevice (port : Port) (found : Bool) (old new : Device) : Type 0 where
   pub stopped : IsStopped (old.port port.0) → IsStopped (new.port port.0)
-  pub errors_are_clear : (old.port port.0).link_due ≡ false → HasClearErrors port.0 old new
+  pub errors_are_clear : (old.port port.0).link_due ≡ false → SerrShowsOnlyNewPlugs port.0 old new
   pub device_is_shown : found ≡ true → (new.port port.0).ssts_det ≡ 3
-  pub no_device_is_backed : found ≡ false → (old.port port.0).notes.link_count ≡ MOST_READINGS
+  pub no_device_is_backed : found ≡ false → (old.port port.0).notes.link_wait_count ≡ MOST_READINGS
       → BacksFault NoDevice (new.port port.0).notes
 
 -- ---- COMRESET
@@ -59,28 +59,28 @@ pub record AsksForDevice (port : Port) (found : Bool) (old new : Device) : Type 
 pub record MayResetLink (port : Port) (d : Device) : Type 0 where
   pub adapter_is_on : IsOn d
   pub has_port : HasPort d port.0
-  pub machine_is_related : RelatesWith AnyUse d
-  pub receives : ReceivesFises port.0 (d.port port.0)
+  pub machine_is_related : SomeMachineAgreesWith AnySlotStates d
+  pub receives : IsStoppedReceiving port.0 (d.port port.0)
 
 -- Whatever was found then: it receives FISes still; and where no disk came meanwhile, its link is coming up, or is up.
 pub record StaysReceiving (port : Port) (old new : Device) : Type 0 where
-  pub receives : ReceivesFises port.0 (new.port port.0)
+  pub receives : IsStoppedReceiving port.0 (new.port port.0)
   pub link_is_coming_up : NoDiskComes port.0 old new → IsComingUp (new.port port.0)
 
 -- COMRESET was sent, and an ATA disk was found that is idle, as the readings since showed (AHCI 1.3.1, 10.1.2 and
 -- 10.4.2).
-pub record FindsDisk (port : Port) (old new : Device) : Type 0 where
-  pub reset : SendsComresetThen port (FindsSignature port 0x101) old new
+pub record ResetsAndFindsDisk (port : Port) (old new : Device) : Type 0 where
+  pub comreset_is_sent : SendsComresetThen port (FindsSignature port 0x101) old new
   pub disk_is_seen : let notes = (new.port port.0).notes in SawDevice notes × SawIdle notes × (notes.last_sig ≡ 0x101)
   pub device_is_found : IsDeviceFound port.0 old new
-  pub signature_is_shown : ShowsSignature (new.port port.0)
+  pub signature_is_shown : LastSignatureIsShown (new.port port.0)
 
 -- COMRESET was sent, and the readings since showed this fault in place of such a disk.
-pub record FindsFault (port : Port) (told : PortFault) (old new : Device) : Type 0 where
-  pub reset : SendsComresetThen port (SeesResetFault port told) old new
-  pub fault_is_backed : BacksFault told (new.port port.0).notes × (told ≢ EngineStuck)
-  pub device_is_found : told ≢ NoDevice → IsDeviceFound port.0 old new
-  pub signature_is_shown : (signature : ℕ) → told ≡ NotAta signature → ShowsSignature (new.port port.0)
+pub record ResetsAndFindsFault (port : Port) (fault : PortFault) (old new : Device) : Type 0 where
+  pub comreset_is_sent : SendsComresetThen port (SeesResetFault port fault) old new
+  pub fault_is_backed : BacksFault fault (new.port port.0).notes × (fault ≢ EngineStuck)
+  pub device_is_found : fault ≢ NoDevice → IsDeviceFound port.0 old new
+  pub signature_is_shown : (signature : ℕ) → fault ≡ NotAta signature → LastSignatureIsShown (new.port port.0)
 
 -- ---- to work on the command list
 
@@ -89,8 +89,8 @@ pub record FindsFault (port : Port) (told : PortFault) (old new : Device) : Type
 pub record MayBeStarted (port : Port) (d : Device) : Type 0 where
   pub adapter_is_on : IsOn d
   pub has_port : HasPort d port.0
-  pub machine_is_related : RelatesWith (λ uses. AllFree uses port.0) d
-  pub receives : ReceivesFises port.0 (d.port port.0)
+  pub machine_is_related : SomeMachineAgreesWith (λ uses. AllFree uses port.0) d
+  pub receives : IsStoppedReceiving port.0 (d.port port.0)
   pub link_was_seen : (d.port port.0).notes.last_ssts % 16 ≡ 3
   pub disk_was_idle : SawIdle (d.port port.0).notes
 
@@ -98,14 +98,14 @@ pub record MayBeStarted (port : Port) (d : Device) : Type 0 where
 -- before, where no disk went or came; no cause is told that wasn't; and what had no error has none, but for disks that
 -- went or came (AHCI 1.3.1, 10.3.1).
 pub record Starts (port : Port) (old new : Device) : Type 0 where
-  pub runs : IsRunning port.0 (new.port port.0)
+  pub runs : RunsWithoutCommands port.0 (new.port port.0)
   pub other_notes_are_kept : SameButStart (old.port port.0) (new.port port.0)
   pub st_set_is_last : (new.port port.0).notes.st_set_at ≡ length new.tape
   pub sctl_time_in_tape : (old.port port.0).notes.sctl_written_at ≤ length old.tape
       → (new.port port.0).notes.sctl_written_at ≤ length new.tape
-  pub port_is_started : IsUp (old.port port.0) → NoPlugEvents port.0 old new → IsStarted (new.port port.0)
+  pub port_is_started : IsUpForStart (old.port port.0) → NoPlugEvents port.0 old new → IsStarted (new.port port.0)
   pub link_stays_up : IsLinked (old.port port.0) → NoPlugEvents port.0 old new → RunsLinked (new.port port.0)
-  pub faults_are_on_record : IsCleanToStart (old.port port.0) → FaultsOnRecord new.tape (new.port port.0) port.0
+  pub faults_are_on_record : IsCleanToStart (old.port port.0) → RecordsFaultsIfSt new.tape (new.port port.0) port.0
   pub no_cause_rises : (place : ℕ) → (old.port port.0).is place ≡ false → (new.port port.0).is place ≡ false
-  pub no_link_is_due : (old.port port.0).link_due ≡ false → (new.port port.0).link_due ≡ false
-  pub errors_change_by_disks : (old.port port.0).link_due ≡ false → ChangesByDisks port.0 old new
+  pub no_link_gets_due : (old.port port.0).link_due ≡ false → (new.port port.0).link_due ≡ false
+  pub errors_change_by_disks : (old.port port.0).link_due ≡ false → LinkErrorsRiseByDisks port.0 old new

@@ -9,17 +9,17 @@ use Rattle.adapter.specs.Access.{Reads}
 use Rattle.adapter.specs.Device.{Device}
 
 -- PxSSTS was read. A device with a link shows if DET is 3.
-pub record FindsDevice (port : Port) (result : Bool) (old new : Device) : Type 0 where
+pub record ChecksForDevice (port : Port) (result : Bool) (old new : Device) : Type 0 where
   pub status : ℕ
   pub reads : Reads (Px port Ssts) status old new
   pub result_is : result ≡ (status % 16 == 3)
 
 -- PxIS was read, and then PxSSTS. The device went, or its link came up, since PxSERR was cleared, if PRCS or PCS is
 -- set; and it isn't there if DET isn't 3.
-pub record FindsChange (port : Port) (result : Bool) (old new : Device) : Type 0 where
+pub record ChecksForChange (port : Port) (result : Bool) (old new : Device) : Type 0 where
   pub causes : ℕ
-  pub seen : Device
-  pub reads : Reads (Px port Is) causes old seen
+  pub after_is_read : Device
+  pub reads : Reads (Px port Is) causes old after_is_read
   pub status : ℕ
-  pub reads_status : Reads (Px port Ssts) status seen new
+  pub reads_status : Reads (Px port Ssts) status after_is_read new
   pub result_is : result ≡ (bit causes 6 || bit causes 22 || not (status % 16 == 3))

@@ -8,21 +8,21 @@ use Rattle.hba_regs.specs.declared.reg.PortReg.TheVariants.{Cmd}
 use Rattle.hba_regs.specs.declared.reg.Reg.TheVariants.{Px}
 use Rattle.adapter.specs.Access.{Access}
 use Rattle.adapter.specs.Access.Access.{Reading, Writing}
-use Rattle.refinement.specs.Links.{DoesNotWrite}
+use Rattle.refinement.specs.PreservedParts.{DoesNotWrite}
 
 -- An engine fell: the bit that starts it was written 0, and the bit that shows it running was read 0 after that, with
 -- PxCMD not written between.
 pub record EngineFalls (start running : ℕ) (port : Port) (accesses : List Access) : Type 0 where
   pub before : List Access
-  pub cleared : ℕ
+  pub written_cmd : ℕ
   pub between : List Access
-  pub fallen : ℕ
+  pub read_cmd : ℕ
   pub later : List Access
-  pub accesses_are : accesses ≡ before ++ (Writing (Px port Cmd) cleared
-      ∷ (between ++ (Reading (Px port Cmd) fallen ∷ later)))
-  pub start_is_cleared : bit cleared start ≡ false
+  pub accesses_are : accesses ≡ before ++ (Writing (Px port Cmd) written_cmd
+      ∷ (between ++ (Reading (Px port Cmd) read_cmd ∷ later)))
+  pub start_is_cleared : bit written_cmd start ≡ false
   pub cmd_is_unwritten : All (DoesNotWrite (Px port Cmd)) between
-  pub stop_is_shown : bit fallen running ≡ false
+  pub stop_is_shown : bit read_cmd running ≡ false
 
 -- ST was cleared, and CR was read 0
 abbrev pub Stops : Port → List Access → Type 0
@@ -33,16 +33,16 @@ abbrev pub StopsReceiving : Port → List Access → Type 0
 StopsReceiving port accesses = EngineFalls 4 14 port accesses
 
 -- both engines fell
-abbrev pub StopsBoth : Port → List Access → Type 0
-StopsBoth port accesses = Stops port accesses × StopsReceiving port accesses
+abbrev pub StopsBothEngines : Port → List Access → Type 0
+StopsBothEngines port accesses = Stops port accesses × StopsReceiving port accesses
 
 -- a value of PxCMD shows that an engine was cleared, and runs still
 abbrev pub ShowsStillRunning : ℕ → ℕ → ℕ → Type 0
 ShowsStillRunning start running v = (bit v start ≡ false) × (bit v running ≡ true)
 
 -- either engine: CR is 1 while ST is 0, or FR while FRE is 0
-abbrev pub ShowsStuck : ℕ → Type 0
-ShowsStuck v = ShowsStillRunning 0 15 v ⊎ ShowsStillRunning 4 14 v
+abbrev pub ShowsEngineStillRunning : ℕ → Type 0
+ShowsEngineStillRunning v = ShowsStillRunning 0 15 v ⊎ ShowsStillRunning 4 14 v
 
 -- it reads PxCMD, whose value shows this
 abbrev pub ReadsPortCmd : (ℕ → Type 0) → Port → Access → Type 0
@@ -53,12 +53,12 @@ ReadsPortCmd Shown port access = ⊥
 -- showed that it runs still.
 pub record AwaitsEngineStop (start running : ℕ) (port : Port) (count : ℕ) (accesses : List Access) : Type 0 where
   pub before : List Access
-  pub cleared : ℕ
-  pub stuck : List Access
-  pub accesses_are : accesses ≡ before ++ (Writing (Px port Cmd) cleared ∷ stuck)
-  pub start_is_cleared : bit cleared start ≡ false
-  pub count_is : length stuck ≡ count
-  pub all_show_running : All (ReadsPortCmd (ShowsStillRunning start running) port) stuck
+  pub written_cmd : ℕ
+  pub stuck_readings : List Access
+  pub accesses_are : accesses ≡ before ++ (Writing (Px port Cmd) written_cmd ∷ stuck_readings)
+  pub start_is_cleared : bit written_cmd start ≡ false
+  pub count_is : length stuck_readings ≡ count
+  pub all_show_running : All (ReadsPortCmd (ShowsStillRunning start running) port) stuck_readings
 
 -- ST was cleared, and then 64 readings, the last of the accesses, showed CR still
 abbrev pub FailsToStop : Port → List Access → Type 0
@@ -71,8 +71,8 @@ FailsToStopReceiving port accesses = AwaitsEngineStop 4 14 port MOST_READINGS ac
 -- 64 readings in a row showed an engine that was cleared and runs still.
 pub record EngineSticks (port : Port) (accesses : List Access) : Type 0 where
   pub before : List Access
-  pub stuck : List Access
+  pub stuck_readings : List Access
   pub later : List Access
-  pub accesses_are : accesses ≡ before ++ (stuck ++ later)
-  pub count_is : length stuck ≡ MOST_READINGS
-  pub all_show_stuck : All (ReadsPortCmd ShowsStuck port) stuck
+  pub accesses_are : accesses ≡ before ++ (stuck_readings ++ later)
+  pub count_is : length stuck_readings ≡ MOST_READINGS
+  pub all_show_still_running : All (ReadsPortCmd ShowsEngineStillRunning port) stuck_readings

@@ -10,15 +10,15 @@ use Rattle.hba_regs.specs.declared.reg.Reg.TheVariants.{Ghc, Px}
 use Rattle.adapter.specs.Access.{Access, Does, PortShows, Reads, Stores, Writes}
 use Rattle.adapter.specs.Access.Access.{Writing}
 use Rattle.adapter.specs.Device.{DevicePort, Device}
-use Rattle.adapter.specs.KeptBySteps.{Keeps}
+use Rattle.adapter.specs.KeptBySteps.{KeepsOverSteps}
 use Rattle.adapter.specs.Rules.{IsOn, MayWrite, IsStable}
 use Rattle.adapter.specs.RegisterEffects.{PortRegisterWritten}
 use Rattle.adapter.specs.Steps.{Steps}
 use Rattle.refinement.specs.Laws.{FragmentLaws, TapeLaws}
-use Rattle.refinement.specs.Fragments.{AnyAccess, AnyUse, IsDrivenBy, SparesOtherPorts, SameUses, LeavesPort}
-use Rattle.refinement.specs.Errors.{ChangesByErrors, NoneFails, StaysClear}
-use Rattle.refinement.specs.PortFacts.{IsFaulted, FaultsOnRecord, RunsWell, ShowsNoTrouble, TellsNoTrouble, Undisturbed}
-use Rattle.refinement.specs.Links.{LeavesControls, LeavesLink, NoPlugEvents, SameAdapter, DoesNotWrite}
+use Rattle.refinement.specs.Fragments.{AnyAccess, AnySlotStates, IsDrivenBy, SparesOtherPorts, SameSlotStates, LeavesPort}
+use Rattle.refinement.specs.Errors.{ErrorBitsRiseByErrors, NoFaults, ErrorBitsStayClear}
+use Rattle.refinement.specs.PortFacts.{IsFaulted, RecordsFaultsIfSt, RunsWell, ShowsNoTrouble, PxisValueTellsNoTrouble, Undisturbed}
+use Rattle.refinement.specs.PreservedParts.{LeavesControls, LinkIsSameOrComesUp, NoPlugEvents, SameAdapter, DoesNotWrite}
 use Rattle.refinement.specs.PortNotes.{LeavesNotes}
 use Rattle.refinement.specs.Slots.{SlotStates}
 use Rattle.refinement.specs.StartedPort.{ClearsNoStart, IsStarted}
@@ -35,21 +35,22 @@ accesses_for (Looking port) = IsEventAccess port
 accesses_for (Serving uses) = IsServiceAccess
 
 abbrev pub slot_uses_for : AccessPurpose → SlotStates → Type 0
-slot_uses_for (Looking port) = AnyUse
-slot_uses_for (Serving uses) = SameUses uses
+slot_uses_for (Looking port) = AnySlotStates
+slot_uses_for (Serving uses) = SameSlotStates uses
 
 pub record Laws : Type 0 where
   -- one access
-  pub steps_none : (d : Device) → Steps d d
-  pub law_step_lists_keep_what_steps_keep : (old new : Device) → Steps old new → Keeps old new
-  pub put : (port : Port) (r : PortReg) (v : ℕ) (old new : Device) → Writes (Px port r) v old new → old.hr ≡ false
+  pub steps_reflexive : (d : Device) → Steps d d
+  pub law_step_lists_keep_what_steps_keep : (old new : Device) → Steps old new → KeepsOverSteps old new
+  pub write_changes_port_register : (port : Port) (r : PortReg) (v : ℕ) (old new : Device)
+      → Writes (Px port r) v old new → old.hr ≡ false
       → PortRegisterWritten port.0 r v old new
   pub store_leaves : (at : ℕ) (bytes : List ℕ) (old new : Device) → Stores at bytes old new
       → (mid : Device) × Steps old mid × ((port : ℕ) → new.port port ≡ mid.port port) × (new.tape ≡ mid.tape)
       × (new.hr ≡ mid.hr)
-  pub access_on : (access : Access) (old new : Device) → IsOn old
+  pub access_keeps_on : (access : Access) (old new : Device) → IsOn old
       → ((v : ℕ) → access ≡ Writing Ghc v → (bit v 31 ≡ true) × (bit v 0 ≡ false)) → Does access old new → IsOn new
-  pub access_same : (access : Access) (old new : Device) → Does access old new → SameAdapter old new
+  pub access_keeps_adapter : (access : Access) (old new : Device) → Does access old new → SameAdapter old new
   pub access_controls : (port : Port) (access : Access) (old new : Device) → old.hr ≡ false → Does access old new
       → LeavesControls access port (old.port port.0) (new.port port.0)
   pub shown_after : (port : Port) (r : PortReg) (v : ℕ) (old new : Device) → old.hr ≡ false
@@ -57,88 +58,95 @@ pub record Laws : Type 0 where
   -- what may be written
   pub write_stays : (r : Reg) (v : ℕ) (d : Device) → ((port : Port) → r ≢ Px port Ci) → MayWrite r v d
       → IsStable (MayWrite r v) d
-  pub acknowledging_may : (port : Port) (v : ℕ) (old new : Device) → IsOn old → Writes (Px port Is) v old new
+  pub acknowledging_is_permitted : (port : Port) (v : ℕ) (old new : Device) → IsOn old → Writes (Px port Is) v old new
       → (ports : ℕ) → ((q : ℕ) → q < 32 → bit ports q ≡ true → (q ≡ port.0) ⊎ ((old.port q).notes.acknowledged ≡ true))
       → IsStable (MayWrite registers.Is ports) new
   -- bits of PxSACT that are clear
-  pub steps_clear : (port slot : ℕ) (old new : Device) → Steps old new → (old.port port).sact slot ≡ false
+  pub steps_keep_sact_clear : (port slot : ℕ) (old new : Device) → Steps old new → (old.port port).sact slot ≡ false
       → (new.port port).sact slot ≡ false
-  pub reads_clear : (port slot : ℕ) (r : Reg) (v : ℕ) (old new : Device) → Reads r v old new
+  pub reads_keep_sact_clear : (port slot : ℕ) (r : Reg) (v : ℕ) (old new : Device) → Reads r v old new
       → (old.port port).sact slot ≡ false → (new.port port).sact slot ≡ false
-  pub writes_clear : (port : Port) (slot : ℕ) (r : Reg) (v : ℕ) (old new : Device)
+  pub writes_keep_sact_clear : (port : Port) (slot : ℕ) (r : Reg) (v : ℕ) (old new : Device)
       → (r ≡ Px port Sact → bit v slot ≡ false) → Writes r v old new → (old.port port.0).sact slot ≡ false
       → (new.port port.0).sact slot ≡ false
   -- a port that runs well
-  pub access_started : (port : Port) (access : Access) (old new : Device) → old.hr ≡ false → ClearsNoStart port access
+  pub access_keeps_started : (port : Port) (access : Access) (old new : Device) → old.hr ≡ false
+      → ClearsNoStart port access
       → DoesNotWrite (Px port Sctl) access → Undisturbed port.0 old new → Does access old new
       → IsStarted (old.port port.0) → IsStarted (new.port port.0)
-  pub well_of : (p : DevicePort) → IsStarted p → ShowsNoTrouble p → RunsWell p
-  pub started_well : (p : DevicePort) → RunsWell p → IsStarted p
-  pub access_clear : (port : Port) (access : Access) (old new : Device) → old.hr ≡ false
+  pub started_quiet_port_runs_well : (p : DevicePort) → IsStarted p → ShowsNoTrouble p → RunsWell p
+  pub runs_well_is_started : (p : DevicePort) → RunsWell p → IsStarted p
+  pub access_stays_clear : (port : Port) (access : Access) (old new : Device) → old.hr ≡ false
       → (old.port port.0).link_due ≡ false → Undisturbed port.0 old new → Does access old new
-      → StaysClear (old.port port.0) (new.port port.0)
-  pub shows_still : (p new : DevicePort) → StaysClear p new → ShowsNoTrouble p → ShowsNoTrouble new
-  pub healthy_reads : (port : ℕ) (r : Reg) (v : ℕ) (old new : Device) → old.hr ≡ false → Reads r v old new
+      → ErrorBitsStayClear (old.port port.0) (new.port port.0)
+  pub stays_clear_shows_no_trouble : (p new : DevicePort) → ErrorBitsStayClear p new → ShowsNoTrouble p
+      → ShowsNoTrouble new
+  pub read_keeps_running_well : (port : ℕ) (r : Reg) (v : ℕ) (old new : Device) → old.hr ≡ false → Reads r v old new
       → Undisturbed port old new → RunsWell (old.port port) → RunsWell (new.port port)
   -- trouble
-  pub reads_show : (port : ℕ) (r : Reg) (v : ℕ) (old new : Device) → old.hr ≡ false → Reads r v old new
+  pub no_trouble_read_none_before : (port : ℕ) (r : Reg) (v : ℕ) (old new : Device) → old.hr ≡ false → Reads r v old new
       → ShowsNoTrouble (new.port port) → ShowsNoTrouble (old.port port) × Undisturbed port old new
-  pub told_calm : (port : Port) (v : ℕ) (old new : Device) → old.hr ≡ false → Reads (Px port Is) v old new
-      → TellsNoTrouble v → ShowsNoTrouble (new.port port.0)
-  pub calm_told : (port : Port) (v : ℕ) (old new : Device) → old.hr ≡ false → Reads (Px port Is) v old new
-      → ShowsNoTrouble (new.port port.0) → TellsNoTrouble v
-  pub changes_told : (port : Port) (v : ℕ) (old new : Device) → old.hr ≡ false → Reads (Px port Is) v old new
+  pub calm_causes_show_no_trouble : (port : Port) (v : ℕ) (old new : Device) → old.hr ≡ false
+      → Reads (Px port Is) v old new
+      → PxisValueTellsNoTrouble v → ShowsNoTrouble (new.port port.0)
+  pub no_trouble_reads_calm_causes : (port : Port) (v : ℕ) (old new : Device) → old.hr ≡ false
+      → Reads (Px port Is) v old new
+      → ShowsNoTrouble (new.port port.0) → PxisValueTellsNoTrouble v
+  pub serr_changes_are_read : (port : Port) (v : ℕ) (old new : Device) → old.hr ≡ false → Reads (Px port Is) v old new
       → ((old.port port.0).serr_n ≡ true → bit v 22 ≡ true) × ((old.port port.0).serr_x ≡ true → bit v 6 ≡ true)
-  pub access_causes : (port : Port) (access : Access) (old new : Device) → old.hr ≡ false
+  pub access_keeps_causes : (port : Port) (access : Access) (old new : Device) → old.hr ≡ false
       → DoesNotWrite (Px port Is) access → Does access old new → (place : ℕ) → (old.port port.0).is place ≡ true
       → (new.port port.0).is place ≡ true
-  pub access_news : (port : Port) (access : Access) (old new : Device) → old.hr ≡ false
+  pub access_keeps_serr_changes : (port : Port) (access : Access) (old new : Device) → old.hr ≡ false
       → DoesNotWrite (Px port Serr) access → Does access old new
       → ((old.port port.0).serr_n ≡ true → (new.port port.0).serr_n ≡ true)
       × ((old.port port.0).serr_x ≡ true → (new.port port.0).serr_x ≡ true)
   pub tape : TapeLaws
-  pub access_recorded : (port : Port) (access : Access) (old new : Device) → DoesNotWrite (Px port Cmd) access
-      → DoesNotWrite (Px port Sctl) access → Does access old new → FaultsOnRecord old.tape (old.port port.0) port.0
-      → FaultsOnRecord new.tape (new.port port.0) port.0
-  pub access_errors : (port : Port) (access : Access) (old new : Device) → Does access old new
-      → ChangesByErrors port.0 old new
-  pub access_link : (port : Port) (access : Access) (old new : Device) → old.hr ≡ false
+  pub access_keeps_fault_record : (port : Port) (access : Access) (old new : Device) → DoesNotWrite (Px port Cmd) access
+      → DoesNotWrite (Px port Sctl) access → Does access old new → RecordsFaultsIfSt old.tape (old.port port.0) port.0
+      → RecordsFaultsIfSt new.tape (new.port port.0) port.0
+  pub access_changes_by_errors : (port : Port) (access : Access) (old new : Device) → Does access old new
+      → ErrorBitsRiseByErrors port.0 old new
+  pub access_leaves_link : (port : Port) (access : Access) (old new : Device) → old.hr ≡ false
       → DoesNotWrite (Px port Sctl) access → Does access old new → NoPlugEvents port.0 old new
-      → LeavesLink (old.port port.0) (new.port port.0)
-  pub changes_lost : (port : Port) (v : ℕ) (old new : Device) → old.hr ≡ false → (old.port port.0).link_due ≡ false
+      → LinkIsSameOrComesUp (old.port port.0) (new.port port.0)
+  pub change_read_has_cause : (port : Port) (v : ℕ) (old new : Device) → old.hr ≡ false
+      → (old.port port.0).link_due ≡ false
       → Reads (Px port Is) v old new → (bit v 22 ≡ true) ⊎ (bit v 6 ≡ true) → ((old.port port.0).serr_n ≡ true)
       ⊎ (((old.port port.0).serr_x ≡ true) ⊎ (NoPlugEvents port.0 old new → ⊥))
-  pub link_lost : (port : Port) (v : ℕ) (old new : Device) → old.hr ≡ false → (old.port port.0).link_due ≡ false
+  pub no_link_read_has_cause : (port : Port) (v : ℕ) (old new : Device) → old.hr ≡ false
+      → (old.port port.0).link_due ≡ false
       → Reads (Px port Ssts) v old new → v % 16 ≢ 3 → ((old.port port.0).ssts_det ≢ 3)
       ⊎ (NoPlugEvents port.0 old new → ⊥)
   -- a fault
-  pub steps_unfailed : (port : ℕ) (old new : Device) → old.hr ≡ false → Steps old new → (new.port port).is 30 ≡ false
-      → ((old.port port).is 30 ≡ false) × NoneFails port old new
-  pub access_unfailed : (port : Port) (access : Access) (old new : Device) → old.hr ≡ false
+  pub steps_hide_no_fault : (port : ℕ) (old new : Device) → old.hr ≡ false → Steps old new
+      → (new.port port).is 30 ≡ false
+      → ((old.port port).is 30 ≡ false) × NoFaults port old new
+  pub access_hides_no_fault : (port : Port) (access : Access) (old new : Device) → old.hr ≡ false
       → DoesNotWrite (Px port Is) access → Does access old new → (new.port port.0).is 30 ≡ false
-      → ((old.port port.0).is 30 ≡ false) × NoneFails port.0 old new
+      → ((old.port port.0).is 30 ≡ false) × NoFaults port.0 old new
   -- a fatal error, and a disk
-  pub steps_unbroken : (port : ℕ) (old new : Device) → old.hr ≡ false → Steps old new → HidesNoFatal port old new
-  pub access_unbroken : (port : Port) (access : Access) (old new : Device) → old.hr ≡ false
+  pub steps_hide_no_fatal : (port : ℕ) (old new : Device) → old.hr ≡ false → Steps old new → HidesNoFatal port old new
+  pub access_hides_no_fatal : (port : Port) (access : Access) (old new : Device) → old.hr ≡ false
       → DoesNotWrite (Px port Is) access → Does access old new → HidesNoFatal port.0 old new
-  pub access_undisturbed : (port : Port) (access : Access) (old new : Device) → old.hr ≡ false
+  pub access_hides_no_plug_event : (port : Port) (access : Access) (old new : Device) → old.hr ≡ false
       → DoesNotWrite (Px port Serr) access → Does access old new → HidesNoPlugEvent port.0 old new
   pub fault_told : (port : Port) (v : ℕ) (old new : Device) → old.hr ≡ false → (old.port port.0).st ≡ true
-      → FaultsOnRecord old.tape (old.port port.0) port.0 → Reads (Px port Is) v old new → bit v 30 ≡ true
+      → RecordsFaultsIfSt old.tape (old.port port.0) port.0 → Reads (Px port Is) v old new → bit v 30 ≡ true
       → IsFaulted (new.port port.0).halt
-  pub fault_reads : (port : ℕ) (r : Reg) (v : ℕ) (old new : Device) → old.hr ≡ false → (old.port port).st ≡ true
-      → FaultsOnRecord old.tape (old.port port) port → IsFaulted (old.port port).halt → Reads r v old new
+  pub read_keeps_faulted : (port : ℕ) (r : Reg) (v : ℕ) (old new : Device) → old.hr ≡ false → (old.port port).st ≡ true
+      → RecordsFaultsIfSt old.tape (old.port port) port → IsFaulted (old.port port).halt → Reads r v old new
       → IsFaulted (new.port port).halt
-  pub fault_writes : (port : ℕ) (r : Reg) (v : ℕ) (old new : Device) → old.hr ≡ false → (old.port port).st ≡ true
-      → FaultsOnRecord old.tape (old.port port) port → IsFaulted (old.port port).halt → Writes r v old new
+  pub write_keeps_faulted : (port : ℕ) (r : Reg) (v : ℕ) (old new : Device) → old.hr ≡ false → (old.port port).st ≡ true
+      → RecordsFaultsIfSt old.tape (old.port port) port → IsFaulted (old.port port).halt → Writes r v old new
       → IsFaulted (new.port port).halt
-  pub link_seen : (port : Port) (v : ℕ) (old new : Device) → Reads (Px port Ssts) v old new
+  pub last_ssts_is_read : (port : Port) (v : ℕ) (old new : Device) → Reads (Px port Ssts) v old new
       → (new.port port.0).notes.last_ssts ≡ v
   pub access_notes : (port : Port) (access : Access) (old new : Device) → Does access old new
       → LeavesNotes access port (old.port port.0).notes (new.port port.0).notes
   -- fragments
-  pub other_left : (port : Port) (q : ℕ) (old new : Device) → q ≢ port.0 → IsOn old
+  pub other_ports_are_left : (port : Port) (q : ℕ) (old new : Device) → q ≢ port.0 → IsOn old
       → IsDrivenBy (SparesOtherPorts port) old new
       → LeavesPort (old.port q) (new.port q)
-  pub same_over : (old new : Device) → IsDrivenBy AnyAccess old new → SameAdapter old new
+  pub accesses_keep_adapter : (old new : Device) → IsDrivenBy AnyAccess old new → SameAdapter old new
   pub fragments : FragmentLaws AccessPurpose accesses_for slot_uses_for

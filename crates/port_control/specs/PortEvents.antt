@@ -31,10 +31,10 @@ IsEventAccess port access = ⊥
 -- answer is what the two readings tell.
 pub record TakesEvent (port : Port) (result : PortEvent) (old new : Device) : Type 0 where
   pub causes : ℕ
-  pub seen : Device
-  pub reads : Reads (Px port Is) causes old seen
+  pub after_is_read : Device
+  pub reads : Reads (Px port Is) causes old after_is_read
   pub cleared : Device
-  pub clears : Writes (Px port Is) causes seen cleared
+  pub clears : Writes (Px port Is) causes after_is_read cleared
   pub port_mask : ℕ
   pub is_sole_bit : IsSoleBit port.0 port_mask
   pub acknowledged : Device

@@ -11,13 +11,13 @@ use Rattle.adapter.specs.Access.{Access, Reads, Writes}
 use Rattle.adapter.specs.Access.Access.{Reading}
 use Rattle.adapter.specs.Device.{Bases, Notes, DevicePort, Device}
 use Rattle.adapter.specs.Rules.{IsOn, HasPort}
-use Rattle.refinement.specs.Fragments.{RelatesWith, AnyUse, IsPortAccessWriting, IsDrivenBy, IsSimulatedAlong}
+use Rattle.refinement.specs.Fragments.{SomeMachineAgreesWith, AnySlotStates, ReadsPortOrWrites, IsDrivenBy, IsSimulatedAlong}
 use Rattle.refinement.specs.Errors.{NoDiskComes}
-use Rattle.refinement.specs.PortFacts.{ShowsDrqTillLink, IsEngineStopped, IsCleanToStart}
-use Rattle.refinement.specs.Links.{NoPlugEvents}
-use Rattle.refinement.specs.MemoryLayout.{list_of, received_of}
+use Rattle.refinement.specs.PortFacts.{StoppedWithDrqTillLink, IsEngineStopped, IsCleanToStart}
+use Rattle.refinement.specs.PreservedParts.{NoPlugEvents}
+use Rattle.refinement.specs.MemoryLayout.{command_list_address, received_fis_address}
 use Rattle.refinement.specs.Slots.{SlotStates}
-use Rattle.refinement.specs.StartedPort.{IsUp, IsComingUp}
+use Rattle.refinement.specs.StartedPort.{IsUpForStart, IsComingUp}
 use Rattle.port_control.specs.Engines.{FailsToStop, FailsToStopReceiving, Stops, StopsReceiving}
 use Rattle.port_control.specs.declared.PortFault.{PortFault}
 use Rattle.port_control.specs.declared.PortFault.TheVariants.{NoDevice, Busy, EngineStuck, NotAta}
@@ -33,12 +33,12 @@ abbrev pub IsPlacingRegister : PortReg → Type 0
 IsPlacingRegister r = (r ≡ Cmd) ⊎ (r ≡ Clb) ⊎ (r ≡ Clbu) ⊎ (r ≡ Fb) ⊎ (r ≡ Fbu)
 
 -- PxSERR and PxIS, whose bits are cleared by ones
-abbrev pub IsErrorRegister : PortReg → Type 0
-IsErrorRegister r = (r ≡ Serr) ⊎ (r ≡ Is)
+abbrev pub IsSerrOrIs : PortReg → Type 0
+IsSerrOrIs r = (r ≡ Serr) ⊎ (r ≡ Is)
 
 -- these and PxSCTL
 abbrev pub IsResetRegister : PortReg → Type 0
-IsResetRegister r = (r ≡ Sctl) ⊎ IsErrorRegister r
+IsResetRegister r = (r ≡ Sctl) ⊎ IsSerrOrIs r
 
 -- ---- the states of a port
 
@@ -46,33 +46,40 @@ IsResetRegister r = (r ≡ Sctl) ⊎ IsErrorRegister r
 pub record IsOnAndAgrees (Fits : SlotStates → Type 0) (port : Port) (d : Device) : Type 0 where
   pub adapter_is_on : IsOn d
   pub has_port : HasPort d port.0
-  pub machine_is_related : RelatesWith Fits d
+  pub machine_is_related : SomeMachineAgreesWith Fits d
 
 -- where the port has its command list and its received FIS area
-abbrev pub programmed : ℕ → Bases
-programmed port =
-    record { clb = list_of port; fb = received_of port; clb_set = true; clbu_set = true; fb_set = true; fbu_set = true }
+abbrev pub programmed_bases : ℕ → Bases
+programmed_bases port =
+    record {
+      clb = command_list_address port;
+      fb = received_fis_address port;
+      clb_set = true;
+      clbu_set = true;
+      fb_set = true;
+      fbu_set = true;
+    }
 
 -- ST and CR are 0, and no command is issued, active or taken.
 pub record IsStopped (p : DevicePort) : Type 0 where
-  pub halted : IsEngineStopped p
-  pub sact : (slot : ℕ) → p.sact slot ≡ false
+  pub engine_is_stopped : IsEngineStopped p
+  pub sact_is_clear : (slot : ℕ) → p.sact slot ≡ false
 
 -- Stopped, and FISes are received, with command list and received FIS area in their places.
-pub record ReceivesFises (port : ℕ) (p : DevicePort) : Type 0 where
+pub record IsStoppedReceiving (port : ℕ) (p : DevicePort) : Type 0 where
   pub stopped : IsStopped p
-  pub fre : p.fre ≡ true
-  pub bases : p.bases ≡ programmed port
+  pub fre_is_set : p.fre ≡ true
+  pub areas_are_in_place : p.bases ≡ programmed_bases port
 
 -- It runs and receives FISes, with list and area in their places, and no command is issued, active or taken.
-pub record IsRunning (port : ℕ) (p : DevicePort) : Type 0 where
-  pub st : p.st ≡ true
-  pub cr : p.cr ≡ true
-  pub fre : p.fre ≡ true
-  pub bases : p.bases ≡ programmed port
-  pub ci : (slot : ℕ) → p.ci slot ≡ false
-  pub sact : (slot : ℕ) → p.sact slot ≡ false
-  pub taken : (slot : ℕ) → p.taken slot ≡ None
+pub record RunsWithoutCommands (port : ℕ) (p : DevicePort) : Type 0 where
+  pub st_is_set : p.st ≡ true
+  pub cr_is_set : p.cr ≡ true
+  pub fre_is_set : p.fre ≡ true
+  pub areas_are_in_place : p.bases ≡ programmed_bases port
+  pub ci_is_clear : (slot : ℕ) → p.ci slot ≡ false
+  pub sact_is_clear : (slot : ℕ) → p.sact slot ≡ false
+  pub none_is_taken : (slot : ℕ) → p.taken slot ≡ None
 
 -- ---- what readings show
 
@@ -86,7 +93,7 @@ ShowsIdle v = bit v 7 || bit v 3 ≡ false
 
 -- a device with a link, since SCTL was written
 abbrev pub SawDevice : Notes → Type 0
-SawDevice n = (n.last_ssts % 16 ≡ 3) × (n.link_count ≡ MOST_READINGS)
+SawDevice n = (n.last_ssts % 16 ≡ 3) × (n.link_wait_count ≡ MOST_READINGS)
 
 -- neither BSY nor DRQ
 abbrev pub SawIdle : Notes → Type 0
@@ -95,7 +102,7 @@ SawIdle n = ShowsIdle n.last_tfd
 -- What stands behind a fault: the count of the awaited readings is 64; or the signature was another than an ATA
 -- disk's.
 abbrev pub BacksFault : PortFault → Notes → Type 0
-BacksFault NoDevice n = (n.last_ssts % 16 ≢ 3) × (n.link_count ≡ MOST_READINGS)
+BacksFault NoDevice n = (n.last_ssts % 16 ≢ 3) × (n.link_wait_count ≡ MOST_READINGS)
 BacksFault Busy n = SawDevice n × (n.busy_count ≡ MOST_READINGS)
 BacksFault EngineStuck n = n.engine_count ≡ MOST_READINGS
 BacksFault (NotAta signature) n = SawDevice n × ShowsIdle n.last_tfd × (n.last_sig ≡ signature) × (signature ≢ 0x101)
@@ -121,14 +128,14 @@ SameButStart old new =
     })
 
 -- ST is 0 with no command issued or active; all else of the driver's is as it was.
-pub record HasStCleared (old new : DevicePort) : Type 0 where
-  pub st : new.st ≡ false
-  pub ci : (slot : ℕ) → new.ci slot ≡ false
-  pub sact : (slot : ℕ) → new.sact slot ≡ false
-  pub fre : new.fre ≡ old.fre
-  pub bases : new.bases ≡ old.bases
-  pub sctl_det : new.sctl_det ≡ old.sctl_det
-  pub notes : SameButCmdNotes old.notes new.notes
+pub record ClearsStAlone (old new : DevicePort) : Type 0 where
+  pub st_is_clear : new.st ≡ false
+  pub ci_is_clear : (slot : ℕ) → new.ci slot ≡ false
+  pub sact_is_clear : (slot : ℕ) → new.sact slot ≡ false
+  pub fre_is_kept : new.fre ≡ old.fre
+  pub bases_are_kept : new.bases ≡ old.bases
+  pub sctl_det_is_kept : new.sctl_det ≡ old.sctl_det
+  pub other_notes_are_kept : SameButCmdNotes old.notes new.notes
 
 -- it reads this register of the port, whose value doesn't show this
 abbrev pub IsVainReading : Port → PortReg → (ℕ → Type 0) → Access → Type 0
@@ -153,22 +160,22 @@ pub record ReadsUntil (port : Port) (r : PortReg) (Shown : ℕ → Type 0) (old 
 -- Each bit of PxSERR was cleared, and then each of PxIS (AHCI 1.3.1, 3.3.5 and 3.3.12).
 pub record ClearsErrors (port : Port) (old new : Device) : Type 0 where
   pub between : Device
-  pub errors : Writes (Px port Serr) 0xffffffff old between
-  pub causes : Writes (Px port Is) 0xffffffff between new
+  pub clears_serr : Writes (Px port Serr) 0xffffffff old between
+  pub clears_is : Writes (Px port Is) 0xffffffff between new
 
 -- PxSSTS was read until it showed a device with a link, and the errors were cleared that it told by then (AHCI 1.3.1,
 -- 10.1.2 and 10.4.2).
-pub record FindsLink (port : Port) (old new : Device) : Type 0 where
-  pub seen : Device
-  pub sees : ReadsUntil port Ssts HasLink old seen
-  pub clears : ClearsErrors port seen new
+pub record FindsLinkAndClearsErrors (port : Port) (old new : Device) : Type 0 where
+  pub after_link_is_seen : Device
+  pub reads_until_link : ReadsUntil port Ssts HasLink old after_link_is_seen
+  pub clears : ClearsErrors port after_link_is_seen new
 
 -- After that PxTFD was read until it showed neither BSY nor DRQ, and PxSIG showed this signature. (It shows DRQ from
 -- COMRESET until the link comes up, so no link is due then, whatever disks go and come.) A bit that is clear and is
 -- cleared again leaves no trace, so it isn't told.
 pub record FindsSignature (port : Port) (signature : ℕ) (old new : Device) : Type 0 where
   pub linked : Device
-  pub links : FindsLink port old linked
+  pub finds_link : FindsLinkAndClearsErrors port old linked
   pub idle : Device
   pub waits : ReadsUntil port Tfd ShowsIdle linked idle
   pub reads : Reads (Px port Sig) signature idle new
@@ -176,7 +183,7 @@ pub record FindsSignature (port : Port) (signature : ℕ) (old new : Device) : T
 -- Or 64 readings of PxTFD showed BSY or DRQ.
 pub record FindsBusy (port : Port) (old new : Device) : Type 0 where
   pub linked : Device
-  pub links : FindsLink port old linked
+  pub finds_link : FindsLinkAndClearsErrors port old linked
   pub waits : ReadsInVain port Tfd ShowsIdle MOST_READINGS linked new
 
 -- What was done after COMRESET, where a fault is told: without a device, 64 readings of PxSSTS never showed one.
@@ -199,27 +206,27 @@ pub record SendsComresetThen (port : Port) (Then : Device → Device → Type 0)
 
 -- PxSERR shows N only where a disk of the port went or came since, and X only where one came: nothing is left of what
 -- was before (AHCI 1.3.1, 3.3.12).
-pub record HasClearErrors (port : ℕ) (old new : Device) : Type 0 where
-  pub serr_n : NoPlugEvents port old new → (new.port port).serr_n ≡ false
-  pub serr_x : NoDiskComes port old new → (new.port port).serr_x ≡ false
+pub record SerrShowsOnlyNewPlugs (port : ℕ) (old new : Device) : Type 0 where
+  pub serr_n_is_clear : NoPlugEvents port old new → (new.port port).serr_n ≡ false
+  pub serr_x_is_clear : NoDiskComes port old new → (new.port port).serr_x ≡ false
 
 -- A device was seen since COMRESET, and PxSERR and PxIS were cleared. Where no disk came, the link isn't due to come up
 -- any more; where none went either, it is up, with the disk's first FIS received. And whatever went or came: once PxTFD
 -- is read without DRQ, which it shows from COMRESET until the link comes up, the link isn't due, so that ST may be set.
 pub record IsDeviceFound (port : ℕ) (old new : Device) : Type 0 where
   pub no_cause_is_set : (place : ℕ) → place < 32 → (new.port port).is place ≡ false
-  pub errors_are_clear : HasClearErrors port old new
+  pub errors_are_clear : SerrShowsOnlyNewPlugs port old new
   pub no_link_is_due : NoDiskComes port old new → (new.port port).link_due ≡ false
-  pub link_is_up : NoPlugEvents port old new → IsUp (new.port port)
+  pub link_is_up : NoPlugEvents port old new → IsUpForStart (new.port port)
   pub is_clean_to_start : bit (new.port port).notes.last_tfd 3 ≡ false → IsCleanToStart (new.port port)
 
 -- So it is where the link was coming up before, and was awaited.
 pub record FindsAwaitedLink (port : ℕ) (old new : Device) : Type 0 where
   pub no_cause_is_set : (place : ℕ) → place < 32 → (new.port port).is place ≡ false
-  pub errors_are_clear : IsComingUp (old.port port) → HasClearErrors port old new
+  pub errors_are_clear : IsComingUp (old.port port) → SerrShowsOnlyNewPlugs port old new
   pub no_link_is_due : NoDiskComes port old new → IsComingUp (old.port port) → (new.port port).link_due ≡ false
-  pub link_is_up : NoPlugEvents port old new → IsComingUp (old.port port) → IsUp (new.port port)
-  pub is_clean_to_start : ShowsDrqTillLink (old.port port) → bit (new.port port).notes.last_tfd 3 ≡ false
+  pub link_is_up : NoPlugEvents port old new → IsComingUp (old.port port) → IsUpForStart (new.port port)
+  pub is_clean_to_start : StoppedWithDrqTillLink (old.port port) → bit (new.port port).notes.last_tfd 3 ≡ false
       → IsCleanToStart (new.port port)
 
 -- Each bit of PxSERR and PxIS was cleared, and PxTFD was read with this value. The port receives FISes still; nothing
@@ -228,40 +235,43 @@ pub record ClearsErrorState (port : Port) (shown : ℕ) (old new : Device) : Typ
   pub cleared : Device
   pub clears : ClearsErrors port old cleared
   pub reads : Reads (Px port Tfd) shown cleared new
-  pub receives : ReceivesFises port.0 (new.port port.0)
+  pub receives : IsStoppedReceiving port.0 (new.port port.0)
   pub last_tfd_is : (new.port port.0).notes.last_tfd ≡ shown
   pub last_ssts_is_kept : (new.port port.0).notes.last_ssts ≡ (old.port port.0).notes.last_ssts
-  pub link_count_is_kept : (new.port port.0).notes.link_count ≡ (old.port port.0).notes.link_count
+  pub link_count_is_kept : (new.port port.0).notes.link_wait_count ≡ (old.port port.0).notes.link_wait_count
   pub no_cause_is_set : (place : ℕ) → place < 32 → (new.port port.0).is place ≡ false
-  pub errors_are_clear : HasClearErrors port.0 old new
+  pub errors_are_clear : SerrShowsOnlyNewPlugs port.0 old new
   pub is_clean_to_start : IsCleanToStart (new.port port.0)
 
 -- the signature that was read last is the one that the port shows
-abbrev pub ShowsSignature : DevicePort → Type 0
-ShowsSignature p = p.notes.last_sig ≡ p.sig
+abbrev pub LastSignatureIsShown : DevicePort → Type 0
+LastSignatureIsShown p = p.notes.last_sig ≡ p.sig
 
 -- ---- what the calls do that await an engine
 
 -- The port was stopped: CR fell, as was read after ST was cleared.
 pub record PortStops (port : Port) (old new : Device) : Type 0 where
-  pub is_simulated : IsSimulatedAlong (Stops port) (IsPortAccessWriting IsCommandRegister port) AnyUse old new
+  pub is_simulated : IsSimulatedAlong (Stops port) (ReadsPortOrWrites IsCommandRegister port) AnySlotStates old new
   pub stopped : IsStopped (new.port port.0)
 
 -- The port was to stop, and CR didn't fall in 64 readings, the last of the accesses.
 pub record FailsToStopPort (port : Port) (old new : Device) : Type 0 where
-  pub is_simulated : IsSimulatedAlong (FailsToStop port) (IsPortAccessWriting IsCommandRegister port) AnyUse old new
+  pub is_simulated : IsSimulatedAlong (FailsToStop port) (ReadsPortOrWrites IsCommandRegister port) AnySlotStates old
+      new
   pub stuck_is_backed : BacksFault EngineStuck (new.port port.0).notes
 
 -- A stopped port receives FISes, with its areas in their places: FR fell, as was read after FRE was cleared.
 pub record BeginsReceiving (port : Port) (old new : Device) : Type 0 where
-  pub is_simulated : IsSimulatedAlong (StopsReceiving port) (IsPortAccessWriting IsPlacingRegister port) AnyUse old new
-  pub receives : ReceivesFises port.0 (new.port port.0)
+  pub is_simulated : IsSimulatedAlong (StopsReceiving port) (ReadsPortOrWrites IsPlacingRegister port) AnySlotStates old
+      new
+  pub receives : IsStoppedReceiving port.0 (new.port port.0)
 
 -- A stopped port was to receive FISes, and FR didn't fall in 64 readings, the last of the accesses. FRE is 0, and the
 -- addresses are as they were.
 pub record FailsToReceive (port : Port) (old new : Device) : Type 0 where
-  pub is_simulated : IsSimulatedAlong (FailsToStopReceiving port) (IsPortAccessWriting IsPlacingRegister port) AnyUse
+  pub is_simulated : IsSimulatedAlong (FailsToStopReceiving port) (ReadsPortOrWrites IsPlacingRegister port)
+      AnySlotStates
       old new
   pub stuck_is_backed : BacksFault EngineStuck (new.port port.0).notes
-  pub fre : (new.port port.0).fre ≡ false
-  pub bases : (new.port port.0).bases ≡ (old.port port.0).bases
+  pub fre_is_clear : (new.port port.0).fre ≡ false
+  pub bases_are_kept : (new.port port.0).bases ≡ (old.port port.0).bases

@@ -1,18 +1,15 @@
 //! Looks at a port: what its interrupts and its link tell (AHCI 1.3.1, 5.5.3 and 6.2).
 //!
 //! `take_event` is for ready ports, and acknowledges what it has read. `has_device` and
-//! `has_changed` are for others, and write nothing. No call asks for a machine, and none hides
+//! `has_device_changed` are for others, and write nothing. No call asks for a machine, and none hides
 //! trouble that it hasn't read. Here stand, too, the words and laws on accesses that serve ports
 //! (`IsServiceAccess`, `law_services_keep_ports_running`): they let these write PxCI, since it is between issues that
 //! ports are looked at.
 ghost use Rattle.std.specs.Prelude.{◌≡◌, ◌||◌, ◌==◌, ◌%◌, not};
-ghost use Rattle.adapter.specs.Rules.{IsOn, HasPort};
-ghost use Rattle.refinement.specs.Fragments.{AnyUse, IsSimulated};
+ghost use Rattle.adapter.specs.{Rules.{IsOn, HasPort}, AccessBounds.{MakesAtMost}};
+ghost use Rattle.refinement.specs.Fragments.{AnySlotStates, IsSimulated};
 ghost use Rattle.hba_regs.specs.Bits.{bit};
-ghost use Rattle.port_control.specs.DeviceChecks.{FindsChange, FindsDevice};
-ghost use Rattle.port_control.specs.PortEvents.{port_event_of, IsEventAccess, TakesEvent};
-ghost use Rattle.adapter.specs.AccessBounds.{MakesAtMost};
-ghost use Rattle.port_control.specs.EventCosts.{CHANGE_CHECK_ACCESSES, TAKE_EVENT_ACCESSES};
+ghost use Rattle.port_control.specs.{DeviceChecks.{ChecksForChange, ChecksForDevice}, PortEvents.{port_event_of, IsEventAccess, TakesEvent}, EventCosts.{CHANGE_CHECK_ACCESSES, TAKE_EVENT_ACCESSES}};
 
 use adapter::Adapter;
 use ata_types::Port;
@@ -59,7 +56,7 @@ fn shows_linked_device(status: SataStatus) -> bool
 fn tells_change(interrupts: PortInterrupts, status: SataStatus) -> bool
     ensures { result ≡ (bit interrupts.0 6 || bit interrupts.0 22 || not (status.0 % 16 == 3)) }
 {
-    let changed = interrupts.has_port_change() || interrupts.has_phy_ready_change();
+    let changed = interrupts.has_port_connect_change() || interrupts.has_phy_ready_change();
     changed || !shows_linked_device(status)
 }
 
@@ -83,11 +80,11 @@ fn told(interrupts: PortInterrupts, status: SataStatus) -> PortEvent
 /// Reads and clears a port's interrupts, and looks at its link: whether its device went or came, and whether something
 /// failed (AHCI 1.3.1, 5.5.3 and 6.2).
 pub fn take_event<A: Adapter>(adapter: &mut A, port: Port) -> PortEvent
-    requires on { IsOn (A.device adapter.old) }
-    requires there { HasPort (A.device adapter.old) port.0 }
-    ensures on { IsOn (A.device adapter.new) }
+    requires adapter_is_on { IsOn (A.device adapter.old) }
+    requires has_port { HasPort (A.device adapter.old) port.0 }
+    ensures adapter_is_on { IsOn (A.device adapter.new) }
     ensures looks { TakesEvent port result (A.device adapter.old) (A.device adapter.new) }
-    ensures followed { IsSimulated (IsEventAccess port) AnyUse (A.device adapter.old) (A.device adapter.new) }
+    ensures followed { IsSimulated (IsEventAccess port) AnySlotStates (A.device adapter.old) (A.device adapter.new) }
     ensures cost { MakesAtMost TAKE_EVENT_ACCESSES (A.access_count adapter.old) (A.access_count adapter.new) }
 {
     law_prerequisites();
@@ -101,11 +98,11 @@ pub fn take_event<A: Adapter>(adapter: &mut A, port: Port) -> PortEvent
 /// Looks at a port for a device, where there was none: whether one with a link shows (DET of PxSSTS is 3; AHCI 1.3.1,
 /// 3.3.10). PxSSTS is read, and that is all.
 pub fn has_device<A: Adapter>(adapter: &mut A, port: Port) -> bool
-    requires on { IsOn (A.device adapter.old) }
-    requires there { HasPort (A.device adapter.old) port.0 }
-    ensures on { IsOn (A.device adapter.new) }
-    ensures finds { FindsDevice port result (A.device adapter.old) (A.device adapter.new) }
-    ensures followed { IsSimulated (IsEventAccess port) AnyUse (A.device adapter.old) (A.device adapter.new) }
+    requires adapter_is_on { IsOn (A.device adapter.old) }
+    requires has_port { HasPort (A.device adapter.old) port.0 }
+    ensures adapter_is_on { IsOn (A.device adapter.new) }
+    ensures finds { ChecksForDevice port result (A.device adapter.old) (A.device adapter.new) }
+    ensures followed { IsSimulated (IsEventAccess port) AnySlotStates (A.device adapter.old) (A.device adapter.new) }
     ensures cost { MakesAtMost 1 (A.access_count adapter.old) (A.access_count adapter.new) }
 {
     law_prerequisites();
@@ -116,12 +113,12 @@ pub fn has_device<A: Adapter>(adapter: &mut A, port: Port) -> bool
 /// Looks at a port for a change of its device: whether it went, or its link came up, since PxSERR was last cleared
 /// (PRCS and PCS of PxIS show N and X of PxSERR), or isn't there (DET of PxSSTS isn't 3; AHCI 1.3.1, 3.3.5, 3.3.10 and
 /// 3.3.12). PxIS is read, and then PxSSTS; neither is written, so that a change is told until the port is booted.
-pub fn has_changed<A: Adapter>(adapter: &mut A, port: Port) -> bool
-    requires on { IsOn (A.device adapter.old) }
-    requires there { HasPort (A.device adapter.old) port.0 }
-    ensures on { IsOn (A.device adapter.new) }
-    ensures finds { FindsChange port result (A.device adapter.old) (A.device adapter.new) }
-    ensures followed { IsSimulated (IsEventAccess port) AnyUse (A.device adapter.old) (A.device adapter.new) }
+pub fn has_device_changed<A: Adapter>(adapter: &mut A, port: Port) -> bool
+    requires adapter_is_on { IsOn (A.device adapter.old) }
+    requires has_port { HasPort (A.device adapter.old) port.0 }
+    ensures adapter_is_on { IsOn (A.device adapter.new) }
+    ensures finds { ChecksForChange port result (A.device adapter.old) (A.device adapter.new) }
+    ensures followed { IsSimulated (IsEventAccess port) AnySlotStates (A.device adapter.old) (A.device adapter.new) }
     ensures cost { MakesAtMost CHANGE_CHECK_ACCESSES (A.access_count adapter.old) (A.access_count adapter.new) }
 {
     law_prerequisites();

@@ -2,41 +2,39 @@
 ghost use Rattle.std.specs.Prelude.{ℕ, ◌++◌, List};
 ghost use Rattle.ata_types.specs.declared.Port.{Port};
 ghost use Rattle.adapter.specs.Access.{Access};
-ghost use Rattle.refinement.specs.Fragments.{IsPortAccessWriting, SparesOtherPorts};
-ghost use Rattle.refinement.specs.Links.{DoesNotWrite};
-ghost use Rattle.hba_regs.specs.declared.reg.PortReg.TheVariants.{Sctl};
-ghost use Rattle.hba_regs.specs.declared.reg.Reg.TheVariants.{Px};
-ghost use Rattle.port_control.specs.Engines.{FailsToStop, FailsToStopReceiving, EngineFalls, EngineSticks};
-ghost use Rattle.port_control.specs.Ports.{IsPlacingRegister, IsResetRegister, IsCommandRegister};
+ghost use Rattle.refinement.specs.{Fragments.{ReadsPortOrWrites, SparesOtherPorts}, PreservedParts.{DoesNotWrite}};
+ghost use Rattle.hba_regs.specs.{declared.reg.PortReg.TheVariants.{Sctl}, declared.reg.Reg.TheVariants.{Px}};
+ghost use Rattle.port_control.specs.{Engines.{FailsToStop, FailsToStopReceiving, EngineFalls, EngineSticks}, Ports.{IsPlacingRegister, IsResetRegister, IsCommandRegister}};
 
 use super::prerequisites::law_prerequisites;
 
 /// What accesses tell of a port's engines, they tell with others after them, and with others before them. Those of a
 /// call that failed to stop one show that it is stuck.
 pub fn law_what_is_told_of_engines_stays()
-    ensures fails { (port : Port) (accesses : List Access) → FailsToStop port accesses → EngineSticks port accesses }
-    ensures fails_receiving { (port : Port) (accesses : List Access) → FailsToStopReceiving port accesses
+    ensures failing_sticks { (port : Port) (accesses : List Access) → FailsToStop port accesses
         → EngineSticks port accesses }
-    ensures falls_then { (early late : List Access) (start running : ℕ) (port : Port)
+    ensures failing_receiving_sticks { (port : Port) (accesses : List Access) → FailsToStopReceiving port accesses
+        → EngineSticks port accesses }
+    ensures falls_with_later_accesses { (early late : List Access) (start running : ℕ) (port : Port)
         → EngineFalls start running port early
         → EngineFalls start running port (early ++ late) }
-    ensures falls_since { (early late : List Access) (start running : ℕ) (port : Port)
+    ensures falls_with_earlier_accesses { (early late : List Access) (start running : ℕ) (port : Port)
         → EngineFalls start running port late
         → EngineFalls start running port (early ++ late) }
-    ensures sticks_then { (early late : List Access) (port : Port) → EngineSticks port early
+    ensures sticks_with_later_accesses { (early late : List Access) (port : Port) → EngineSticks port early
         → EngineSticks port (early ++ late) }
-    ensures sticks_since { (early late : List Access) (port : Port) → EngineSticks port late
+    ensures sticks_with_earlier_accesses { (early late : List Access) (port : Port) → EngineSticks port late
         → EngineSticks port (early ++ late) }
 {}
 
 /// No call touches a register of another port, nor another port's bit of IS: so what is said of such accesses
 /// (`SparesOtherPorts`) is so of each. Those that stop and start, and those that receive FISes, don't write PxSCTL.
 pub fn law_calls_are_of_one_port()
-    ensures commanding { (port : Port) (access : Access) → IsPortAccessWriting IsCommandRegister port access
+    ensures commanding { (port : Port) (access : Access) → ReadsPortOrWrites IsCommandRegister port access
         → SparesOtherPorts port access × DoesNotWrite (Px port Sctl) access }
-    ensures placing { (port : Port) (access : Access) → IsPortAccessWriting IsPlacingRegister port access
+    ensures placing { (port : Port) (access : Access) → ReadsPortOrWrites IsPlacingRegister port access
         → SparesOtherPorts port access × DoesNotWrite (Px port Sctl) access }
-    ensures resetting { (port : Port) (access : Access) → IsPortAccessWriting IsResetRegister port access
+    ensures resetting { (port : Port) (access : Access) → ReadsPortOrWrites IsResetRegister port access
         → SparesOtherPorts port access }
 {
     law_prerequisites();

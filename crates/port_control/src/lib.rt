@@ -1,7 +1,7 @@
 //! Looks at a port, stops its engine, has it receive FISes, sends COMRESET, and starts it.
 //!
 //! (AHCI 1.3.1, 10.1.2, 10.3 and 10.4.2.) Each call is of one port, and leaves the others to the
-//! device (`law_other_ports_are_left` of `refinement`). `Stopped`, `Receiving` and `Running` are
+//! device (`law_other_ports_are_untouched` of `refinement`). `Stopped`, `Receiving` and `Running` are
 //! tokens of a port's state. Each call tells what its very accesses showed: so a wait that is given
 //! up had 64 readings. `start` doesn't fail. `events` looks at a port, between its commands, and
 //! has what is wrong with one. The crate knows no client, and no command's contents.
@@ -9,19 +9,14 @@
 
 ghost use Rattle.std.specs.Prelude.{ℕ, ◌≡◌, ◌≢◌, ◌<◌, ◌≤◌, ◌||◌, true, false, IfOk, IfErr, OnOk};
 ghost use Rattle.hba_regs.specs.Bits.{bit};
-ghost use Rattle.adapter.specs.Rules.{IsOn};
-ghost use Rattle.refinement.specs.Fragments.{AnyUse, IsPortAccessWriting, IsSimulated, IsSimulatedAlong};
-ghost use Rattle.refinement.specs.Driver.{AllFree};
-ghost use Rattle.refinement.specs.PortFacts.{IsQuiescentPort};
-ghost use Rattle.port_control.specs.Calls.{AsksForDevice, FindsDisk, FindsFault, MayBeginReceiving, MayBeStarted, MayClearErrorState, MayResetLink, StaysReceiving, Starts, StaysStopped};
-ghost use Rattle.port_control.specs.Engines.{FailsToStopReceiving, StopsReceiving};
-ghost use Rattle.port_control.specs.CallParts.{AwaitsIdle, ClearsFre, DeviceComes, LeavesNoError, MissesDevice, PlacesAreas, FindsDiskAfterReset, FindsFaultAfterReset, SendsComreset};
-ghost use Rattle.port_control.specs.Ports.{FailsToStopPort, FailsToReceive, PortStops, BeginsReceiving, IsCommandRegister, IsPlacingRegister, IsErrorRegister, IsResetRegister, IsOnAndAgrees, IsStopped, ReceivesFises, SawDevice, BacksFault, SameSctlAndNotes, HasStCleared, ClearsErrorState, programmed};
-ghost use Rattle.adapter.specs.AccessBounds.{MakesAtMost};
+ghost use Rattle.adapter.specs.{Rules.{IsOn}, AccessBounds.{MakesAtMost}};
+ghost use Rattle.refinement.specs.{Fragments.{AnySlotStates, ReadsPortOrWrites, IsSimulated, IsSimulatedAlong}, Driver.{AllFree}, PortFacts.{IsQuiescentPort}};
+ghost use Rattle.port_control.specs.{Calls.{AsksForDevice, ResetsAndFindsDisk, ResetsAndFindsFault, MayBeginReceiving, MayBeStarted, MayClearErrorState, MayResetLink, StaysReceiving, Starts, StaysStopped}, Engines.{FailsToStopReceiving, StopsReceiving}, CallParts.{AwaitsIdle, ClearsFre, FindsAwaitedDevice, LeavesNoError, MissesDevice, PlacesAreas, FindsDiskAfterReset, FindsFaultAfterReset, SendsComreset}};
+ghost use Rattle.port_control.specs.Ports.{FailsToStopPort, FailsToReceive, PortStops, BeginsReceiving, IsCommandRegister, IsPlacingRegister, IsSerrOrIs, IsResetRegister, IsOnAndAgrees, IsStopped, IsStoppedReceiving, SawDevice, BacksFault, SameSctlAndNotes, ClearsStAlone, ClearsErrorState, programmed_bases};
 ghost use Rattle.port_control.specs.Costs.{AWAIT_DEVICE_ACCESSES, CLEAR_ACCESSES, COMRESET_ACCESSES, ERROR_STATE_ACCESSES, RECEIVE_ACCESSES, DETECT_ACCESSES, START_ACCESSES, STOP_ACCESSES};
 
 use adapter::Adapter;
-use ata_types::{DRIVER_BYTES, MOST_READINGS, PORT_BYTES, Port, RECEIVED_FIS_OFFSET};
+use ata_types::{DRIVER_BYTES, DRIVER_BYTES_PER_PORT, MOST_READINGS, Port, RECEIVED_FIS_OFFSET};
 use hba_regs::{ATA_SIGNATURE, PortCommand, PortReg, Reg, SataControl, SataStatus, TaskFile};
 use prerequisites::law_prerequisites;
 
@@ -102,11 +97,11 @@ pub fn is_bsy_or_drq(task_file: TaskFile) -> bool
 ///
 /// `EngineStuck` where 64 readings find CR set: ST is 0 then, too.
 pub fn stop<A: Adapter>(adapter: &mut A, port: Port) -> Result<Stopped, PortFault>
-    requires usable { IsOnAndAgrees AnyUse port (A.device adapter.old) }
-    ensures on { IsOn (A.device adapter.new) }
-    ensures has { HasStCleared ((A.device adapter.old).port port.0) ((A.device adapter.new).port port.0) }
-    ensures names { IfOk result (λ token. token.port ≡ port) }
-    ensures halts { OnOk result (PortStops port (A.device adapter.old) (A.device adapter.new)) }
+    requires on_and_agrees { IsOnAndAgrees AnySlotStates port (A.device adapter.old) }
+    ensures adapter_is_on { IsOn (A.device adapter.new) }
+    ensures st_is_cleared { ClearsStAlone ((A.device adapter.old).port port.0) ((A.device adapter.new).port port.0) }
+    ensures token_is_of_port { IfOk result (λ token. token.port ≡ port) }
+    ensures stops { OnOk result (PortStops port (A.device adapter.old) (A.device adapter.new)) }
     ensures fails { IfErr result (λ fault. (fault ≡ PortFault.EngineStuck) × FailsToStopPort port (A.device adapter.old)
         (A.device adapter.new)) }
     ensures cost { MakesAtMost STOP_ACCESSES (A.access_count adapter.old) (A.access_count adapter.new) }
@@ -125,15 +120,15 @@ pub fn stop<A: Adapter>(adapter: &mut A, port: Port) -> Result<Stopped, PortFaul
 
 // Clears FRE, and waits until FR is 0 (AHCI 1.3.1, 10.3.2).
 fn stop_receiving<A: Adapter>(adapter: &mut A, port: Port) -> bool
-    requires usable { IsOnAndAgrees AnyUse port (A.device adapter.old) }
+    requires usable { IsOnAndAgrees AnySlotStates port (A.device adapter.old) }
     requires stopped { IsStopped ((A.device adapter.old).port port.0) }
     ensures clears { ClearsFre ((A.device adapter.old).port port.0) ((A.device adapter.new).port port.0) }
-    ensures stops { result ≡ true → IsSimulatedAlong (StopsReceiving port) (IsPortAccessWriting IsCommandRegister port)
-        AnyUse
+    ensures stops { result ≡ true → IsSimulatedAlong (StopsReceiving port) (ReadsPortOrWrites IsCommandRegister port)
+        AnySlotStates
         (A.device adapter.old) (A.device adapter.new) }
     ensures fallen { result ≡ true → ((A.device adapter.new).port port.0).fr ≡ false }
     ensures sticks { result ≡ false
-        → IsSimulatedAlong (FailsToStopReceiving port) (IsPortAccessWriting IsCommandRegister port) AnyUse
+        → IsSimulatedAlong (FailsToStopReceiving port) (ReadsPortOrWrites IsCommandRegister port) AnySlotStates
         (A.device adapter.old) (A.device adapter.new)
         × BacksFault PortFault.EngineStuck ((A.device adapter.new).port port.0).notes }
     ensures cost { MakesAtMost STOP_ACCESSES (A.access_count adapter.old) (A.access_count adapter.new) }
@@ -152,16 +147,16 @@ fn stop_receiving<A: Adapter>(adapter: &mut A, port: Port) -> bool
 
 // Puts the command list and the received FIS area in their places, below 4 GiB (AHCI 1.3.1, 3.3.1 to 3.3.4).
 fn place<A: Adapter>(adapter: &mut A, port: Port)
-    requires usable { IsOnAndAgrees AnyUse port (A.device adapter.old) }
+    requires usable { IsOnAndAgrees AnySlotStates port (A.device adapter.old) }
     requires quiet { IsQuiescentPort ((A.device adapter.old).port port.0) }
-    requires room { DRIVER_BYTES ≤ (A.device adapter.old).size }
-    ensures followed { IsSimulated (IsPortAccessWriting IsPlacingRegister port) AnyUse (A.device adapter.old)
+    requires room { DRIVER_BYTES ≤ (A.device adapter.old).memory_size }
+    ensures followed { IsSimulated (ReadsPortOrWrites IsPlacingRegister port) AnySlotStates (A.device adapter.old)
         (A.device adapter.new) }
     ensures places { PlacesAreas port.0 ((A.device adapter.old).port port.0) ((A.device adapter.new).port port.0) }
     ensures cost { MakesAtMost 4 (A.access_count adapter.old) (A.access_count adapter.new) }
 {
     law_prerequisites();
-    let list = PORT_BYTES * u32::from(port.0);
+    let list = DRIVER_BYTES_PER_PORT * u32::from(port.0);
     adapter.write(Reg::Px(port, PortReg::Clb), list);
     adapter.write(Reg::Px(port, PortReg::Clbu), 0);
     adapter.write(Reg::Px(port, PortReg::Fb), list + RECEIVED_FIS_OFFSET);
@@ -170,12 +165,12 @@ fn place<A: Adapter>(adapter: &mut A, port: Port)
 
 // Sets FRE (AHCI 1.3.1, 10.3.2).
 fn start_receiving<A: Adapter>(adapter: &mut A, port: Port)
-    requires usable { IsOnAndAgrees AnyUse port (A.device adapter.old) }
+    requires usable { IsOnAndAgrees AnySlotStates port (A.device adapter.old) }
     requires quiet { IsQuiescentPort ((A.device adapter.old).port port.0) }
-    requires bases { ((A.device adapter.old).port port.0).bases ≡ programmed port.0 }
-    ensures followed { IsSimulated (IsPortAccessWriting IsCommandRegister port) AnyUse (A.device adapter.old)
+    requires bases { ((A.device adapter.old).port port.0).bases ≡ programmed_bases port.0 }
+    ensures followed { IsSimulated (ReadsPortOrWrites IsCommandRegister port) AnySlotStates (A.device adapter.old)
         (A.device adapter.new) }
-    ensures receives { ReceivesFises port.0 ((A.device adapter.new).port port.0) }
+    ensures receives { IsStoppedReceiving port.0 ((A.device adapter.new).port port.0) }
     ensures same { SameSctlAndNotes ((A.device adapter.old).port port.0) ((A.device adapter.new).port port.0) }
     ensures cost { MakesAtMost START_ACCESSES (A.access_count adapter.old) (A.access_count adapter.new) }
 {
@@ -184,9 +179,9 @@ fn start_receiving<A: Adapter>(adapter: &mut A, port: Port)
     adapter.write(Reg::Px(port, PortReg::Cmd), command.with_receive().0);
 }
 
-/// Has a stopped port receive FISes: clears FRE, waits until FR is 0, puts the command list at `PORT_BYTES` times the
-/// port's number and the received FIS area `RECEIVED_FIS_OFFSET` bytes after it, and sets FRE (AHCI 1.3.1, 10.1.2
-/// and 10.3.2). The other bits of PxCMD are written as they were read.
+/// Has a stopped port receive FISes: clears FRE, waits until FR is 0, puts the command list at `DRIVER_BYTES_PER_PORT`
+/// times the port's number and the received FIS area `RECEIVED_FIS_OFFSET` bytes after it, and sets FRE (AHCI 1.3.1,
+/// 10.1.2 and 10.3.2). The other bits of PxCMD are written as they were read.
 ///
 /// `EngineStuck` where 64 readings find FR set: FRE is 0 then, and the addresses are as they were.
 pub fn receive<A: Adapter>(
@@ -194,9 +189,9 @@ pub fn receive<A: Adapter>(
     stopped: Stopped,
 ) -> Result<Receiving, (PortFault, Stopped)>
     requires may { MayBeginReceiving stopped.port (A.device adapter.old) }
-    ensures on { IsOn (A.device adapter.new) }
-    ensures stays { StaysStopped stopped.port (A.device adapter.old) (A.device adapter.new) }
-    ensures names { IfOk result (λ token. token.port ≡ stopped.port) }
+    ensures adapter_is_on { IsOn (A.device adapter.new) }
+    ensures stays_stopped { StaysStopped stopped.port (A.device adapter.old) (A.device adapter.new) }
+    ensures token_is_of_port { IfOk result (λ token. token.port ≡ stopped.port) }
     ensures receives { OnOk result (BeginsReceiving stopped.port (A.device adapter.old) (A.device adapter.new)) }
     ensures fails { IfErr result (λ fault. (fault.0 ≡ PortFault.EngineStuck) × (fault.1 ≡ stopped)
         × FailsToReceive stopped.port (A.device adapter.old) (A.device adapter.new)) }
@@ -214,9 +209,9 @@ pub fn receive<A: Adapter>(
 
 // Sends COMRESET, and ends it (AHCI 1.3.1, 10.4.2).
 fn send_comreset<A: Adapter>(adapter: &mut A, port: Port)
-    requires usable { IsOnAndAgrees AnyUse port (A.device adapter.old) }
-    requires receives { ReceivesFises port.0 ((A.device adapter.old).port port.0) }
-    ensures followed { IsSimulated (IsPortAccessWriting IsResetRegister port) AnyUse (A.device adapter.old)
+    requires usable { IsOnAndAgrees AnySlotStates port (A.device adapter.old) }
+    requires receives { IsStoppedReceiving port.0 ((A.device adapter.old).port port.0) }
+    ensures followed { IsSimulated (ReadsPortOrWrites IsResetRegister port) AnySlotStates (A.device adapter.old)
         (A.device adapter.new) }
     ensures sends { SendsComreset port (A.device adapter.old) (A.device adapter.new) }
     ensures cost { MakesAtMost 2 (A.access_count adapter.old) (A.access_count adapter.new) }
@@ -228,11 +223,11 @@ fn send_comreset<A: Adapter>(adapter: &mut A, port: Port)
 
 // Waits until the port has a device with a link, for 64 readings at most.
 fn wait_for_device<A: Adapter>(adapter: &mut A, port: Port) -> bool
-    requires usable { IsOnAndAgrees AnyUse port (A.device adapter.old) }
+    requires usable { IsOnAndAgrees AnySlotStates port (A.device adapter.old) }
     requires det { ((A.device adapter.old).port port.0).sctl_det ≡ 0 }
-    ensures followed { IsSimulated (IsPortAccessWriting IsErrorRegister port) AnyUse (A.device adapter.old)
+    ensures followed { IsSimulated (ReadsPortOrWrites IsSerrOrIs port) AnySlotStates (A.device adapter.old)
         (A.device adapter.new) }
-    ensures finds { result ≡ true → DeviceComes port (A.device adapter.old) (A.device adapter.new) }
+    ensures finds { result ≡ true → FindsAwaitedDevice port (A.device adapter.old) (A.device adapter.new) }
     ensures misses { result ≡ false → MissesDevice port (A.device adapter.old) (A.device adapter.new) }
     ensures cost { MakesAtMost MOST_READINGS (A.access_count adapter.old) (A.access_count adapter.new) }
 {
@@ -248,9 +243,9 @@ fn wait_for_device<A: Adapter>(adapter: &mut A, port: Port) -> bool
 
 // Clears what the link and the port have told so far: PxSERR, and then PxIS.
 fn clear_errors<A: Adapter>(adapter: &mut A, port: Port)
-    requires usable { IsOnAndAgrees AnyUse port (A.device adapter.old) }
-    requires receives { ReceivesFises port.0 ((A.device adapter.old).port port.0) }
-    ensures followed { IsSimulated (IsPortAccessWriting IsErrorRegister port) AnyUse (A.device adapter.old)
+    requires usable { IsOnAndAgrees AnySlotStates port (A.device adapter.old) }
+    requires receives { IsStoppedReceiving port.0 ((A.device adapter.old).port port.0) }
+    ensures followed { IsSimulated (ReadsPortOrWrites IsSerrOrIs port) AnySlotStates (A.device adapter.old)
         (A.device adapter.new) }
     ensures saw { SawDevice ((A.device adapter.old).port port.0).notes → SawDevice
         ((A.device adapter.new).port port.0).notes }
@@ -267,9 +262,9 @@ fn clear_errors<A: Adapter>(adapter: &mut A, port: Port)
 /// due.
 pub fn clear_error_state<A: Adapter>(adapter: &mut A, port: Port) -> TaskFile
     requires may { MayClearErrorState port (A.device adapter.old) }
-    ensures followed { IsSimulated (IsPortAccessWriting IsErrorRegister port) AnyUse (A.device adapter.old)
+    ensures followed { IsSimulated (ReadsPortOrWrites IsSerrOrIs port) AnySlotStates (A.device adapter.old)
         (A.device adapter.new) }
-    ensures on { IsOn (A.device adapter.new) }
+    ensures adapter_is_on { IsOn (A.device adapter.new) }
     ensures forgets { ClearsErrorState port result.0 (A.device adapter.old) (A.device adapter.new) }
     ensures cost { MakesAtMost ERROR_STATE_ACCESSES (A.access_count adapter.old) (A.access_count adapter.new) }
 {
@@ -281,11 +276,11 @@ pub fn clear_error_state<A: Adapter>(adapter: &mut A, port: Port) -> TaskFile
 /// Whether a device with a link shows in a port, as where a device went or came: clears each bit of PxSERR, and reads
 /// PxSSTS (AHCI 1.3.1, 3.3.10 and 3.3.12). A stopped port stays stopped.
 pub fn clear_serr_and_detect<A: Adapter>(adapter: &mut A, port: Port) -> bool
-    requires usable { IsOnAndAgrees AnyUse port (A.device adapter.old) }
-    ensures on { IsOn (A.device adapter.new) }
-    ensures followed { IsSimulated (IsPortAccessWriting IsErrorRegister port) AnyUse (A.device adapter.old)
+    requires on_and_agrees { IsOnAndAgrees AnySlotStates port (A.device adapter.old) }
+    ensures adapter_is_on { IsOn (A.device adapter.new) }
+    ensures followed { IsSimulated (ReadsPortOrWrites IsSerrOrIs port) AnySlotStates (A.device adapter.old)
         (A.device adapter.new) }
-    ensures asks { AsksForDevice port result (A.device adapter.old) (A.device adapter.new) }
+    ensures detects { AsksForDevice port result (A.device adapter.old) (A.device adapter.new) }
     ensures cost { MakesAtMost DETECT_ACCESSES (A.access_count adapter.old) (A.access_count adapter.new) }
 {
     law_prerequisites();
@@ -296,10 +291,10 @@ pub fn clear_serr_and_detect<A: Adapter>(adapter: &mut A, port: Port) -> bool
 
 // Waits until the device is neither busy nor asks for a transfer, for 64 readings at most.
 fn wait_until_idle<A: Adapter>(adapter: &mut A, port: Port) -> bool
-    requires usable { IsOnAndAgrees AnyUse port (A.device adapter.old) }
+    requires usable { IsOnAndAgrees AnySlotStates port (A.device adapter.old) }
     requires det { ((A.device adapter.old).port port.0).sctl_det ≡ 0 }
     requires saw { SawDevice ((A.device adapter.old).port port.0).notes }
-    ensures followed { IsSimulated (IsPortAccessWriting IsErrorRegister port) AnyUse (A.device adapter.old)
+    ensures followed { IsSimulated (ReadsPortOrWrites IsSerrOrIs port) AnySlotStates (A.device adapter.old)
         (A.device adapter.new) }
     ensures awaits { AwaitsIdle port result (A.device adapter.old) (A.device adapter.new) }
     ensures cost { MakesAtMost MOST_READINGS (A.access_count adapter.old) (A.access_count adapter.new) }
@@ -316,10 +311,10 @@ fn wait_until_idle<A: Adapter>(adapter: &mut A, port: Port) -> bool
 
 // Looks for an ATA disk that is idle, once COMRESET was sent.
 fn look<A: Adapter>(adapter: &mut A, port: Port) -> Result<(), PortFault>
-    requires usable { IsOnAndAgrees AnyUse port (A.device adapter.old) }
-    requires receives { ReceivesFises port.0 ((A.device adapter.old).port port.0) }
+    requires usable { IsOnAndAgrees AnySlotStates port (A.device adapter.old) }
+    requires receives { IsStoppedReceiving port.0 ((A.device adapter.old).port port.0) }
     requires det { ((A.device adapter.old).port port.0).sctl_det ≡ 0 }
-    ensures followed { IsSimulated (IsPortAccessWriting IsErrorRegister port) AnyUse (A.device adapter.old)
+    ensures followed { IsSimulated (ReadsPortOrWrites IsSerrOrIs port) AnySlotStates (A.device adapter.old)
         (A.device adapter.new) }
     ensures sees { OnOk result (FindsDiskAfterReset port (A.device adapter.old) (A.device adapter.new)) }
     ensures fault { IfErr result (λ fault. FindsFaultAfterReset port fault (A.device adapter.old)
@@ -344,7 +339,7 @@ fn look<A: Adapter>(adapter: &mut A, port: Port) -> Result<(), PortFault>
 /// A stopped port that receives FISes still, with list and area in their places, as `stop` leaves one that did. No
 /// register is read or written.
 pub fn keep_receiving<A: Adapter>(_adapter: &A, stopped: Stopped) -> Receiving
-    requires { ReceivesFises stopped.port.0 ((A.device _adapter.now).port stopped.port.0) }
+    requires { IsStoppedReceiving stopped.port.0 ((A.device _adapter.now).port stopped.port.0) }
     ensures { result.port ≡ stopped.port }
 {
     Receiving { port: stopped.port }
@@ -362,14 +357,15 @@ pub fn comreset<A: Adapter>(
     receiving: Receiving,
 ) -> Result<Receiving, (PortFault, Receiving)>
     requires may { MayResetLink receiving.port (A.device adapter.old) }
-    ensures followed { IsSimulated (IsPortAccessWriting IsResetRegister receiving.port) AnyUse (A.device adapter.old)
+    ensures followed { IsSimulated (ReadsPortOrWrites IsResetRegister receiving.port) AnySlotStates
+        (A.device adapter.old)
         (A.device adapter.new) }
-    ensures on { IsOn (A.device adapter.new) }
-    ensures resets { StaysReceiving receiving.port (A.device adapter.old) (A.device adapter.new) }
+    ensures adapter_is_on { IsOn (A.device adapter.new) }
+    ensures stays_receiving { StaysReceiving receiving.port (A.device adapter.old) (A.device adapter.new) }
     ensures finds { IfOk result (λ token. (token.port ≡ receiving.port)
-        × FindsDisk receiving.port (A.device adapter.old) (A.device adapter.new)) }
+        × ResetsAndFindsDisk receiving.port (A.device adapter.old) (A.device adapter.new)) }
     ensures fault { IfErr result (λ fault. (fault.1 ≡ receiving)
-        × FindsFault receiving.port fault.0 (A.device adapter.old) (A.device adapter.new)) }
+        × ResetsAndFindsFault receiving.port fault.0 (A.device adapter.old) (A.device adapter.new)) }
     ensures cost { MakesAtMost COMRESET_ACCESSES (A.access_count adapter.old) (A.access_count adapter.new) }
 {
     law_prerequisites();
@@ -389,11 +385,11 @@ pub fn comreset<A: Adapter>(
 /// set ST again after an error needs no COMRESET.
 pub fn start<A: Adapter>(adapter: &mut A, receiving: Receiving) -> Running
     requires may { MayBeStarted receiving.port (A.device adapter.old) }
-    ensures followed { IsSimulated (IsPortAccessWriting IsCommandRegister receiving.port)
+    ensures followed { IsSimulated (ReadsPortOrWrites IsCommandRegister receiving.port)
         (λ uses. AllFree uses receiving.port.0)
         (A.device adapter.old) (A.device adapter.new) }
-    ensures on { IsOn (A.device adapter.new) }
-    ensures names { result.port ≡ receiving.port }
+    ensures adapter_is_on { IsOn (A.device adapter.new) }
+    ensures token_is_of_port { result.port ≡ receiving.port }
     ensures starts { Starts receiving.port (A.device adapter.old) (A.device adapter.new) }
     ensures cost { MakesAtMost START_ACCESSES (A.access_count adapter.old) (A.access_count adapter.new) }
 {

@@ -6,18 +6,19 @@ use adapter::laws::{
 };
 use refinement::access_kinds::{law_controls_are_of_a_port, law_fragment_prerequisites};
 use refinement::fragments::{
-    law_causes_stay_clear, law_other_ports_are_left, law_tape_prerequisites, law_written_notes_stay,
+    law_causes_stay_clear, law_other_ports_are_untouched, law_tape_prerequisites,
+    law_written_notes_stay,
 };
 use refinement::giving_up::law_stopped_slots_tell;
 use refinement::laws::{
-    law_clear_bits_stay, law_placing_areas_is_permitted, law_slots_are_disarmed,
-    law_writing_cmd_is_permitted, law_writing_is_permitted,
+    law_clear_sact_bits_stay, law_placing_areas_is_permitted, law_slots_are_disarmed,
+    law_writing_cmd_is_permitted, law_writing_stays_permitted,
 };
 use refinement::port_facts::{
-    law_adapter_stays, law_controls_are_set, law_controls_stay, law_errors_are_cleared,
-    law_faults_are_recorded, law_link_comes_up, law_link_is_awaited, law_notes_are_set,
-    law_notes_stay, law_quiet_is_found, law_reset_is_found, law_running_well_is_found,
-    law_stop_is_found, law_stopped_engine_stays,
+    law_adapter_stays, law_clean_to_start_is_found, law_controls_are_set, law_controls_stay,
+    law_errors_are_cleared, law_faults_are_recorded, law_link_comes_up, law_link_is_awaited,
+    law_notes_are_set, law_notes_stay, law_reset_is_found, law_running_well_is_found,
+    law_stopped_engine_is_read, law_stopped_engine_stays,
 };
 use refinement::recovering::{law_link_stays_online, law_running_goes_on};
 use std::marker::Brand;
@@ -39,22 +40,22 @@ pub fn law_prerequisites()
     law_link_is_awaited();
     law_notes_are_set();
     law_notes_stay();
-    law_quiet_is_found();
+    law_clean_to_start_is_found();
     law_reset_is_found();
     law_running_well_is_found();
-    law_stop_is_found();
+    law_stopped_engine_is_read();
     law_stopped_slots_tell();
     law_fragment_prerequisites::<Brand>();
     law_controls_are_of_a_port::<Brand>();
     law_slots_are_disarmed();
-    law_clear_bits_stay();
+    law_clear_sact_bits_stay();
     law_writing_cmd_is_permitted();
     law_placing_areas_is_permitted();
-    law_writing_is_permitted();
+    law_writing_stays_permitted();
     law_link_stays_online();
     law_running_goes_on();
     law_causes_stay_clear();
-    law_other_ports_are_left();
+    law_other_ports_are_untouched();
     law_tape_prerequisites();
     law_written_notes_stay();
 }

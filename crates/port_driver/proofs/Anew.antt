@@ -4,7 +4,7 @@ use Rattle.ata_types.specs.declared.Port.{Port}
 use Rattle.ata_types.specs.declared.PortState.{PortState}
 use Rattle.ata_types.specs.declared.PortState.TheVariants.{Absent, Dead, Foreign, Ready, Unfit}
 use Rattle.adapter.specs.Device.{Device}
-use Rattle.refinement.specs.Fragments.{AnyUse, IsSimulated}
+use Rattle.refinement.specs.Fragments.{AnySlotStates, IsSimulated}
 use Rattle.block_machine.specs.declared.due.QueueMode.{QueueMode}
 use Rattle.error_recovery.specs.declared.Next.{Next}
 use Rattle.error_recovery.specs.declared.Next.TheVariants as next
@@ -17,12 +17,12 @@ use Rattle.port_control.specs.declared.Stopped.{Stopped}
 use Rattle.port_control.specs.PortEvents.{IsEventAccess}
 use Rattle.server_history.specs.ErrorHandling.{HasNoUsedSlot}
 use Rattle.server_history.specs.ServerState.{ServerState, SettledInvariant}
-use Rattle.server_history.specs.Probing.{ProbesAnew, IsProbedAnew, IsLookedAt, ProbesPort}
+use Rattle.server_history.specs.Probing.{ProbesAnew, IsFoundAfterStop, FindsReasonToBoot, ProbesPort}
 use Rattle.server_history.specs.Turns.{ProbesUnready}
 use Rattle.slots.specs.SlotUses.{PortSlots}
 
 -- what is to be booted isn't dead
-pub booted_alive : (state : PortState) (port : Port) (old new : Device) → IsLookedAt state port true old new → state ≢ Dead
+pub booted_alive : (state : PortState) (port : Port) (old new : Device) → FindsReasonToBoot state port true old new → state ≢ Dead
 booted_alive Absent port old new looks = λ dead. let z : Absent ≡ Dead = dead in cc
 booted_alive Foreign port old new looks = λ dead. let z : Foreign ≡ Dead = dead in cc
 booted_alive (Unfit cause) port old new looks = λ dead. let z : Unfit cause ≡ Dead = dead in cc
@@ -31,7 +31,7 @@ booted_alive Dead port old new looks = let z : true ≡ false = looks.0 in absur
 
 -- a port that was given up, and may not be booted, is dead
 pub found_dead : (wanted : Wanted) (port : Port) (way : Next) (d : Device) → ((token : Running) → way ≢ next.Running token) → ((token : Stopped) → way ≡ next.Restart token → ⊥)
-    → IsProbedAnew wanted port way d d (Unready Dead)
+    → IsFoundAfterStop wanted port way d d (Unready Dead)
 found_dead wanted port (next.Running token) d halts restarts = absurd (halts token refl)
 found_dead wanted port (next.Restart token) d halts restarts = absurd (restarts token refl)
 found_dead wanted port next.Dead d halts restarts = (refl, refl)
@@ -40,41 +40,41 @@ found_dead wanted port next.Dead d halts restarts = (refl, refl)
 abbrev pub found_anew : ServerState → Device → ProbeResult → QueueMode → PortSlots → ℕ → ServerState
 found_anew s new found mode slots number = record s {
   device = new;
-  ports = set s.ports number found;
+  probe_results = set s.probe_results number found;
   modes = set s.modes number mode;
   slots = set s.slots number slots;
 }
 
 -- what the law says of a port that was tried
 abbrev pub SettlesTried : Type 0
-SettlesTried = (s new : ServerState) (port : Port) → SettledInvariant s → (probes : ProbesPort port s new) → (probes.state ≢ Dead → IsSimulated (IsEventAccess port) AnyUse s.device probes.seen) → ProbesUnready port s new × SettledInvariant new
+SettlesTried = (s new : ServerState) (port : Port) → SettledInvariant s → (probes : ProbesPort port s new) → (probes.state ≢ Dead → IsSimulated (IsEventAccess port) AnySlotStates s.device probes.device_after_look) → ProbesUnready port s new × SettledInvariant new
 
-module _ (law : SettlesTried) (s : ServerState) (port : Port) (state : PortState) (is : probe_result_of s.ports port.0 ≡ Unready state) (settled : SettledInvariant s) (seen : Device) where
+module _ (law : SettlesTried) (s : ServerState) (port : Port) (state : PortState) (is : probe_result_of s.probe_results port.0 ≡ Unready state) (settled : SettledInvariant s) (seen : Device) where
   -- where nothing shows, that was all
-  pub left_settles : IsLookedAt state port false s.device seen → IsSimulated (IsEventAccess port) AnyUse s.device seen → ProbesUnready port s (record s { device = seen }) × SettledInvariant (record s { device = seen })
+  pub left_settles : FindsReasonToBoot state port false s.device seen → IsSimulated (IsEventAccess port) AnySlotStates s.device seen → ProbesUnready port s (record s { device = seen }) × SettledInvariant (record s { device = seen })
   left_settles looks followed = law s (record s { device = seen }) port settled probes (λ alive. followed)
     where
       probes : ProbesPort port s (record s { device = seen })
       probes = record {
         state = state;
         unready_state_is = is;
-        result = false;
-        seen = seen;
+        has_found_something = false;
+        device_after_look = seen;
         is_looked_at = looks;
-        left = λ none. refl;
+        is_left_if_not_found = λ none. refl;
         boots = λ booted. let z : false ≡ true = booted in absurd cc;
       }
 
-  module _ (looks : IsLookedAt state port true s.device seen) (followed : IsSimulated (IsEventAccess port) AnyUse s.device seen) (new : Device) (found : ProbeResult) (mode : QueueMode) (slots : PortSlots)
+  module _ (looks : FindsReasonToBoot state port true s.device seen) (followed : IsSimulated (IsEventAccess port) AnySlotStates s.device seen) (new : Device) (found : ProbeResult) (mode : QueueMode) (slots : PortSlots)
       (finds : ProbesAnew (wanted_of s.wanted port.0) port found mode seen new) (unused : HasNoUsedSlot mode slots) where
     boots_so : ProbesPort port s (found_anew s new found mode slots port.0)
     boots_so = record {
       state = state;
       unready_state_is = is;
-      result = true;
-      seen = seen;
+      has_found_something = true;
+      device_after_look = seen;
       is_looked_at = looks;
-      left = λ none. let z : true ≡ false = none in absurd cc;
+      is_left_if_not_found = λ none. let z : true ≡ false = none in absurd cc;
       boots = λ booted. record {
         found = found;
         mode = mode;

@@ -19,13 +19,13 @@ use Rattle.commands.specs.Costs.{ISSUE_ACCESSES}
 use Rattle.commands.specs.Tasks.{IsFitTransfer, IsTransfer}
 use Rattle.host_boot.specs.declared.ProbeResult.{ProbeResult}
 use Rattle.commands.specs.Batches.{PlacedTask}
-use Rattle.request_queue.specs.BookEntries.{BookEntry, BookIsInOrder, IsAccepted, as_unanswered, unanswered_of, due_ids, issued_entry, update_if_id}
+use Rattle.request_queue.specs.BookEntries.{BookEntry, BookIsWellFormed, IsWellFormedEntry, as_unanswered, unanswered_of, due_ids, issued_request, update_if_id}
 use Rattle.request_queue.specs.declared.PendingRequest.{PendingRequest}
-use Rattle.server_history.specs.IssuingAndAnswering.{IssuesTogetherIfAny, IssuesTogether, ChangesSlotsAndBook, PutsInSlot, PutsInSlots, task_of, use_for}
+use Rattle.server_history.specs.IssuingAndAnswering.{IssuesTogetherIfAny, IssuesTogether, ChangesOnlySlotsAndBook, PutsInSlot, PutsInSlots, task_of, use_for}
 use Rattle.server_history.specs.ServerState.{InCallInvariant, ServerState, mode_in, no_slots, slots_at, state_of}
 use Rattle.slots.specs.SlotUses.{IsLowestFree, PortSlots, with_use}
 use Rattle.port_driver.specs.Issuing.{IssuesWhatIsDue, MayIssueDue}
-use Rattle.port_driver.specs.LentSlots.{HasFoundPort, with_port_slots}
+use Rattle.port_driver.specs.LentSlots.{HasPortToIssue, with_port_slots}
 use Rattle.port_driver.specs.declared.served_port.ServedPort.{ServedPort}
 use Rattle.port_driver.proofs.Sending as sending
 
@@ -35,10 +35,10 @@ put_length port [] [] old new same = ap (λ (s : ServerState). length s.book) sa
 put_length port [] (u ∷ tasks) old new none = absurd none
 put_length port (i ∷ ids) [] old new none = absurd none
 put_length port (i ∷ ids) (u ∷ tasks) old new (mid, one, rest) =
-    put_length port ids tasks mid new rest ∙ (ap (λ (s : ServerState). length s.book) one.server_is ∙ length-map old.book (update_if_id i issued_entry))
+    put_length port ids tasks mid new rest ∙ (ap (λ (s : ServerState). length s.book) one.server_is ∙ length-map old.book (update_if_id i issued_request))
 
 issued_length : (port : Port) (ids : List RequestId) (old new : ServerState) → IssuesTogether port ids old new → length new.book ≡ length old.book
-issued_length port ids old new issues = ap (λ (s : ServerState). length s.book) issues.server_is ∙ put_length port ids issues.tasks old issues.taken issues.puts
+issued_length port ids old new issues = ap (λ (s : ServerState). length s.book) issues.server_is ∙ put_length port ids issues.tasks old issues.server_with_slots issues.puts
 
 -- ---- one more is put in a slot
 
@@ -71,11 +71,11 @@ pub record Preparing : Type 0 where
   pub tasks : List PlacedTask
   pub book : List BookEntry
   pub slots : PortSlots
-  pub puts : (s : ServerState) → HasFoundPort s start first_book first_slots port mode found → PutsInSlots port ids tasks s (with_port_slots s start book slots port)
+  pub puts : (s : ServerState) → HasPortToIssue s start first_book first_slots port mode found → PutsInSlots port ids tasks s (with_port_slots s start book slots port)
   pub id : RequestId
   pub turn : sending.IsTurn book port mode id
 
-module _ (x : Preparing) (s : ServerState) (l : HasFoundPort s x.start x.first_book x.first_slots x.port x.mode x.found) where
+module _ (x : Preparing) (s : ServerState) (l : HasPortToIssue s x.start x.first_book x.first_slots x.port x.mode x.found) where
   abbrev e : BookEntry
   e = x.turn.0
 
@@ -83,33 +83,33 @@ module _ (x : Preparing) (s : ServerState) (l : HasFoundPort s x.start x.first_b
   mid = with_port_slots s x.start x.book x.slots x.port
 
   pub mid_slots : slots_at mid.slots x.port.0 ≡ x.slots
-  mid_slots = get_or-set_same s.slots x.port.0 x.slots no_slots (sending.ready_listed s x.port l.in_call_invariant (ap state_of l.found_is ∙ x.ready))
+  mid_slots = get_or-set_same s.slots x.port.0 x.slots no_slots (sending.ready_listed s x.port l.in_call_invariant (ap state_of l.probe_result_is ∙ x.ready))
 
-  pub mid_due : IsDue (mode_in mid x.port) (unanswered_of mid.book) (as_unanswered e.entry)
-  mid_due = subst (λ (m : QueueMode). IsDue m (unanswered_of x.book) (as_unanswered e.entry)) (sym l.mode_is) x.turn.4
+  pub mid_due : IsDue (mode_in mid x.port) (unanswered_of mid.book) (as_unanswered e.request)
+  mid_due = subst (λ (m : QueueMode). IsDue m (unanswered_of x.book) (as_unanswered e.request)) (sym l.mode_is) x.turn.4
 
   -- the request as its entry was found
-  module _ (goes_on : ChangesSlotsAndBook s mid) (one : (entries : List BookEntry) (a b : BookEntry) → BookIsInOrder entries → Contains entries a → Contains entries b → a.entry.id ≡ b.entry.id → a ≡ b)
-      (r : PendingRequest) (frames : List Frame) (held : Contains x.book (record { entry = r; frames = frames })) (same : r.id ≡ x.id) (queued : is_plain x.mode e.entry.op ≡ false) where
-    found_is : record { entry = r; frames = frames } ≡ e
-    found_is = one x.book (record { entry = r; frames = frames }) e goes_on.book_is_in_order held x.turn.1 (same ∙ sym x.turn.2)
+  module _ (goes_on : ChangesOnlySlotsAndBook s mid) (one : (entries : List BookEntry) (a b : BookEntry) → BookIsWellFormed entries → Contains entries a → Contains entries b → a.request.id ≡ b.request.id → a ≡ b)
+      (r : PendingRequest) (frames : List Frame) (held : Contains x.book (record { request = r; frames = frames })) (same : r.id ≡ x.id) (queued : is_plain x.mode e.request.op ≡ false) where
+    found_is : record { request = r; frames = frames } ≡ e
+    found_is = one x.book (record { request = r; frames = frames }) e goes_on.book_is_well_formed held x.turn.1 (same ∙ sym x.turn.2)
 
     -- its task, as it is made
     pub task_made : (slot : ℕ) (made : List Frame) → made ≡ frames
         → ◌≡◌ {A = PlacedTask} (record { slot = slot; task = record { op = r.op; range = r.range; queued = true }; frames = made }) (record { slot = slot; task = task_of x.mode e; frames = e.frames })
     task_made slot made made_is = λ i. record {
       slot = slot;
-      task = record { op = (found_is i).entry.op; range = (found_is i).entry.range; queued = sym (ap not queued) i };
+      task = record { op = (found_is i).request.op; range = (found_is i).request.range; queued = sym (ap not queued) i };
       frames = (made_is ∙ ap (λ (b : BookEntry). b.frames) found_is) i;
     }
 
-  pub fits : ChangesSlotsAndBook s mid → is_plain x.mode e.entry.op ≡ false → (slot : ℕ) → (is_plain x.mode e.entry.op ≡ true → slot ≡ 0) → IsFitTransfer (task_of x.mode e) e.frames
+  pub fits : ChangesOnlySlotsAndBook s mid → is_plain x.mode e.request.op ≡ false → (slot : ℕ) → (is_plain x.mode e.request.op ≡ true → slot ≡ 0) → IsFitTransfer (task_of x.mode e) e.frames
   fits goes_on queued slot head =
-      (sending.may_go s.table e (All-contains (IsAccepted s.table) x.book e goes_on.requests_are_accepted x.turn.1) x.mode slot head (not (is_plain x.mode e.entry.op)) refl e.entry refl e.frames refl).transfer
-      (transfers_of x.mode e.entry.op queued)
+      (sending.may_go s.table e (All-contains (IsWellFormedEntry s.table) x.book e goes_on.entries_are_well_formed x.turn.1) x.mode slot head (not (is_plain x.mode e.request.op)) refl e.request refl e.frames refl).transfer_fits_frames
+      (transfers_of x.mode e.request.op queued)
 
   -- it is put in a slot
-  module _ (slot : ℕ) (small : slot < 32) (lowest : IsLowestFree x.slots slot) (later : List BookEntry) (later_is : later ≡ map (update_if_id x.id issued_entry) x.book)
+  module _ (slot : ℕ) (small : slot < 32) (lowest : IsLowestFree x.slots slot) (later : List BookEntry) (later_is : later ≡ map (update_if_id x.id issued_request) x.book)
       (used : PortSlots) (used_is : used ≡ with_use x.slots slot (Some (use_for x.mode (sending.with_id x.id e)))) where
     abbrev t : PlacedTask
     t = record { slot = slot; task = task_of x.mode e; frames = e.frames }
@@ -132,18 +132,18 @@ MorePut = (s mid new : ServerState) (port : Port) (ids : List RequestId) (tasks 
 
 abbrev Together : Type 0
 Together = (s mid : ServerState) (port : Port) (ids : List RequestId) (tasks : List PlacedTask) (request : BookEntry) → InCallInvariant s → PutsInSlots port ids tasks s mid → Contains mid.book request
-    → request.entry.port ≡ port → IsDue (mode_in mid port) (unanswered_of mid.book) (as_unanswered request.entry)
-    → (tasks ≡ [] → ⊥) → (is_plain (mode_in s port) request.entry.op ≡ false) × All (λ t. t.task.queued ≡ true) tasks
+    → request.request.port ≡ port → IsDue (mode_in mid port) (unanswered_of mid.book) (as_unanswered request.request)
+    → (tasks ≡ [] → ⊥) → (is_plain (mode_in s port) request.request.op ≡ false) × All (λ t. t.task.queued ≡ true) tasks
 
 -- the first of several is queued, since the second is due once it was issued
-pub first_queued : (x : Preparing) (s : ServerState) (l : HasFoundPort s x.start x.first_book x.first_slots x.port x.mode x.found) (slot : ℕ) → slot < 32 → IsLowestFree x.slots slot
-    → ((entries : List BookEntry) (id : RequestId) → unanswered_of (map (update_if_id id issued_entry) entries) ≡ with_issued id (unanswered_of entries)) → MorePut → Together
+pub first_queued : (x : Preparing) (s : ServerState) (l : HasPortToIssue s x.start x.first_book x.first_slots x.port x.mode x.found) (slot : ℕ) → slot < 32 → IsLowestFree x.slots slot
+    → ((entries : List BookEntry) (id : RequestId) → unanswered_of (map (update_if_id id issued_request) entries) ≡ with_issued id (unanswered_of entries)) → MorePut → Together
     → (items : List RequestId) (place : ℕ) (d : RequestId) → place + 1 < length items → x.id ≡ get_or items place d → AreAllDueInOrder x.mode x.port (drop place items) (unanswered_of x.book)
-    → is_plain x.mode x.turn.0.entry.op ≡ false
-first_queued x s l slot small lowest issues more together items place d low id_is turns = by (is_plain x.mode x.turn.0.entry.op) refl
+    → is_plain x.mode x.turn.0.request.op ≡ false
+first_queued x s l slot small lowest issues more together items place d low id_is turns = by (is_plain x.mode x.turn.0.request.op) refl
   where
     later : List BookEntry
-    later = map (update_if_id x.id issued_entry) x.book
+    later = map (update_if_id x.id issued_request) x.book
 
     used : PortSlots
     used = with_use x.slots slot (Some (use_for x.mode (sending.with_id x.id x.turn.0)))
@@ -169,12 +169,12 @@ first_queued x s l slot small lowest issues more together items place d low id_i
 
     all : All (λ t. t.task.queued ≡ true) (x.tasks ++ task ∷ [])
     all = (together s then x.port (x.ids ++ x.id ∷ []) (x.tasks ++ task ∷ []) second.0 l.in_call_invariant both second.1 second.3
-        (subst (λ (m : QueueMode). IsDue m (unanswered_of later) (as_unanswered second.0.entry)) (sym l.mode_is) second.4) (not_empty x.tasks task)).1
+        (subst (λ (m : QueueMode). IsDue m (unanswered_of later) (as_unanswered second.0.request)) (sym l.mode_is) second.4) (not_empty x.tasks task)).1
 
     its : task.task.queued ≡ true
     its = All-contains (λ t. t.task.queued ≡ true) (x.tasks ++ task ∷ []) task all (Contains-append_right x.tasks (task ∷ []) task (0, omega arith, refl))
 
-    by : (b : Bool) → is_plain x.mode x.turn.0.entry.op ≡ b → is_plain x.mode x.turn.0.entry.op ≡ false
+    by : (b : Bool) → is_plain x.mode x.turn.0.request.op ≡ b → is_plain x.mode x.turn.0.request.op ≡ false
     by false is = is
     by true is = absurd (false≢true (sym (ap not is) ∙ its))
 
@@ -192,29 +192,29 @@ module _ {A : Type 0} (device : A → Device) (accesses : A → ℕ) (port : Por
 
   pub none_due : due_ids self.mode port (unanswered_of book) ≡ [] → IssuesWhatIsDue device accesses port self self before before book book
   none_due none = record {
-    issues = λ s l.
+    issues_all_due = λ s l.
         let after : ServerState = with_port_slots s (device before) book self.slots port in
         let M : QueueMode → Type 0 = λ mode. IssuesTogetherIfAny port (due_ids mode port (unanswered_of s.book)) s after in
         subst M (sym l.mode_is) (subst (λ (ids : List RequestId). IssuesTogetherIfAny port ids s after) (sym (ap (λ (b : List BookEntry). due_ids self.mode port (unanswered_of b)) l.book_is ∙ none))
-        (sending.lent_same s (device before) book self.slots port self.mode self.found may.ready l));
+        (sending.lent_same s (device before) book self.slots port self.mode self.probe_result may.ready l));
     only_slots_change = refl;
-    book_length_is_kept = refl;
+    book_length_is_unchanged = refl;
     none_due_no_access = λ none. refl;
-    cost_is_by_due = omega arith;
+    cost_per_due_request = omega arith;
     cost = omega arith;
   }
 
   pub one_due : (new : ServedPort) (after : A) (left : List BookEntry) (id : RequestId) → due_ids self.mode port (unanswered_of book) ≡ id ∷ []
-      → ((s : ServerState) → HasFoundPort s (device before) book self.slots port self.mode self.found → IssuesTogether port (id ∷ []) s (with_port_slots s (device after) left new.slots port))
+      → ((s : ServerState) → HasPortToIssue s (device before) book self.slots port self.mode self.probe_result → IssuesTogether port (id ∷ []) s (with_port_slots s (device after) left new.slots port))
       → new ≡ record self { slots = new.slots } → MakesAtMost ISSUE_ACCESSES (accesses before) (accesses after) → IssuesWhatIsDue device accesses port self new before after book left
   one_due new after left id only issues rest cost = record {
-    issues = λ s l.
+    issues_all_due = λ s l.
         let then : ServerState = with_port_slots s (device after) left new.slots port in
         let M : QueueMode → Type 0 = λ mode. IssuesTogetherIfAny port (due_ids mode port (unanswered_of s.book)) s then in
         subst M (sym l.mode_is) (subst (λ (ids : List RequestId). IssuesTogetherIfAny port ids s then) (sym (ap (λ (b : List BookEntry). due_ids self.mode port (unanswered_of b)) l.book_is ∙ only)) (issues s l));
     only_slots_change = rest;
-    book_length_is_kept = issued_length port (id ∷ []) may.has_found_port.0 _ (issues may.has_found_port.0 may.has_found_port.1) ∙ ap (λ (b : List BookEntry). length b) may.has_found_port.1.book_is;
+    book_length_is_unchanged = issued_length port (id ∷ []) may.has_found_port.0 _ (issues may.has_found_port.0 may.has_found_port.1) ∙ ap (λ (b : List BookEntry). length b) may.has_found_port.1.book_is;
     none_due_no_access = λ none. absurd (let long = as_long (id ∷ []) only in let least : length (due_of self.mode port (unanswered_of book)) ≡ 0 = ap length none in omega (arith, long, least));
-    cost_is_by_due = let long = as_long (id ∷ []) only in omega (arith, long, cost);
+    cost_per_due_request = let long = as_long (id ∷ []) only in omega (arith, long, cost);
     cost = omega (arith, cost);
   }

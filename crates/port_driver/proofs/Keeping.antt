@@ -7,8 +7,8 @@ use Rattle.std.proofs.lemmas.List.{get_or_default, length-append}
 use Rattle.std.proofs.lemmas.List.Elements.{All-contains, Contains-append_cases, Contains-append_left, Contains-append_right}
 use Rattle.ata_types.specs.declared.request.Frame.{Frame}
 use Rattle.dma_frames.specs.Loan.{Lending}
-use Rattle.dma_frames.specs.FrameTables.{LendsOnly, FrameOwnership, lent_to}
-use Rattle.server_history.specs.KeptLoans.{LoansEndInTurn, TakesBack}
+use Rattle.dma_frames.specs.FrameTables.{SetsLoanOnly, OwnersAndLoans, lent_to}
+use Rattle.server_history.specs.KeptLoans.{LoansEndInTurn, GivesBackLoans}
 use Rattle.server_history.specs.ServerState.{DifferInRequest, IsLentOut}
 
 -- a list of one loan has no other
@@ -18,7 +18,7 @@ only loan other here =
     sym here.2 ∙ ap (λ (n : ℕ). get_or (loan ∷ []) n other) head
 
 -- a loan that is given back ends alone
-one_back : (old new : FrameOwnership) (loan : Lending) → LendsOnly old new loan.frames None → TakesBack old new (Contains (loan ∷ []))
+one_back : (old new : OwnersAndLoans) (loan : Lending) → SetsLoanOnly old new loan.frames None → GivesBackLoans old new (Contains (loan ∷ []))
 one_back old new loan lends = record {
   owners_are_kept = lends.owners_are_kept;
   their_frames_are_free = λ other f here inside. All-contains (λ (g : Frame). lent_to new g ≡ None) loan.frames f lends.these_are_lent (subst (λ (l : Lending). Contains l.frames f) (only loan other here) inside);
@@ -26,7 +26,7 @@ one_back old new loan lends = record {
 }
 
 -- where no loan ends, nothing changes
-pub none_back : (table : FrameOwnership) → TakesBack table table (Contains [])
+pub none_back : (table : OwnersAndLoans) → GivesBackLoans table table (Contains [])
 none_back table = record { owners_are_kept = refl; their_frames_are_free = λ loan f such here. absurd (let low = such.1 in omega (arith, low)); other_loans_are_kept = λ f apart. refl }
 
 -- ---- the last of a list
@@ -64,7 +64,7 @@ module _ (rest : List Lending) (loan : Lending) where
         ∙ sym (ap (λ (x : Lending). x.request) (get_or-append_seam rest loan [] other)))
 
   -- The last one is given back, and then the others.
-  module _ (law : LoansEndInTurn) (old mid : FrameOwnership) (lent : All (IsLentOut old) all) (two : AllPairs DifferInRequest all) (lends : LendsOnly old mid loan.frames None) where
+  module _ (law : LoansEndInTurn) (old mid : OwnersAndLoans) (lent : All (IsLentOut old) all) (two : AllPairs DifferInRequest all) (lends : SetsLoanOnly old mid loan.frames None) where
     out : (other : Lending) → Contains all other → IsLentOut old other
     out other here = All-contains (IsLentOut old) all other lent here
 
@@ -72,9 +72,9 @@ module _ (rest : List Lending) (loan : Lending) where
     lent_left k d small =
         let b : Lending = get_or rest k d in
         let here : Contains rest b = (k, small, get_or_default rest k b d small) in
-        law.stays old mid (loan ∷ []) b (one_back old mid loan lends)
+        law.other_loan_stays_lent_out old mid (loan ∷ []) b (one_back old mid loan lends)
         (λ other ended. subst (λ (l : Lending). IsLentOut old l × DifferInRequest l b) (sym (only loan other ended)) (out loan is_last, two_last two b here))
         (out b (Contains-append_left rest (loan ∷ []) b here))
 
-    pub all_back : (new : FrameOwnership) → TakesBack mid new (Contains rest) → TakesBack old new (Contains all)
-    all_back new given = law.alike old new ((loan ∷ []) ++ rest) all (law.both old mid new (loan ∷ []) rest (one_back old mid loan lends) lent_left given) first_or_last
+    pub all_back : (new : OwnersAndLoans) → GivesBackLoans mid new (Contains rest) → GivesBackLoans old new (Contains all)
+    all_back new given = law.order_does_not_matter old new ((loan ∷ []) ++ rest) all (law.endings_compose old mid new (loan ∷ []) rest (one_back old mid loan lends) lent_left given) first_or_last

@@ -9,11 +9,11 @@ use Rattle.hba_regs.specs.Bits.{bit}
 use Rattle.adapter.specs.Access.{Access}
 use Rattle.adapter.specs.Device.{Device}
 use Rattle.adapter.specs.Rules.{HasPort}
-use Rattle.refinement.specs.Fragments.{RelatesWith, AnyUse, IsSimulated}
+use Rattle.refinement.specs.Fragments.{SomeMachineAgreesWith, AnySlotStates, IsSimulated}
 use Rattle.refinement.specs.Slots.{IsOver}
-use Rattle.dma_frames.specs.FrameTables.{FrameOwnership}
+use Rattle.dma_frames.specs.FrameTables.{OwnersAndLoans}
 use Rattle.identify.specs.declared.error_log.FailedSlot.{FailedSlot}
-use Rattle.error_recovery.specs.Recovery.{PlainUsesSlot0, PlainIsSlot0, MayRecover, RecoversOrStops, BacksFailure}
+use Rattle.error_recovery.specs.Recovery.{PlainUsesSlot0, PlainIsSlot0, PortMayRecover, RecoversOrStops, BacksFailure}
 use Rattle.error_recovery.specs.declared.Recovered.{Recovered}
 use Rattle.host_boot.specs.TakeOver.{probe_result_of}
 use Rattle.commands.specs.Masks.{ReadsDone}
@@ -21,14 +21,14 @@ use Rattle.port_control.specs.PortEvents.{IsEventAccess, TakesEvent}
 use Rattle.port_control.specs.declared.events.PortEvent.TheVariants.{TaskFileError}
 use Rattle.request_queue.specs.BookEntries.{BookEntry}
 use Rattle.request_queue.specs.declared.disposition.FailedRequest.{FailedRequest}
-use Rattle.server_history.specs.ErrorHandling.{AreAllQueuedAs, IsFailedRequest, ErrorIsFound, TellsErrorHandling}
+use Rattle.server_history.specs.ErrorHandling.{AreAllQueuedAs, IsFailedRequest, ErrorIsFound, ErrorHandlingIsBacked}
 use Rattle.server_history.specs.IssuingAndAnswering.{IsMaskOf, is_used}
 use Rattle.server_history.specs.ServerState.{ServerState, InCallInvariant, slots_at, state_of, used_for}
 use Rattle.port_control.specs.declared.events.PortError.{PortError}
 use Rattle.port_control.specs.declared.events.PortError.TheVariants.{TaskFileError}
 use Rattle.slots.specs.SlotUses.{PortSlots, IsTaken, use_at}
 use Rattle.slots.specs.declared.SlotUse.{SlotUse}
-use Rattle.port_driver.specs.LentSlots.{AnswersDoneSlots, HasDonePort, with_answers}
+use Rattle.port_driver.specs.LentSlots.{AnswersDoneSlots, HasPortToAnswer, with_answers}
 use Rattle.port_driver.specs.Recovery.{CompletesAndRecovers, IsInError}
 use Rattle.port_driver.specs.declared.served_port.ServedPort.{ServedPort}
 use Rattle.port_driver.specs.declared.served_port.Shared.{Shared}
@@ -37,13 +37,13 @@ use Rattle.port_driver.proofs.Sending.{ready_there}
 
 -- what laws say of a server of which a port failed
 pub record FailureLaws : Type 0 where
-  pub looking : (s : ServerState) (new : Device) (port : Port) → InCallInvariant s → state_of (probe_result_of s.ports port.0) ≡ ReadyState → IsSimulated (IsEventAccess port) AnyUse s.device new → InCallInvariant (record s { device = new })
-  pub finding : (s : ServerState) (new : Device) (port : Port) (mask done : ℕ) → InCallInvariant s → state_of (probe_result_of s.ports port.0) ≡ ReadyState → ReadsDone port mask done s.device new → InCallInvariant (record s { device = new })
-  pub over : (s : ServerState) (new : Device) (port : Port) (mask done slot : ℕ) → InCallInvariant s → state_of (probe_result_of s.ports port.0) ≡ ReadyState → IsMaskOf (slots_at s.slots port.0) mask → slot < 32
+  pub looking : (s : ServerState) (new : Device) (port : Port) → InCallInvariant s → state_of (probe_result_of s.probe_results port.0) ≡ ReadyState → IsSimulated (IsEventAccess port) AnySlotStates s.device new → InCallInvariant (record s { device = new })
+  pub finding : (s : ServerState) (new : Device) (port : Port) (mask done : ℕ) → InCallInvariant s → state_of (probe_result_of s.probe_results port.0) ≡ ReadyState → ReadsDone port mask done s.device new → InCallInvariant (record s { device = new })
+  pub over : (s : ServerState) (new : Device) (port : Port) (mask done slot : ℕ) → InCallInvariant s → state_of (probe_result_of s.probe_results port.0) ≡ ReadyState → IsMaskOf (slots_at s.slots port.0) mask → slot < 32
       → ReadsDone port mask done s.device new → bit done slot ≡ true → IsOver (new.port port.0) slot
-  pub may : (s : ServerState) (seen found : Device) (port : Port) (mask done : ℕ) → InCallInvariant s → state_of (probe_result_of s.ports port.0) ≡ ReadyState → TakesEvent port TaskFileError s.device seen
-      → IsSimulated (IsEventAccess port) AnyUse s.device seen → ReadsDone port mask done seen found → MayRecover port.0 found
-  pub agreed : (s : ServerState) (port : Port) (queued : Bool) → InCallInvariant s → state_of (probe_result_of s.ports port.0) ≡ ReadyState → AreAllQueuedAs queued (slots_at s.slots port.0) → RelatesWith (PlainUsesSlot0 queued port.0) s.device
+  pub may : (s : ServerState) (seen found : Device) (port : Port) (mask done : ℕ) → InCallInvariant s → state_of (probe_result_of s.probe_results port.0) ≡ ReadyState → TakesEvent port TaskFileError s.device seen
+      → IsSimulated (IsEventAccess port) AnySlotStates s.device seen → ReadsDone port mask done seen found → PortMayRecover port.0 found
+  pub agreed : (s : ServerState) (port : Port) (queued : Bool) → InCallInvariant s → state_of (probe_result_of s.probe_results port.0) ≡ ReadyState → AreAllQueuedAs queued (slots_at s.slots port.0) → SomeMachineAgreesWith (PlainUsesSlot0 queued port.0) s.device
   pub alike : (s : ServerState) (port : Port) (slot : ℕ) (used : SlotUse) → InCallInvariant s → used_for s.slots port.0 slot ≡ Some used → AreAllQueuedAs used.queued (slots_at s.slots port.0)
   pub alone : (s : ServerState) (port : Port) (queued : Bool) (outstanding : ℕ) → InCallInvariant s → IsMaskOf (slots_at s.slots port.0) outstanding → AreAllQueuedAs queued (slots_at s.slots port.0) → PlainIsSlot0 queued outstanding
 
@@ -85,11 +85,11 @@ from x f = record x.s { device = f.found }
 pub record Answered (x : Troubled) (f : FoundDone x) : Type 0 where
   pub before : List Reply
   pub after : List Reply
-  pub t : FrameOwnership
+  pub t : OwnersAndLoans
   pub b : List BookEntry
   pub u : PortSlots
   pub answers : AnswersDoneSlots x.port f.done before after (from x f) (with_answers (from x f) t b u x.port)
-  pub lent : HasDonePort (with_answers (from x f) t b u x.port) t b u x.port f.done
+  pub lent : HasPortToAnswer (with_answers (from x f) t b u x.port) t b u x.port f.done
 
 abbrev mid : (x : Troubled) (f : FoundDone x) → Answered x f → ServerState
 mid x f a = with_answers (from x f) a.t a.b a.u x.port
@@ -113,20 +113,20 @@ module _ (x : Troubled) where
 
   module _ (f : FoundDone x) where
     its_mask : IsMaskOf (slots_at x.s.slots x.port.0) f.mask
-    its_mask = subst (λ (u : PortSlots). IsMaskOf u f.mask) (sym x.lends.is_settled_with.parts.port_is.slots_are) (mask_of x.p.slots f.mask f.exact)
+    its_mask = subst (λ (u : PortSlots). IsMaskOf u f.mask) (sym x.lends.is_settled_with.has_port_and_shared.port_is.slots_are) (mask_of x.p.slots f.mask f.exact)
 
-    pub lends_done : HasDonePort (from x f) x.shared.table.value x.shared.book x.p.slots x.port f.done
+    pub lends_done : HasPortToAnswer (from x f) x.shared.table.value x.shared.book x.p.slots x.port f.done
     lends_done = record {
       in_call_invariant = x.laws.finding seen f.found x.port f.mask f.done seen_kept x.lends.sees_port_error.ready f.reads;
       ready = x.lends.sees_port_error.ready;
-      table_is = x.lends.is_settled_with.parts.table_is;
-      book_is = x.lends.is_settled_with.parts.book_is;
-      slots_are = x.lends.is_settled_with.parts.port_is.slots_are;
+      table_is = x.lends.is_settled_with.has_port_and_shared.table_is;
+      book_is = x.lends.is_settled_with.has_port_and_shared.book_is;
+      slots_are = x.lends.is_settled_with.has_port_and_shared.port_is.slots_are;
       over = λ slot small its. x.laws.over seen f.found x.port f.mask f.done slot seen_kept x.lends.sees_port_error.ready its_mask small f.reads its;
     }
 
-    pub may : x.port_error ≡ TaskFileError → MayRecover x.port.0 f.found
-    may fails = x.laws.may x.s x.device f.found x.port f.mask f.done x.lends.sees_port_error.in_call_invariant x.lends.sees_port_error.ready (subst (λ (its : PortError). ErrorIsFound x.port its x.s.device x.device) fails x.lends.sees_port_error.finds) x.lends.sees_port_error.is_simulated f.reads
+    pub may : x.port_error ≡ TaskFileError → PortMayRecover x.port.0 f.found
+    may fails = x.laws.may x.s x.device f.found x.port f.mask f.done x.lends.sees_port_error.in_call_invariant x.lends.sees_port_error.ready (subst (λ (its : PortError). ErrorIsFound x.port its x.s.device x.device) fails x.lends.sees_port_error.error_is_found) x.lends.sees_port_error.is_simulated f.reads
 
     module _ (a : Answered x f) where
       pub mid_kept : InCallInvariant (mid x f a)
@@ -138,8 +138,8 @@ module _ (x : Troubled) where
       pub alike : (slot : ℕ) (used : SlotUse) → use_at a.u slot ≡ Some used → AreAllQueuedAs used.queued a.u
       alike slot used taken = subst (AreAllQueuedAs used.queued) a.lent.slots_are (x.laws.alike (mid x f a) x.port slot used a.lent.in_call_invariant (ap (λ (p : PortSlots). use_at p slot) a.lent.slots_are ∙ taken))
 
-      pub places : length a.u.places ≡ 32
-      places = ap (λ (p : PortSlots). length p.places) (sym a.lent.slots_are) ∙ (a.lent.in_call_invariant.slots x.port.0 mid_there.0).places
+      pub places : length a.u.slot_uses ≡ 32
+      places = ap (λ (p : PortSlots). length p.slot_uses) (sym a.lent.slots_are) ∙ (a.lent.in_call_invariant.slots_invariant x.port.0 mid_there.0).has_32_slots
 
       module _ (w : Waiting x f a) where
         mid_mask : IsMaskOf (slots_at (mid x f a).slots x.port.0) w.outstanding
@@ -148,13 +148,13 @@ module _ (x : Troubled) where
         mid_kinds : AreAllQueuedAs w.queued (slots_at (mid x f a).slots x.port.0)
         mid_kinds = subst (AreAllQueuedAs w.queued) (sym a.lent.slots_are) w.kinds
 
-        pub agreed : RelatesWith (PlainUsesSlot0 w.queued x.port.0) f.found
+        pub agreed : SomeMachineAgreesWith (PlainUsesSlot0 w.queued x.port.0) f.found
         agreed = x.laws.agreed (mid x f a) x.port w.queued a.lent.in_call_invariant a.lent.ready mid_kinds
 
         pub alone : PlainIsSlot0 w.queued w.outstanding
         alone = x.laws.alone (mid x f a) x.port w.queued w.outstanding a.lent.in_call_invariant mid_mask mid_kinds
 
-        module _ (result : Recovered) (new : Device) (its_end : (m : RecoversOrStops x.port w.outstanding w.queued result f.found new) × TellsErrorHandling x.port_error x.port w.outstanding w.queued result m.accesses f.found new) where
+        module _ (result : Recovered) (new : Device) (its_end : (m : RecoversOrStops x.port w.outstanding w.queued result f.found new) × ErrorHandlingIsBacked x.port_error x.port w.outstanding w.queued result m.accesses f.found new) where
           abbrev handling : RecoversOrStops x.port w.outstanding w.queued result f.found new
           handling = its_end.0
 
@@ -165,17 +165,17 @@ module _ (x : Troubled) where
 
           pub mends_rest : (failed : Option FailedRequest) → IsFailedRequest a.u result.failed failed → CompletesAndRecovers x.port x.port_error a.before a.after failed result.next x.s a.t a.b a.u new
           mends_rest failed names = record {
-            mid = mid x f a;
+            server_before_answers = mid x f a;
             in_call_invariant = a.lent.in_call_invariant;
             error_handled = record {
               port_error = x.port_error;
-              seen = x.device;
-              error_is_found = x.lends.sees_port_error.finds;
+              device_after_look = x.device;
+              error_is_found = x.lends.sees_port_error.error_is_found;
               mask = f.mask;
               is_mask_of = its_mask;
               done = f.done;
-              found = f.found;
-              reads = f.reads;
+              device_after_read = f.found;
+              reads_done = f.reads;
               requests = a.answers.requests;
               ordered = a.answers.ordered;
               answers_each = a.answers.answers_each;
@@ -185,13 +185,13 @@ module _ (x : Troubled) where
               queued = w.queued;
               are_queued_alike = mid_kinds;
               result = result;
-              handling = its_end.0;
+              recovers_or_stops = its_end.0;
               tells_error_handling = its_end.1;
             };
             port_error_is = refl;
             is_simulated = x.lends.sees_port_error.is_simulated;
-            mid_is = refl;
+            mid_server_has_parts = refl;
             next_is = refl;
             failed_request_is = names;
-            replies_are = a.answers.replies_are;
+            replies_are = a.answers.replies_are_appended;
           }

@@ -18,11 +18,11 @@ all_ones : (slot : ℕ) → slot < 32 → bit_at 4294967295 slot ≡ 1
 all_ones slot small = bit_at_ones 32 slot small
 
 -- where none is used, each that is used has whatever kind
-pub none_queued : (slots : PortSlots) → length slots.places ≡ 32 → ((slot : ℕ) → slot < 32 → bit_at 4294967295 slot ≡ 1 → use_at slots slot ≡ None) → AreAllQueuedAs false slots
+pub none_queued : (slots : PortSlots) → length slots.slot_uses ≡ 32 → ((slot : ℕ) → slot < 32 → bit_at 4294967295 slot ≡ 1 → use_at slots slot ≡ None) → AreAllQueuedAs false slots
 none_queued slots places none slot used taken =
     ⊎_elim
     (λ (small : slot < 32). let z : None ≡ Some used = sym (none slot small (all_ones slot small)) ∙ taken in absurd cc)
-    (λ (past : 32 ≤ slot). let z : None ≡ Some used = sym (get_or_past slots.places slot None (omega (arith, past, places))) ∙ taken in absurd cc)
+    (λ (past : 32 ≤ slot). let z : None ≡ Some used = sym (get_or_past slots.slot_uses slot None (omega (arith, past, places))) ∙ taken in absurd cc)
     (cases_lt slot 32)
 
 -- ---- replies

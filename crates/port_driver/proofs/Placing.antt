@@ -25,8 +25,8 @@ module _ (s : ServerState) (port : Port) (p : ServedPort) (has : HasPortAt s por
   same_wanted : set s.wanted port.0 p.wanted ≡ s.wanted
   same_wanted = put_back s.wanted port.0 Nothing p.wanted has.wanted_is
 
-  same_found : set s.ports port.0 p.found ≡ s.ports
-  same_found = put_back s.ports port.0 Unserved p.found has.found_is
+  same_found : set s.probe_results port.0 p.probe_result ≡ s.probe_results
+  same_found = put_back s.probe_results port.0 Unserved p.probe_result has.probe_result_is
 
   same_remembered : set s.remembered port.0 p.remembered ≡ s.remembered
   same_remembered = put_back s.remembered port.0 None p.remembered has.remembered_is
@@ -37,19 +37,19 @@ module _ (s : ServerState) (port : Port) (p : ServedPort) (has : HasPortAt s por
   same_slots : set s.slots port.0 p.slots ≡ s.slots
   same_slots = put_back s.slots port.0 no_slots p.slots has.slots_are
 
-  same_kept : set s.kept port.0 p.kept ≡ s.kept
-  same_kept = put_back s.kept port.0 [] p.kept has.kept_is
+  same_kept : set s.kept_loans port.0 p.kept ≡ s.kept_loans
+  same_kept = put_back s.kept_loans port.0 [] p.kept has.quarantine_is
 
   module _ (device : Device) (shared : Shared) where
     -- nothing of the port changed
     pub with_same : with_served_port s device shared port p ≡ record s { device = device; table = shared.table.value; book = shared.book }
     with_same = λ i. record (with_served_port s device shared port p) {
       wanted = same_wanted i;
-      ports = same_found i;
+      probe_results = same_found i;
       remembered = same_remembered i;
       modes = same_mode i;
       slots = same_slots i;
-      kept = same_kept i;
+      kept_loans = same_kept i;
     }
 
     -- its slots are others
@@ -59,29 +59,29 @@ module _ (s : ServerState) (port : Port) (p : ServedPort) (has : HasPortAt s por
 
     -- other loans are kept of it
     pub with_kept : (kept : List Lending) → with_served_port s device shared port (record p { kept = kept })
-        ≡ record s { device = device; table = shared.table.value; kept = set s.kept port.0 kept; book = shared.book }
-    with_kept kept = λ i. record (with_same i) { kept = set s.kept port.0 kept }
+        ≡ record s { device = device; table = shared.table.value; kept_loans = set s.kept_loans port.0 kept; book = shared.book }
+    with_kept kept = λ i. record (with_same i) { kept_loans = set s.kept_loans port.0 kept }
 
     -- it was found anew
-    pub with_found : (found : ProbeResult) (mode : QueueMode) (slots : PortSlots) → with_served_port s device shared port (record p { found = found; mode = mode; slots = slots }) ≡ record s {
+    pub with_found : (found : ProbeResult) (mode : QueueMode) (slots : PortSlots) → with_served_port s device shared port (record p { probe_result = found; mode = mode; slots = slots }) ≡ record s {
       device = device;
       table = shared.table.value;
-      ports = set s.ports port.0 found;
+      probe_results = set s.probe_results port.0 found;
       modes = set s.modes port.0 mode;
       slots = set s.slots port.0 slots;
       book = shared.book;
     }
-    with_found found mode slots = λ i. record (with_same i) { ports = set s.ports port.0 found; modes = set s.modes port.0 mode; slots = set s.slots port.0 slots }
+    with_found found mode slots = λ i. record (with_same i) { probe_results = set s.probe_results port.0 found; modes = set s.modes port.0 mode; slots = set s.slots port.0 slots }
 
     -- only the disk that is wanted is the same
     pub with_other : (q : ServedPort) → q.wanted ≡ p.wanted → with_served_port s device shared port q ≡ record s {
       device = device;
       table = shared.table.value;
-      ports = set s.ports port.0 q.found;
+      probe_results = set s.probe_results port.0 q.probe_result;
       remembered = set s.remembered port.0 q.remembered;
       modes = set s.modes port.0 q.mode;
       slots = set s.slots port.0 q.slots;
-      kept = set s.kept port.0 q.kept;
+      kept_loans = set s.kept_loans port.0 q.kept;
       book = shared.book;
     }
     with_other q is = ap (λ (list : List Wanted). record (with_served_port s device shared port q) { wanted = list }) (ap (set s.wanted port.0) is ∙ same_wanted)
@@ -90,16 +90,16 @@ module _ (s : ServerState) (port : Port) (p : ServedPort) (has : HasPortAt s por
 pub on_device : (s : ServerState) (device : Device) (number : ℕ) (p : ServedPort) → HasPortAt s number p → HasPortAt (record s { device = device }) number p
 on_device s device number p has = record {
   wanted_is = has.wanted_is;
-  found_is = has.found_is;
+  probe_result_is = has.probe_result_is;
   remembered_is = has.remembered_is;
   mode_is = has.mode_is;
   slots_are = has.slots_are;
-  kept_is = has.kept_is;
+  quarantine_is = has.quarantine_is;
 }
 
 -- a settled server has its parts on its own device
 pub on_its_device : (s : ServerState) (shared : Shared) (port : Port) (p : ServedPort) {device : Device} → IsSettledWith s device shared port p → IsSettledWith s s.device shared port p
 on_its_device s shared port p its = record {
   settled_invariant = its.settled_invariant;
-  parts = record { device_is = refl; table_is = its.parts.table_is; book_is = its.parts.book_is; port_is = its.parts.port_is };
+  has_port_and_shared = record { device_is = refl; table_is = its.has_port_and_shared.table_is; book_is = its.has_port_and_shared.book_is; port_is = its.has_port_and_shared.port_is };
 }

@@ -11,10 +11,10 @@ use Rattle.ata_types.specs.declared.PortState.TheVariants.{Absent, Ready as Read
 use Rattle.ata_types.specs.declared.request.Reply.{Reply}
 use Rattle.ata_types.specs.declared.limits.TheConstants.{MOST_READINGS}
 use Rattle.adapter.specs.Device.{Device}
-use Rattle.refinement.specs.Fragments.{AnyUse, IsSimulated}
+use Rattle.refinement.specs.Fragments.{AnySlotStates, IsSimulated}
 use Rattle.block_machine.specs.declared.due.QueueMode.{QueueMode}
 use Rattle.dma_frames.specs.Loan.{Lending}
-use Rattle.dma_frames.specs.FrameTables.{FrameOwnership}
+use Rattle.dma_frames.specs.FrameTables.{OwnersAndLoans}
 use Rattle.error_recovery.specs.Recovery.{EndsAsNext}
 use Rattle.error_recovery.specs.declared.Next.{Next}
 use Rattle.error_recovery.specs.declared.Next.TheVariants.{Restart}
@@ -33,32 +33,32 @@ use Rattle.request_queue.specs.BookEntries.{BookEntry, is_of_port}
 use Rattle.request_queue.specs.Dispositions.{BookAndLoans, AreResolved, disposition_of}
 use Rattle.request_queue.specs.declared.disposition.FailedRequest.{FailedRequest}
 use Rattle.request_queue.specs.declared.disposition.Revalidation.{Revalidation}
-use Rattle.server_history.specs.ErrorHandling.{BootsAfter, IsFailedRequest, IsRevalidated, IsRevalidation, IsErrorHandled, HasResolved, HandlesPortError, requests_of, with_port_found}
-use Rattle.server_history.specs.IssuingAndAnswering.{IssuesAll, done_reply}
+use Rattle.server_history.specs.ErrorHandling.{BootsAfter, IsFailedRequest, IsFoundAfterError, IsRevalidation, IsErrorHandled, HasResolved, HandlesPortError, requests_of, with_port_resolved}
+use Rattle.server_history.specs.IssuingAndAnswering.{IssuesDueOfPort, done_reply}
 use Rattle.server_history.specs.ServerState.{ServerState, InCallInvariant, SettledInvariant, quarantined_at, mode_at, probed_mode, mode_in, no_slots, plain_mode, slots_at, state_of}
 use Rattle.server_history.specs.Turns.{IsPortTurn, InRestart, ServicesPort}
 use Rattle.port_control.specs.declared.events.PortError.{PortError}
 use Rattle.port_control.specs.declared.events.PortError.TheVariants.{FatalError, TaskFileError, TimedOut, LinkChanged}
 use Rattle.slots.specs.SlotUses.{PortSlots, use_at}
 use Rattle.port_driver.specs.LoanRoom.{HaveLoanRoom, BookIsSound, book_and_loans}
-use Rattle.port_driver.specs.LentSlots.{HasFoundPort, with_port_slots}
+use Rattle.port_driver.specs.LentSlots.{HasPortToIssue, with_port_slots}
 use Rattle.port_driver.specs.Recovery.{HandlesPortErrorOf, CompletesAndRecovers, SeesPortError}
 use Rattle.port_driver.proofs.Sending.{ready_there}
 
 -- what laws say of what comes after a recovery
 pub record RestoringLaws : Type 0 where
-  pub bootable : (s mid : ServerState) (device : Device) (port : Port) (token : Stopped) → InCallInvariant s → state_of (probe_result_of s.ports port.0) ≡ ReadyState → (r : IsErrorHandled port s mid device)
-      → IsSimulated (IsEventAccess port) AnyUse s.device r.seen → r.result.next ≡ Restart token → IsBootable port device × IsStopped (device.port port.0) × ((device.port port.0).notes.link_count ≡ MOST_READINGS)
-  pub mode : (s mid : ServerState) (device : Device) (port : Port) → InCallInvariant s → state_of (probe_result_of s.ports port.0) ≡ ReadyState → (r : IsErrorHandled port s mid device)
-      → IsSimulated (IsEventAccess port) AnyUse s.device r.seen → mode_in s port ≡ probed_mode device.cap (probe_result_of s.ports port.0)
-  pub places : (s : ServerState) (port : Port) → InCallInvariant s → state_of (probe_result_of s.ports port.0) ≡ ReadyState
-      → (quarantined_at s.kept port.0 ≡ []) × (count_by (λ (e : BookEntry). e.entry.issued) (requests_of port s.book) ≤ 32)
-  pub settled : (s new : ServerState) (port : Port) (later : List Reply) → InCallInvariant s → state_of (probe_result_of s.ports port.0) ≡ ReadyState → (a : HasResolved port later s new)
-      → IsSimulated (IsEventAccess port) AnyUse s.device a.error_handled.seen → InCallInvariant new
-  pub error_handled : (s new : ServerState) (port : Port) (replies : List Reply) → SettledInvariant s → state_of (probe_result_of s.ports port.0) ≡ ReadyState → (r : HandlesPortError port replies s new)
-      → r.settled.error_handled.port_error ≢ TimedOut → IsSimulated (IsEventAccess port) AnyUse s.device r.settled.error_handled.seen → ServicesPort port replies s new × SettledInvariant new
-  pub restarted : (s new : ServerState) (port : Port) (replies : List Reply) → SettledInvariant s → state_of (probe_result_of s.ports port.0) ≡ ReadyState → (r : HandlesPortError port replies s new)
-      → r.settled.error_handled.port_error ≡ TimedOut → IsPortTurn InRestart port replies s new × SettledInvariant new
+  pub bootable : (s mid : ServerState) (device : Device) (port : Port) (token : Stopped) → InCallInvariant s → state_of (probe_result_of s.probe_results port.0) ≡ ReadyState → (r : IsErrorHandled port s mid device)
+      → IsSimulated (IsEventAccess port) AnySlotStates s.device r.device_after_look → r.result.next ≡ Restart token → IsBootable port device × IsStopped (device.port port.0) × ((device.port port.0).notes.link_wait_count ≡ MOST_READINGS)
+  pub mode : (s mid : ServerState) (device : Device) (port : Port) → InCallInvariant s → state_of (probe_result_of s.probe_results port.0) ≡ ReadyState → (r : IsErrorHandled port s mid device)
+      → IsSimulated (IsEventAccess port) AnySlotStates s.device r.device_after_look → mode_in s port ≡ probed_mode device.cap (probe_result_of s.probe_results port.0)
+  pub places : (s : ServerState) (port : Port) → InCallInvariant s → state_of (probe_result_of s.probe_results port.0) ≡ ReadyState
+      → (quarantined_at s.kept_loans port.0 ≡ []) × (count_by (λ (e : BookEntry). e.request.issued) (requests_of port s.book) ≤ 32)
+  pub settled : (s new : ServerState) (port : Port) (later : List Reply) → InCallInvariant s → state_of (probe_result_of s.probe_results port.0) ≡ ReadyState → (a : HasResolved port later s new)
+      → IsSimulated (IsEventAccess port) AnySlotStates s.device a.error_handled.device_after_look → InCallInvariant new
+  pub error_handled : (s new : ServerState) (port : Port) (replies : List Reply) → SettledInvariant s → state_of (probe_result_of s.probe_results port.0) ≡ ReadyState → (r : HandlesPortError port replies s new)
+      → r.has_resolved.error_handled.port_error ≢ TimedOut → IsSimulated (IsEventAccess port) AnySlotStates s.device r.has_resolved.error_handled.device_after_look → ServicesPort port replies s new × SettledInvariant new
+  pub restarted : (s new : ServerState) (port : Port) (replies : List Reply) → SettledInvariant s → state_of (probe_result_of s.probe_results port.0) ≡ ReadyState → (r : HandlesPortError port replies s new)
+      → r.has_resolved.error_handled.port_error ≡ TimedOut → IsPortTurn InRestart port replies s new × SettledInvariant new
 
 -- a port whose disk wasn't lost is booted anew, whatever shows
 pub boots_other : (port_error : PortError) (wanted : Wanted) (port : Port) (booted : Booted) (old new : Device) → port_error ≢ LinkChanged → RebootsPort wanted port booted old new → BootsAfter port_error wanted port booted old new
@@ -83,12 +83,12 @@ pub record Recovery : Type 0 where
   pub first : Device
   pub sees : SeesPortError s port port_error first
   pub was : DiskInfo
-  pub is_ready : probe_result_of s.ports port.0 ≡ Ready was
+  pub is_ready : probe_result_of s.probe_results port.0 ≡ Ready was
   pub before : List Reply
   pub told : List Reply
   pub failed : Option FailedRequest
   pub next : Next
-  pub t : FrameOwnership
+  pub t : OwnersAndLoans
   pub b : List BookEntry
   pub u : PortSlots
   pub one : Device
@@ -98,22 +98,22 @@ pub record Recovery : Type 0 where
 pub record Restoration (x : Recovery) : Type 0 where
   pub two : Device
   pub found : ProbeResult
-  pub is_found : IsRevalidated (wanted_of x.s.wanted x.port.0) x.port x.port_error x.was x.next x.one two found
+  pub is_found : IsFoundAfterError (wanted_of x.s.wanted x.port.0) x.port x.port_error x.was x.next x.one two found
   pub mode : QueueMode
   pub mode_is : mode ≡ probed_mode two.cap found
   pub fresh : PortSlots
-  pub usable : fresh.usable ≡ mode.usable
-  pub as_many : length fresh.places ≡ 32
+  pub usable : fresh.usable_count ≡ mode.usable_slots
+  pub as_many : length fresh.slot_uses ≡ 32
   pub free : (slot : ℕ) → use_at fresh slot ≡ None
   pub revalidation : Revalidation
   pub expects : IsRevalidation x.port_error x.was found revalidation
   pub now : BookAndLoans
   pub later : List Reply
-  pub meets : AreResolved (disposition_of x.failed revalidation) (requests_of x.port x.b) later (book_and_loans x.b x.t (quarantined_at x.s.kept x.port.0)) now
+  pub meets : AreResolved (disposition_of x.failed revalidation) (requests_of x.port x.b) later (book_and_loans x.b x.t (quarantined_at x.s.kept_loans x.port.0)) now
 
 -- the server then
 abbrev pub then : (x : Recovery) → Restoration x → ServerState
-then x y = with_port_found x.port y.two y.found x.was y.mode y.fresh y.now x.s
+then x y = with_port_resolved x.port y.two y.found x.was y.mode y.fresh y.now x.s
 
 -- what is due was issued, and the replies stand in order
 pub record Ordered (x : Recovery) (y : Restoration x) : Type 0 where
@@ -121,7 +121,7 @@ pub record Ordered (x : Recovery) (y : Restoration x) : Type 0 where
   pub three : Device
   pub book : List BookEntry
   pub slots : PortSlots
-  pub issues : IssuesAll x.port (then x y) (with_port_slots (then x y) three book slots x.port)
+  pub issues : IssuesDueOfPort x.port (then x y) (with_port_slots (then x y) three book slots x.port)
   pub all : List Reply
   pub its : List Reply
   pub after : List Reply
@@ -134,31 +134,31 @@ module _ (x : Recovery) where
   low : x.port.0 < 4
   low = (ready_there x.s x.port x.sees.in_call_invariant x.sees.ready).0
 
-  mid_ready : state_of (probe_result_of x.rest.mid.ports x.port.0) ≡ ReadyState
-  mid_ready = ap (λ (n : ServerState). state_of (probe_result_of n.ports x.port.0)) x.rest.mid_is ∙ x.sees.ready
+  mid_ready : state_of (probe_result_of x.rest.server_before_answers.probe_results x.port.0) ≡ ReadyState
+  mid_ready = ap (λ (n : ServerState). state_of (probe_result_of n.probe_results x.port.0)) x.rest.mid_server_has_parts ∙ x.sees.ready
 
   pub mode_then : (mode : QueueMode) → mode ≡ mode_at x.s.modes x.port.0 → mode ≡ probed_mode x.one.cap (Ready x.was)
-  mode_then mode said = said ∙ x.laws.mode x.s x.rest.mid x.one x.port x.sees.in_call_invariant x.sees.ready x.rest.error_handled x.rest.is_simulated ∙ ap (probed_mode x.one.cap) x.is_ready
+  mode_then mode said = said ∙ x.laws.mode x.s x.rest.server_before_answers x.one x.port x.sees.in_call_invariant x.sees.ready x.rest.error_handled x.rest.is_simulated ∙ ap (probed_mode x.one.cap) x.is_ready
 
   -- the token is of the port
   pub token_of : (stopped : Stopped) → x.next ≡ Restart stopped → stopped.port ≡ x.port
-  token_of stopped is = (subst (λ (way : Next). EndsAsNext x.rest.error_handled.queued x.port way x.rest.mid.device x.one) (x.rest.next_is ∙ is) x.rest.error_handled.handling.leaves.ends_as_next).0
+  token_of stopped is = (subst (λ (way : Next). EndsAsNext x.rest.error_handled.queued x.port way x.rest.server_before_answers.device x.one) (x.rest.next_is ∙ is) x.rest.error_handled.recovers_or_stops.leaves.ends_as_next).0
 
-  pub bootable : (stopped : Stopped) → x.next ≡ Restart stopped → IsBootable stopped.port x.one × IsStopped (x.one.port stopped.port.0) × ((x.one.port stopped.port.0).notes.link_count ≡ MOST_READINGS)
+  pub bootable : (stopped : Stopped) → x.next ≡ Restart stopped → IsBootable stopped.port x.one × IsStopped (x.one.port stopped.port.0) × ((x.one.port stopped.port.0).notes.link_wait_count ≡ MOST_READINGS)
   bootable stopped is =
-      subst (λ (q : Port). IsBootable q x.one × IsStopped (x.one.port q.0) × ((x.one.port q.0).notes.link_count ≡ MOST_READINGS)) (sym (token_of stopped is))
-      (x.laws.bootable x.s x.rest.mid x.one x.port stopped x.sees.in_call_invariant x.sees.ready x.rest.error_handled x.rest.is_simulated (x.rest.next_is ∙ is))
+      subst (λ (q : Port). IsBootable q x.one × IsStopped (x.one.port q.0) × ((x.one.port q.0).notes.link_wait_count ≡ MOST_READINGS)) (sym (token_of stopped is))
+      (x.laws.bootable x.s x.rest.server_before_answers x.one x.port stopped x.sees.in_call_invariant x.sees.ready x.rest.error_handled x.rest.is_simulated (x.rest.next_is ∙ is))
 
   pub sound : BookIsSound x.t x.b
-  sound = subst (λ (n : ServerState). BookIsSound n.table n.book) x.rest.mid_is (record { book_is_in_order = x.rest.in_call_invariant.book_is_in_order; requests_are_accepted = x.rest.in_call_invariant.requests_are_accepted })
+  sound = subst (λ (n : ServerState). BookIsSound n.table n.book) x.rest.mid_server_has_parts (record { book_is_well_formed = x.rest.in_call_invariant.book_is_well_formed; entries_are_well_formed = x.rest.in_call_invariant.entries_are_well_formed })
 
-  places : (quarantined_at x.s.kept x.port.0 ≡ []) × (count_by (λ (e : BookEntry). e.entry.issued) (requests_of x.port x.b) ≤ 32)
-  places = subst (λ (n : ServerState). (quarantined_at n.kept x.port.0 ≡ []) × (count_by (λ (e : BookEntry). e.entry.issued) (requests_of x.port n.book) ≤ 32)) x.rest.mid_is (x.laws.places x.rest.mid x.port x.rest.in_call_invariant mid_ready)
+  places : (quarantined_at x.s.kept_loans x.port.0 ≡ []) × (count_by (λ (e : BookEntry). e.request.issued) (requests_of x.port x.b) ≤ 32)
+  places = subst (λ (n : ServerState). (quarantined_at n.kept_loans x.port.0 ≡ []) × (count_by (λ (e : BookEntry). e.request.issued) (requests_of x.port n.book) ≤ 32)) x.rest.mid_server_has_parts (x.laws.places x.rest.server_before_answers x.port x.rest.in_call_invariant mid_ready)
 
-  pub kept_said : (number : ℕ) → number ≡ x.port.0 → (default : List Lending) → quarantined_at x.s.kept x.port.0 ≡ get_or x.s.kept number default
-  kept_said number is default = let f = x.sees.in_call_invariant.four_kept in let l = low in get_or_default x.s.kept x.port.0 [] default (omega (arith, f, l)) ∙ ap (λ (n : ℕ). get_or x.s.kept n default) (sym is)
+  pub kept_said : (number : ℕ) → number ≡ x.port.0 → (default : List Lending) → quarantined_at x.s.kept_loans x.port.0 ≡ get_or x.s.kept_loans number default
+  kept_said number is default = let f = x.sees.in_call_invariant.kept_loans_are_of_four_ports in let l = low in get_or_default x.s.kept_loans x.port.0 [] default (omega (arith, f, l)) ∙ ap (λ (n : ℕ). get_or x.s.kept_loans n default) (sym is)
 
-  pub have_places : (number : ℕ) → number ≡ x.port.0 → (default : List Lending) → HaveLoanRoom (filter (λ (e : BookEntry). is_of_port x.port e.entry) x.b) (get_or x.s.kept number default)
+  pub have_places : (number : ℕ) → number ≡ x.port.0 → (default : List Lending) → HaveLoanRoom (filter (λ (e : BookEntry). is_of_port x.port e.request) x.b) (get_or x.s.kept_loans number default)
   have_places number is default =
       let few = places.1 in
       let none = ap length (sym (kept_said number is default) ∙ places.0) in
@@ -168,60 +168,60 @@ module _ (x : Recovery) where
     pub settled_after : HasResolved x.port y.later x.s (then x y)
     settled_after = record {
       disk_before = x.was;
-      ready = x.is_ready;
-      mid = x.rest.mid;
-      device = x.one;
+      was_ready = x.is_ready;
+      server_after_handling = x.rest.server_before_answers;
+      device_after_handling = x.one;
       error_handled = x.rest.error_handled;
       found = y.found;
-      is_revalidated = subst (λ (its : PortError). IsRevalidated (wanted_of x.s.wanted x.port.0) x.port its x.was x.rest.error_handled.result.next x.one y.two y.found) (sym x.rest.port_error_is)
-          (subst (λ (way : Next). IsRevalidated (wanted_of x.s.wanted x.port.0) x.port x.port_error x.was way x.one y.two y.found) (sym x.rest.next_is) y.is_found);
+      is_found_after_error = subst (λ (its : PortError). IsFoundAfterError (wanted_of x.s.wanted x.port.0) x.port its x.was x.rest.error_handled.result.next x.one y.two y.found) (sym x.rest.port_error_is)
+          (subst (λ (way : Next). IsFoundAfterError (wanted_of x.s.wanted x.port.0) x.port x.port_error x.was way x.one y.two y.found) (sym x.rest.next_is) y.is_found);
       mode = y.mode;
       mode_is = y.mode_is;
       slots = y.fresh;
-      has_no_used_slot = record { usable = y.usable; places = y.as_many; free = y.free };
+      has_no_used_slot = record { usable_count_is_of_mode = y.usable; has_32_slots = y.as_many; all_slots_are_free = y.free };
       failed = x.failed;
       failed_request_is = subst (λ (n : PortSlots). IsFailedRequest n x.rest.error_handled.result.failed x.failed) (sym slots_mid) x.rest.failed_request_is;
       revalidation = y.revalidation;
       is_revalidation = subst (λ (its : PortError). IsRevalidation its x.was y.found y.revalidation) (sym x.rest.port_error_is) y.expects;
       book_and_loans_after = y.now;
-      are_resolved = subst (λ (n : ServerState). AreResolved (disposition_of x.failed y.revalidation) (requests_of x.port n.book) y.later (book_and_loans n.book n.table (quarantined_at n.kept x.port.0)) y.now) (sym x.rest.mid_is) y.meets;
-      server_is = (λ i. record (then x y) { slots = sym (set-set x.s.slots x.port.0 x.u y.fresh) i }) ∙ (λ i. put (sym x.rest.mid_is i));
+      are_resolved = subst (λ (n : ServerState). AreResolved (disposition_of x.failed y.revalidation) (requests_of x.port n.book) y.later (book_and_loans n.book n.table (quarantined_at n.kept_loans x.port.0)) y.now) (sym x.rest.mid_server_has_parts) y.meets;
+      server_is = (λ i. record (then x y) { slots = sym (set-set x.s.slots x.port.0 x.u y.fresh) i }) ∙ (λ i. put (sym x.rest.mid_server_has_parts i));
     }
       where
         put : ServerState → ServerState
         put n = record n {
           device = y.two;
           table = y.now.table;
-          ports = set n.ports x.port.0 y.found;
+          probe_results = set n.probe_results x.port.0 y.found;
           remembered = set n.remembered x.port.0 (Some x.was);
           modes = set n.modes x.port.0 y.mode;
           slots = set n.slots x.port.0 y.fresh;
-          kept = set n.kept x.port.0 y.now.kept;
+          kept_loans = set n.kept_loans x.port.0 y.now.kept;
           book = y.now.book;
         }
 
-        slots_mid : slots_at x.rest.mid.slots x.port.0 ≡ x.u
-        slots_mid = ap (λ (n : ServerState). slots_at n.slots x.port.0) x.rest.mid_is ∙ get_or-set_same x.s.slots x.port.0 x.u no_slots (let f = x.sees.in_call_invariant.four_slots in let l = low in omega (arith, f, l))
+        slots_mid : slots_at x.rest.server_before_answers.slots x.port.0 ≡ x.u
+        slots_mid = ap (λ (n : ServerState). slots_at n.slots x.port.0) x.rest.mid_server_has_parts ∙ get_or-set_same x.s.slots x.port.0 x.u no_slots (let f = x.sees.in_call_invariant.slots_are_of_four_ports in let l = low in omega (arith, f, l))
 
     pub then_kept : InCallInvariant (then x y)
     unfolding settled_after
     then_kept = x.laws.settled x.s (then x y) x.port y.later x.sees.in_call_invariant x.sees.ready settled_after x.rest.is_simulated
 
-    pub lends_found : HasFoundPort (then x y) y.two y.now.book y.fresh x.port y.mode y.found
+    pub lends_found : HasPortToIssue (then x y) y.two y.now.book y.fresh x.port y.mode y.found
     lends_found = record {
       in_call_invariant = then_kept;
-      found_is = get_or-set_same x.s.ports x.port.0 y.found Unserved in_list;
+      probe_result_is = get_or-set_same x.s.probe_results x.port.0 y.found Unserved in_list;
       device_is = refl;
       book_is = refl;
-      slots_are = get_or-set_same x.s.slots x.port.0 y.fresh no_slots (let f = x.sees.in_call_invariant.four_slots in let l = low in omega (arith, f, l));
-      mode_is = get_or-set_same x.s.modes x.port.0 y.mode plain_mode (let f = x.sees.in_call_invariant.four_modes in let l = low in omega (arith, f, l));
+      slots_are = get_or-set_same x.s.slots x.port.0 y.fresh no_slots (let f = x.sees.in_call_invariant.slots_are_of_four_ports in let l = low in omega (arith, f, l));
+      mode_is = get_or-set_same x.s.modes x.port.0 y.mode plain_mode (let f = x.sees.in_call_invariant.modes_are_of_four_ports in let l = low in omega (arith, f, l));
     }
       where
-        in_list : x.port.0 < length x.s.ports
+        in_list : x.port.0 < length x.s.probe_results
         in_list = ⊎_elim
-            (λ (small : x.port.0 < length x.s.ports). small)
-            (λ (past : length x.s.ports ≤ x.port.0). let z : Unserved ≡ Ready x.was = sym (get_or_past x.s.ports x.port.0 Unserved past) ∙ x.is_ready in absurd cc)
-            (cases_lt x.port.0 (length x.s.ports))
+            (λ (small : x.port.0 < length x.s.probe_results). small)
+            (λ (past : length x.s.probe_results ≤ x.port.0). let z : Unserved ≡ Ready x.was = sym (get_or_past x.s.probe_results x.port.0 Unserved past) ∙ x.is_ready in absurd cc)
+            (cases_lt x.port.0 (length x.s.probe_results))
 
     -- what is due was issued, and the replies stand in order
     module _ (o : Ordered x y) where
@@ -242,9 +242,9 @@ module _ (x : Recovery) where
       pub recovers_port : HandlesPortError x.port o.its x.s (with_port_slots (then x y) o.three o.book o.slots x.port)
       unfolding settled_after
       recovers_port = record {
-        later = y.later;
-        mid = then x y;
-        settled = settled_after;
+        later_replies = y.later;
+        server_after_resolving = then x y;
+        has_resolved = settled_after;
         issued = o.issues;
         replies_are = subst (IsPermutation o.its) (ap (drop (length x.before)) told_all ∙ drop-append_seam x.before (map done_reply x.rest.error_handled.requests ++ y.later)) o.moved;
         ordered = o.ordered;

@@ -4,7 +4,7 @@ use Rattle.std.specs.Prelude.{ℕ, ◌+◌, ◌*◌}
 use Rattle.error_recovery.specs.Costs.{RECOVER_ACCESSES}
 use Rattle.host_boot.specs.Costs.{REBOOT_ACCESSES, REBOOT_IF_PRESENT_ACCESSES}
 use Rattle.command_table.specs.Costs.{TABLE_ACCESSES}
-use Rattle.commands.specs.Costs.{BATCH_ACCESSES, DONE_ACCESSES}
+use Rattle.commands.specs.Costs.{BATCH_WRITE_ACCESSES, DONE_ACCESSES}
 use Rattle.port_control.specs.Costs.{STOP_ACCESSES}
 use Rattle.port_control.specs.EventCosts.{TAKE_EVENT_ACCESSES}
 use Rattle.port_control.specs.declared.events.PortError.{PortError}
@@ -12,7 +12,7 @@ use Rattle.port_control.specs.declared.events.PortError.TheVariants.{TaskFileErr
 
 -- what is due on a port is issued: a command is stored in each of its slots, at most, and all go by one batch
 abbrev pub ISSUE_DUE_ACCESSES : ℕ
-ISSUE_DUE_ACCESSES = SLOTS * TABLE_ACCESSES + BATCH_ACCESSES
+ISSUE_DUE_ACCESSES = SLOTS * TABLE_ACCESSES + BATCH_WRITE_ACCESSES
 
 -- a port in such trouble is recovered where a command failed, and else stopped
 abbrev pub handling_accesses : PortError → ℕ

@@ -9,7 +9,7 @@ use Rattle.hba_regs.specs.Bits.{bit}
 use Rattle.adapter.specs.Device.{Device}
 use Rattle.refinement.specs.Slots.{IsOver}
 use Rattle.block_machine.specs.declared.due.QueueMode.{QueueMode}
-use Rattle.dma_frames.specs.FrameTables.{FrameOwnership}
+use Rattle.dma_frames.specs.FrameTables.{OwnersAndLoans}
 use Rattle.host_boot.specs.TakeOver.{probe_result_of}
 use Rattle.host_boot.specs.declared.ProbeResult.{ProbeResult}
 use Rattle.commands.specs.Tasks.{IsFitTransfer, IsTransfer}
@@ -21,11 +21,11 @@ use Rattle.slots.specs.SlotUses.{PortSlots}
 
 -- the server keeps what it keeps, and has this device, this book, and these slots of a port that was found so and has
 -- this mode
-pub record HasFoundPort (s : ServerState) (device : Device) (book : List BookEntry) (slots : PortSlots) (port : Port)
+pub record HasPortToIssue (s : ServerState) (device : Device) (book : List BookEntry) (slots : PortSlots) (port : Port)
     (mode : QueueMode)
     (found : ProbeResult) : Type 0 where
   pub in_call_invariant : InCallInvariant s
-  pub found_is : probe_result_of s.ports port.0 ≡ found
+  pub probe_result_is : probe_result_of s.probe_results port.0 ≡ found
   pub device_is : s.device ≡ device
   pub book_is : s.book ≡ book
   pub slots_are : slots_at s.slots port.0 ≡ slots
@@ -38,18 +38,18 @@ with_port_slots s device book slots port =
 
 -- The server keeps what it keeps, and has these loans, this book, and these slots of a port that is ready. The commands
 -- of the slots that have their bits set here are over.
-pub record HasDonePort (s : ServerState) (table : FrameOwnership) (book : List BookEntry) (slots : PortSlots)
+pub record HasPortToAnswer (s : ServerState) (table : OwnersAndLoans) (book : List BookEntry) (slots : PortSlots)
     (port : Port)
     (done : ℕ) : Type 0 where
   pub in_call_invariant : InCallInvariant s
-  pub ready : state_of (probe_result_of s.ports port.0) ≡ Ready
+  pub ready : state_of (probe_result_of s.probe_results port.0) ≡ Ready
   pub table_is : s.table ≡ table
   pub book_is : s.book ≡ book
   pub slots_are : slots_at s.slots port.0 ≡ slots
   pub over : (slot : ℕ) → slot < 32 → bit done slot ≡ true → IsOver (s.device.port port.0) slot
 
 -- the server, with these in their place
-abbrev pub with_answers : ServerState → FrameOwnership → List BookEntry → PortSlots → Port → ServerState
+abbrev pub with_answers : ServerState → OwnersAndLoans → List BookEntry → PortSlots → Port → ServerState
 with_answers s table book slots port = record s { table = table; slots = slice_set s.slots port.0 slots; book = book }
 
 -- the request of this slot was answered by this reply
@@ -63,7 +63,7 @@ pub record AnswersSlot (port : Port) (slot : ℕ) (reply : Reply) (old new : Ser
 -- use any more.
 pub record AnswersDoneSlots (port : Port) (done : ℕ) (before after : List Reply) (old new : ServerState) : Type 0 where
   pub requests : List BookEntry
-  pub replies_are : after ≡ before ++ map done_reply requests
+  pub replies_are_appended : after ≡ before ++ map done_reply requests
   pub ordered : AllPairs IsEarlier requests
   pub answers_each : AnswersEach port done requests old new
   pub done_slots_are_free : (slot : ℕ) → slot < 32 → bit done slot ≡ true → used_for new.slots port.0 slot ≡ None
@@ -73,7 +73,7 @@ pub record AnswersDoneSlots (port : Port) (done : ℕ) (before after : List Repl
 -- The task may be issued in the slot: a transfer has its frames; a trim names 1 to 4,194,240 sectors, each below 2^48
 -- (64 entries of 65,535 in its block); and a trim and a flush aren't queued, and go in slot 0.
 pub record FitsSlot (task : Task) (frames : List Frame) (slot : ℕ) : Type 0 where
-  pub transfer : IsTransfer task.op → IsFitTransfer task frames
-  pub trim : task.op ≡ Trim → (1 ≤ task.range.count) × (task.range.count ≤ 4194240)
+  pub transfer_fits_frames : IsTransfer task.op → IsFitTransfer task frames
+  pub trim_range_is_allowed : task.op ≡ Trim → (1 ≤ task.range.count) × (task.range.count ≤ 4194240)
       × (task.range.first.0 + task.range.count ≤ 2 ^ 48)
-  pub plain : (task.op ≡ Trim) ⊎ (task.op ≡ Flush) → (slot ≡ 0) × (task.queued ≡ false)
+  pub trim_and_flush_in_slot_0 : (task.op ≡ Trim) ⊎ (task.op ≡ Flush) → (slot ≡ 0) × (task.queued ≡ false)

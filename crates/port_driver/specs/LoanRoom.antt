@@ -3,27 +3,27 @@ use Rattle.std.specs.Prelude.{◌≤◌, ◌<◌, ◌+◌, ◌≡◌, true, List
 use Rattle.ata_types.specs.declared.limits.TheConstants.{MOST_UNANSWERED}
 use Rattle.ata_types.specs.declared.request.Reply.{Reply}
 use Rattle.dma_frames.specs.Loan.{Lending}
-use Rattle.dma_frames.specs.FrameTables.{FrameOwnership}
-use Rattle.request_queue.specs.BookEntries.{BookEntry, IsAccepted, BookIsInOrder}
+use Rattle.dma_frames.specs.FrameTables.{OwnersAndLoans}
+use Rattle.request_queue.specs.BookEntries.{BookEntry, IsWellFormedEntry, BookIsWellFormed}
 use Rattle.request_queue.specs.Dispositions.{BookAndLoans}
 
-abbrev pub book_and_loans : List BookEntry → FrameOwnership → List Lending → BookAndLoans
+abbrev pub book_and_loans : List BookEntry → OwnersAndLoans → List Lending → BookAndLoans
 book_and_loans book table kept = record { book = book; table = table; kept = kept }
 
 -- a book in order, each request of which is as it was accepted, and has its frames lent to it
-pub record BookIsSound (table : FrameOwnership) (book : List BookEntry) : Type 0 where
-  pub book_is_in_order : BookIsInOrder book
-  pub requests_are_accepted : All (IsAccepted table) book
+pub record BookIsSound (table : OwnersAndLoans) (book : List BookEntry) : Type 0 where
+  pub book_is_well_formed : BookIsWellFormed book
+  pub entries_are_well_formed : All (IsWellFormedEntry table) book
 
 -- each request of a sound book may be answered: there is room for that many replies after these
-pub record MayAnswerAll (table : FrameOwnership) (book : List BookEntry) (replies : List Reply) : Type 0 where
-  pub sound : BookIsSound table book
-  pub room : length replies + length book ≤ MOST_UNANSWERED
+pub record MayAnswerAll (table : OwnersAndLoans) (book : List BookEntry) (replies : List Reply) : Type 0 where
+  pub book_is_sound : BookIsSound table book
+  pub replies_have_room : length replies + length book ≤ MOST_UNANSWERED
 
 -- there is a place for the request's loan, if it is issued
 abbrev pub HasLoanRoom : BookEntry → List Lending → Type 0
-HasLoanRoom request kept = request.entry.issued ≡ true → length kept < 32
+HasLoanRoom request kept = request.request.issued ≡ true → length kept < 32
 
 -- there are places for the loans of these requests that are issued
 abbrev pub HaveLoanRoom : List BookEntry → List Lending → Type 0
-HaveLoanRoom requests kept = length kept + count_by (λ e. e.entry.issued) requests ≤ 32
+HaveLoanRoom requests kept = length kept + count_by (λ e. e.request.issued) requests ≤ 32

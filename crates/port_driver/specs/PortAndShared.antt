@@ -11,18 +11,18 @@ use Rattle.identify.specs.declared.wanted.Wanted.TheVariants.{Nothing}
 use Rattle.request_queue.specs.BookEntries.{BookEntry}
 use Rattle.server_history.specs.ErrorHandling.{HasNoUsedSlot}
 use Rattle.server_history.specs.ServerState.{ServerState, SettledInvariant, quarantined_at, last_disk_of, mode_at, no_slots, plain_mode, remembered_at, slots_at}
-use Rattle.server_history.specs.Turns.{ProbesUnready, ServicesPort, TicksPort}
+use Rattle.server_history.specs.Turns.{ProbesUnready, ServicesPort, TakesTickTurn}
 use Rattle.port_driver.specs.declared.served_port.ServedPort.{ServedPort}
 use Rattle.port_driver.specs.declared.served_port.Shared.{Shared}
 
 -- the server's port of this number is this one
 pub record HasPortAt (s : ServerState) (number : ℕ) (p : ServedPort) : Type 0 where
   pub wanted_is : wanted_of s.wanted number ≡ p.wanted
-  pub found_is : probe_result_of s.ports number ≡ p.found
+  pub probe_result_is : probe_result_of s.probe_results number ≡ p.probe_result
   pub remembered_is : remembered_at s.remembered number ≡ p.remembered
   pub mode_is : mode_at s.modes number ≡ p.mode
   pub slots_are : slots_at s.slots number ≡ p.slots
-  pub kept_is : quarantined_at s.kept number ≡ p.kept
+  pub quarantine_is : quarantined_at s.kept_loans number ≡ p.kept
 
 -- the server has this device, and these loans and requests; and its port is this one
 pub record HasPortAndShared (s : ServerState) (device : Device) (shared : Shared) (port : Port)
@@ -38,11 +38,11 @@ with_served_port s device shared port p = record s {
   device = device;
   table = shared.table.value;
   wanted = slice_set s.wanted port.0 p.wanted;
-  ports = slice_set s.ports port.0 p.found;
+  probe_results = slice_set s.probe_results port.0 p.probe_result;
   remembered = slice_set s.remembered port.0 p.remembered;
   modes = slice_set s.modes port.0 p.mode;
   slots = slice_set s.slots port.0 p.slots;
-  kept = slice_set s.kept port.0 p.kept;
+  kept_loans = slice_set s.kept_loans port.0 p.kept;
   book = shared.book;
 }
 
@@ -50,7 +50,7 @@ with_served_port s device shared port p = record s {
 pub record IsSettledWith (s : ServerState) (device : Device) (shared : Shared) (port : Port)
     (p : ServedPort) : Type 0 where
   pub settled_invariant : SettledInvariant s
-  pub parts : HasPortAndShared s device shared port p
+  pub has_port_and_shared : HasPortAndShared s device shared port p
 
 -- A port had such a turn, with replies that come after others; and the server is settled then.
 pub record TakesTurn (Such : List Reply → ServerState → ServerState → Type 0) (before after : List Reply)
@@ -64,27 +64,27 @@ pub record TakesTurn (Such : List Reply → ServerState → ServerState → Type
 abbrev pub TurnBy : (Port → List Reply → ServerState → ServerState → Type 0)
     → (Port → ServerState → ServerState → Type 0) → ProbeResult → Port → List Reply → ServerState → ServerState
     → Type 0
-TurnBy Such Other (Ready info) port replies old new = Such port replies old new
-TurnBy Such Other (Unready state) port replies old new = (replies ≡ []) × Other port old new
-TurnBy Such Other Unserved port replies old new = (replies ≡ []) × (new ≡ old)
+TurnBy TurnOfReady TurnOfUnready (Ready info) port replies old new = TurnOfReady port replies old new
+TurnBy TurnOfReady TurnOfUnready (Unready state) port replies old new = (replies ≡ []) × TurnOfUnready port old new
+TurnBy TurnOfReady TurnOfUnready Unserved port replies old new = (replies ≡ []) × (new ≡ old)
 
 -- the turn in a service: a ready port is served, and another one that is served is probed
 abbrev pub TurnInService : ProbeResult → Port → List Reply → ServerState → ServerState → Type 0
 TurnInService found port replies old new = TurnBy ServicesPort ProbesUnready found port replies old new
 
 -- nothing is done of the port
-abbrev pub IsAtRest : Port → ServerState → ServerState → Type 0
-IsAtRest port old new = new ≡ old
+abbrev pub ChangesNothing : Port → ServerState → ServerState → Type 0
+ChangesNothing port old new = new ≡ old
 
 -- and the turn in a tick, where the book was this when requests had got older
 abbrev pub TurnInTick : ProbeResult → List BookEntry → Port → List Reply → ServerState → ServerState → Type 0
-TurnInTick found book port replies old new = TurnBy (TicksPort book) IsAtRest found port replies old new
+TurnInTick found book port replies old new = TurnBy (TakesTickTurn book) ChangesNothing found port replies old new
 
 -- a port that there isn't
 abbrev pub no_port : ServedPort
 no_port = record {
   wanted = Nothing;
-  found = Unserved;
+  probe_result = Unserved;
   remembered = None;
   mode = plain_mode;
   slots = no_slots;
@@ -95,8 +95,8 @@ no_port = record {
 pub record NotesProbeResult (found : ProbeResult) (mode : QueueMode) (old new : ServedPort) : Type 0 where
   pub has_no_used_slot : HasNoUsedSlot mode new.slots
   pub only_these_change : new ≡ record old {
-    found = found;
-    remembered = last_disk_of old.found old.remembered;
+    probe_result = found;
+    remembered = last_disk_of old.probe_result old.remembered;
     mode = mode;
     slots = new.slots;
   }

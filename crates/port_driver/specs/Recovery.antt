@@ -4,8 +4,8 @@ use Rattle.ata_types.specs.declared.Port.{Port}
 use Rattle.ata_types.specs.declared.PortState.TheVariants.{Ready}
 use Rattle.ata_types.specs.declared.request.Reply.{Reply}
 use Rattle.adapter.specs.Device.{Device}
-use Rattle.refinement.specs.Fragments.{AnyUse, IsSimulated}
-use Rattle.dma_frames.specs.FrameTables.{FrameOwnership}
+use Rattle.refinement.specs.Fragments.{AnySlotStates, IsSimulated}
+use Rattle.dma_frames.specs.FrameTables.{OwnersAndLoans}
 use Rattle.error_recovery.specs.declared.Next.{Next}
 use Rattle.host_boot.specs.TakeOver.{probe_result_of}
 use Rattle.port_control.specs.PortEvents.{IsEventAccess}
@@ -35,9 +35,9 @@ error_of look.NoEvent = None
 -- device
 pub record SeesPortError (s : ServerState) (port : Port) (port_error : PortError) (device : Device) : Type 0 where
   pub in_call_invariant : InCallInvariant s
-  pub ready : state_of (probe_result_of s.ports port.0) ≡ Ready
-  pub finds : ErrorIsFound port port_error s.device device
-  pub is_simulated : IsSimulated (IsEventAccess port) AnyUse s.device device
+  pub ready : state_of (probe_result_of s.probe_results port.0) ≡ Ready
+  pub error_is_found : ErrorIsFound port port_error s.device device
+  pub is_simulated : IsSimulated (IsEventAccess port) AnySlotStates s.device device
 
 -- The server was settled when this error of its port was found out, and has these loans and requests; its port is this
 -- one.
@@ -51,14 +51,15 @@ pub record IsInError (s : ServerState) (device : Device) (shared : Shared) (port
 -- command failed, and to what the port has to go through.
 pub record CompletesAndRecovers (port : Port) (port_error : PortError) (before after : List Reply)
     (failed : Option FailedRequest)
-    (next : Next) (s : ServerState) (table : FrameOwnership) (book : List BookEntry)
+    (next : Next) (s : ServerState) (table : OwnersAndLoans) (book : List BookEntry)
     (slots : PortSlots) (new : Device) : Type 0 where
-  pub mid : ServerState
-  pub in_call_invariant : InCallInvariant mid
-  pub error_handled : IsErrorHandled port s mid new
+  pub server_before_answers : ServerState
+  pub in_call_invariant : InCallInvariant server_before_answers
+  pub error_handled : IsErrorHandled port s server_before_answers new
   pub port_error_is : error_handled.port_error ≡ port_error
-  pub is_simulated : IsSimulated (IsEventAccess port) AnyUse s.device error_handled.seen
-  pub mid_is : mid ≡ with_answers (record s { device = error_handled.found }) table book slots port
+  pub is_simulated : IsSimulated (IsEventAccess port) AnySlotStates s.device error_handled.device_after_look
+  pub mid_server_has_parts : server_before_answers
+      ≡ with_answers (record s { device = error_handled.device_after_read }) table book slots port
   pub next_is : error_handled.result.next ≡ next
   pub failed_request_is : IsFailedRequest slots error_handled.result.failed failed
   pub replies_are : after ≡ before ++ map done_reply error_handled.requests
@@ -67,5 +68,6 @@ pub record CompletesAndRecovers (port : Port) (port_error : PortError) (before a
 pub record HandlesPortErrorOf (port : Port) (port_error : PortError) (replies : List Reply)
     (old new : ServerState) : Type 0 where
   pub handling : HandlesPortError port replies old new
-  pub port_error_is : handling.settled.error_handled.port_error ≡ port_error
-  pub is_simulated : IsSimulated (IsEventAccess port) AnyUse old.device handling.settled.error_handled.seen
+  pub port_error_is : handling.has_resolved.error_handled.port_error ≡ port_error
+  pub is_simulated : IsSimulated (IsEventAccess port) AnySlotStates old.device
+      handling.has_resolved.error_handled.device_after_look

@@ -2,9 +2,9 @@
 ghost use Rattle.std.specs.Prelude.{◌≡◌, ◌≤◌, ◌+◌, ◌++◌, List, length};
 ghost use Rattle.ata_types.specs.declared.request.Reply.{Reply};
 ghost use Rattle.port_driver.specs.PortAndShared.{HasPortAndShared, with_served_port};
-ghost use Rattle.server_history.specs.Resets.{IsResetRevalidation, MayResolve, ResolvesPort};
-ghost use Rattle.server_history.specs.ServerState.{ServerState};
+ghost use Rattle.server_history.specs.{Resets.{IsResetRevalidation, MayResolve, ResolvesPort}, ServerState.{ServerState}};
 
+use crate::dispositions::DispositionInputs;
 use crate::recovery::is_same_disk;
 use crate::served_port::{ServedPort, Shared};
 use ata_types::{MOST_UNANSWERED, Port, PortState, Replies};
@@ -30,15 +30,18 @@ impl ServedPort {
     /// Resolves the unanswered requests of the port after a reset, in order of acceptance, whether the reset ended or
     /// got stuck. The replies come after those that there are.
     pub fn resolve_after_reset(&mut self, shared: &mut Shared, port: Port, replies: &mut Replies)
-        requires settle { (s : ServerState) × MayResolve s × HasPortAndShared s s.device shared.old port self.old }
+        requires may_resolve { (s : ServerState) × MayResolve s × HasPortAndShared s s.device shared.old port self.old }
         requires room { length replies.old.items + length shared.old.book ≤ MOST_UNANSWERED }
-        ensures settles { (s : ServerState) → MayResolve s → HasPortAndShared s s.device shared.old port self.old
+        ensures resolves_port { (s : ServerState) → MayResolve s → HasPortAndShared s s.device shared.old port self.old
             → (its : List Reply) × (replies.new.items ≡ replies.old.items ++ its)
             × ResolvesPort port its s (with_served_port s s.device shared.new port self.new) }
-        ensures rest { self.new ≡ record self.old { kept = self.new.kept } }
+        ensures only_quarantine_changes { self.new ≡ record self.old { kept = self.new.kept } }
         ensures room { length replies.new.items + length shared.new.book ≤ MOST_UNANSWERED }
     {
-        let revalidation = reset_revalidation(&self.remembered, &self.found);
-        shared.resolve(&mut self.kept, port, &None, revalidation, replies);
+        let stopped = DispositionInputs {
+            failed: None,
+            revalidation: reset_revalidation(&self.remembered, &self.probe_result),
+        };
+        shared.resolve(&mut self.kept, port, &stopped, replies);
     }
 }

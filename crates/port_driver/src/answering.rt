@@ -1,11 +1,10 @@
 // What is done on a port is answered.
 ghost use Rattle.std.specs.Prelude.{ℕ, ◌≡◌, ◌≤◌, ◌<◌, ◌+◌, length, None, Some, true};
 ghost use Rattle.ata_types.specs.declared.Port.{Port};
-ghost use Rattle.port_driver.specs.LentSlots.{AnswersDoneSlots, AnswersSlot, HasDonePort, with_answers};
+ghost use Rattle.port_driver.specs.LentSlots.{AnswersDoneSlots, AnswersSlot, HasPortToAnswer, with_answers};
 ghost use Rattle.hba_regs.specs.Bits.{bit};
 ghost use Rattle.server_history.specs.ServerState.{ServerState};
-ghost use Rattle.slots.specs.SlotUses.{use_at, with_use};
-ghost use Rattle.slots.specs.declared.SlotUse.{SlotUse};
+ghost use Rattle.slots.specs.{SlotUses.{use_at, with_use}, declared.SlotUse.{SlotUse}};
 
 use ata_types::{MOST_UNANSWERED, Outcome, Replies, Reply, Slot};
 use dma_frames::FrameTable;
@@ -18,10 +17,11 @@ use slots::Slots;
 /// are given back.
 fn answer_one(book: &mut Book, table: &mut FrameTable, slots: &mut Slots, slot: Slot) -> Reply
     requires lends { (s : ServerState) × (port : Port) × (done : ℕ)
-        × HasDonePort s table.old book.old slots.old port done × (bit done slot.0 ≡ true) }
+        × HasPortToAnswer s table.old book.old slots.old port done × (bit done slot.0 ≡ true) }
     requires small { slot.0 < 32 }
     requires used { (used : SlotUse) × (use_at slots.old slot.0 ≡ Some used) }
-    ensures answers { (s : ServerState) (port : Port) (done : ℕ) → HasDonePort s table.old book.old slots.old port done
+    ensures answers { (s : ServerState) (port : Port) (done : ℕ)
+        → HasPortToAnswer s table.old book.old slots.old port done
         → AnswersSlot port slot.0 result s (with_answers s table.new book.new slots.new port) }
     ensures freed { slots.new ≡ with_use slots.old slot.0 None }
     ensures fewer { length book.new < length book.old }
@@ -31,7 +31,7 @@ fn answer_one(book: &mut Book, table: &mut FrameTable, slots: &mut Slots, slot: 
     let Some(used) = slots.free(slot) else {
         unreachable!()
     };
-    let entry = book.release(used.id, table);
+    let entry = book.remove_and_give_back(used.id, table);
     Reply {
         id: used.id,
         client: entry.client,
@@ -48,13 +48,14 @@ pub(crate) fn answer_done(
     done: u32,
     replies: &mut Replies,
 )
-    requires lends { (s : ServerState) × (port : Port) × HasDonePort s table.old book.old slots.old port done }
-    requires room { length replies.old.items + length book.old ≤ MOST_UNANSWERED }
-    ensures answers { (s : ServerState) (port : Port) → HasDonePort s table.old book.old slots.old port done
+    requires server_has_port { (s : ServerState) × (port : Port)
+        × HasPortToAnswer s table.old book.old slots.old port done }
+    requires replies_have_room { length replies.old.items + length book.old ≤ MOST_UNANSWERED }
+    ensures answers { (s : ServerState) (port : Port) → HasPortToAnswer s table.old book.old slots.old port done
         → AnswersDoneSlots port done replies.old.items replies.new.items s
         (with_answers s table.new book.new slots.new port) }
-    ensures lends { (s : ServerState) (port : Port) → HasDonePort s table.old book.old slots.old port done
-        → HasDonePort (with_answers s table.new book.new slots.new port) table.new book.new slots.new port done }
+    ensures lends { (s : ServerState) (port : Port) → HasPortToAnswer s table.old book.old slots.old port done
+        → HasPortToAnswer (with_answers s table.new book.new slots.new port) table.new book.new slots.new port done }
     ensures room { length replies.new.items + length book.new ≤ MOST_UNANSWERED }
 {
     law_a_used_slot_has_its_request();

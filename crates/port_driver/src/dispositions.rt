@@ -1,22 +1,28 @@
 // What becomes of the unanswered requests of a port that was stopped, or is dead, and of those that wait under a grant
 // that is revoked.
 ghost use Rattle.std.specs.Prelude.{◌≡◌, ◌≢◌, ◌++◌, ◌∷◌, Contains, List, filter};
-ghost use Rattle.ata_types.specs.declared.request.Outcome.TheVariants.{Revoked};
-ghost use Rattle.ata_types.specs.declared.request.Reply.{Reply};
+ghost use Rattle.ata_types.specs.{declared.request.Outcome.TheVariants.{Revoked}, declared.request.Reply.{Reply}};
 ghost use Rattle.port_driver.specs.LoanRoom.{HasLoanRoom, HaveLoanRoom, MayAnswerAll, book_and_loans};
 ghost use Rattle.dma_frames.specs.Loan.{Lending};
-ghost use Rattle.request_queue.specs.BookEntries.{BookEntry, IsUnanswered, is_of_port, waits_under};
-ghost use Rattle.request_queue.specs.Dispositions.{CompletesAllWith, AreResolved, IsResolved, disposition_of};
-ghost use Rattle.request_queue.specs.declared.disposition.Disposition.TheVariants.{Complete};
+ghost use Rattle.request_queue.specs.{BookEntries.{BookEntry, IsUnanswered, is_of_port, waits_under}, Dispositions.{CompletesAllWith, AreResolved, IsResolved, disposition_of}, declared.disposition.Disposition.TheVariants.{Complete}};
 
 use crate::quarantine::Quarantine;
 use crate::served_port::Shared;
 use ata_types::{ClientId, Outcome, Port, Replies, Reply, RequestId};
 use request_queue::laws::{
-    law_accepted_is_preserved, law_an_id_is_one_request, law_answers_of_one_outcome_are_one_change,
-    law_operations_change_one_request, law_the_book_stays_in_order,
+    law_an_id_is_one_request, law_answers_of_one_outcome_are_one_change,
+    law_book_stays_well_formed, law_operations_change_one_request, law_well_formed_entries_stay,
 };
 use request_queue::{Disposition, FailedRequest, Revalidation};
+
+/// What decides on the disposition of each request of a port, after an error or a reset.
+#[derive(Clone, Copy)]
+pub(crate) struct DispositionInputs {
+    /// The request whose command failed, where it is known.
+    pub(crate) failed: Option<FailedRequest>,
+    /// What the port is, once it was booted where it had to be.
+    pub(crate) revalidation: Revalidation,
+}
 
 impl Shared {
     /// Resolves one request.
@@ -24,29 +30,28 @@ impl Shared {
         &mut self,
         kept: &mut Quarantine,
         id: RequestId,
-        failed: &Option<FailedRequest>,
-        revalidation: Revalidation,
+        stopped: &DispositionInputs,
         replies: &mut Replies,
     )
         requires may { MayAnswerAll self.old.table.value self.old.book replies.old.items }
-        requires here { (request : BookEntry) × Contains self.old.book request × (request.entry.id ≡ id)
+        requires here { (request : BookEntry) × Contains self.old.book request × (request.request.id ≡ id)
             × HasLoanRoom request kept.old }
-        ensures resolves { (request : BookEntry) → Contains self.old.book request → request.entry.id ≡ id
+        ensures resolves { (request : BookEntry) → Contains self.old.book request → request.request.id ≡ id
             → (its : List Reply) × (replies.new.items ≡ replies.old.items ++ its)
-            × IsResolved request (disposition_of failed.now revalidation request.entry) its
+            × IsResolved request (disposition_of stopped.now.failed stopped.now.revalidation request.request) its
             (book_and_loans self.old.book self.old.table.value kept.old)
             (book_and_loans self.new.book self.new.table.value kept.new) }
-        ensures others { (e : BookEntry) → Contains self.old.book e → e.entry.id ≢ id → Contains self.new.book e }
+        ensures others { (e : BookEntry) → Contains self.old.book e → e.request.id ≢ id → Contains self.new.book e }
         ensures places { (request : BookEntry) (rest : List BookEntry) → Contains self.old.book request
-            → request.entry.id ≡ id → HaveLoanRoom (request ∷ rest) kept.old → HaveLoanRoom rest kept.new }
+            → request.request.id ≡ id → HaveLoanRoom (request ∷ rest) kept.old → HaveLoanRoom rest kept.new }
         ensures may { MayAnswerAll self.new.table.value self.new.book replies.new.items }
     {
         law_an_id_is_one_request();
-        law_accepted_is_preserved();
+        law_well_formed_entries_stay();
         law_operations_change_one_request();
-        law_the_book_stays_in_order();
+        law_book_stays_well_formed();
         let entry = self.book.request(id);
-        match entry.disposition(failed, revalidation) {
+        match entry.disposition(&stopped.failed, stopped.revalidation) {
             Disposition::Wait => {}
             Disposition::Requeue => self.book.requeue(id),
             Disposition::Complete(outcome) => {
@@ -54,7 +59,7 @@ impl Shared {
                     let (_, loan) = self.book.answer(id);
                     kept.keep(loan);
                 } else {
-                    self.book.release(id, &mut self.table);
+                    self.book.remove_and_give_back(id, &mut self.table);
                 }
                 replies.push(Reply {
                     id,
@@ -70,18 +75,18 @@ impl Shared {
         requires may { MayAnswerAll self.old.table.value self.old.book replies.old.items }
         requires here { IsUnanswered id self.old.book }
         ensures resolves { (request : BookEntry) (kept : List Lending) → Contains self.old.book request
-            → request.entry.id ≡ id → (its : List Reply) × (replies.new.items ≡ replies.old.items ++ its)
+            → request.request.id ≡ id → (its : List Reply) × (replies.new.items ≡ replies.old.items ++ its)
             × IsResolved request (Complete Revoked) its (book_and_loans self.old.book self.old.table.value kept)
             (book_and_loans self.new.book self.new.table.value kept) }
-        ensures others { (e : BookEntry) → Contains self.old.book e → e.entry.id ≢ id → Contains self.new.book e }
+        ensures others { (e : BookEntry) → Contains self.old.book e → e.request.id ≢ id → Contains self.new.book e }
         ensures may { MayAnswerAll self.new.table.value self.new.book replies.new.items }
     {
         law_an_id_is_one_request();
-        law_accepted_is_preserved();
+        law_well_formed_entries_stay();
         law_operations_change_one_request();
-        law_the_book_stays_in_order();
+        law_book_stays_well_formed();
         let table = &mut *self.table;
-        let entry = self.book.release(id, table);
+        let entry = self.book.remove_and_give_back(id, table);
         replies.push(Reply {
             id,
             client: entry.client,
@@ -113,22 +118,22 @@ impl Shared {
         &mut self,
         kept: &mut Quarantine,
         port: Port,
-        failed: &Option<FailedRequest>,
-        revalidation: Revalidation,
+        stopped: &DispositionInputs,
         replies: &mut Replies,
     )
-        requires may { MayAnswerAll self.old.table.value self.old.book replies.old.items }
-        requires places { HaveLoanRoom (filter (λ (e : BookEntry). is_of_port port e.entry) self.old.book) kept.old }
+        requires all_may_be_answered { MayAnswerAll self.old.table.value self.old.book replies.old.items }
+        requires loans_have_room { HaveLoanRoom (filter (λ (e : BookEntry). is_of_port port e.request) self.old.book)
+            kept.old }
         ensures resolves { (its : List Reply) × (replies.new.items ≡ replies.old.items ++ its)
-            × AreResolved (disposition_of failed.now revalidation)
-            (filter (λ (e : BookEntry). is_of_port port e.entry) self.old.book) its
+            × AreResolved (disposition_of stopped.now.failed stopped.now.revalidation)
+            (filter (λ (e : BookEntry). is_of_port port e.request) self.old.book) its
             (book_and_loans self.old.book self.old.table.value kept.old)
             (book_and_loans self.new.book self.new.table.value kept.new) }
         ensures may { MayAnswerAll self.new.table.value self.new.book replies.new.items }
     {
         let ids = self.book.ids_of(port);
         for place in 0..ids.len() {
-            self.resolve_one(kept, ids[place], failed, revalidation, replies);
+            self.resolve_one(kept, ids[place], stopped, replies);
         }
     }
 }

@@ -1,15 +1,11 @@
 // What is due on a port is issued.
-ghost use Rattle.std.specs.Prelude.{◌≡◌, ◌<◌, ◌≤◌, ◌/◌, ◌%◌, [], ◌∷◌, length};
+ghost use Rattle.std.specs.{Prelude.{◌≡◌, ◌<◌, ◌≤◌, ◌/◌, ◌%◌, [], ◌∷◌, length}, List.{Contains}};
 ghost use Rattle.block_machine.specs.DueRequests.{IsDue};
-ghost use Rattle.port_driver.specs.Issuing.{IssuesWhatIsDue, MayIssueDue};
-ghost use Rattle.port_driver.specs.LentSlots.{HasFoundPort, FitsSlot, with_port_slots};
-ghost use Rattle.commands.specs.Issuing.{IsIssued, MayIssueTask};
+ghost use Rattle.port_driver.specs.{Issuing.{IssuesWhatIsDue, MayIssueDue}, LentSlots.{HasPortToIssue, FitsSlot, with_port_slots}};
+ghost use Rattle.commands.specs.{Issuing.{IsIssued, MayIssueTask}, Costs.{ISSUE_ACCESSES}};
 ghost use Rattle.request_queue.specs.BookEntries.{BookEntry, as_unanswered, unanswered_of, due_ids};
-ghost use Rattle.server_history.specs.IssuingAndAnswering.{IssuesTogether};
-ghost use Rattle.server_history.specs.ServerState.{ServerState};
-ghost use Rattle.std.specs.List.{Contains};
+ghost use Rattle.server_history.specs.{IssuingAndAnswering.{IssuesTogether}, ServerState.{ServerState}};
 ghost use Rattle.adapter.specs.AccessBounds.{MakesAtMost};
-ghost use Rattle.commands.specs.Costs.{ISSUE_ACCESSES};
 
 use crate::served_port::ServedPort;
 use adapter::Adapter;
@@ -21,7 +17,7 @@ use commands::{Task, issue, issue_all, issue_flush, issue_trim, store_transfer};
 use hba_regs::with_bit;
 use host_boot::ProbeResult;
 use request_queue::laws::{
-    law_an_id_is_one_request, law_operations_change_what_is_due, law_the_book_stays_in_order,
+    law_an_id_is_one_request, law_book_stays_well_formed, law_operations_change_what_is_due,
 };
 use request_queue::{Book, DueIds};
 use server_history::laws::{
@@ -49,10 +45,11 @@ impl ServedPort {
     /// Issues a due request of the port, which is ready, in the lowest free slot.
     fn issue_one<A: Adapter>(&mut self, adapter: &mut A, book: &mut Book, port: Port, id: RequestId)
         requires may { MayIssueDue A.device port self.old adapter.old book.old }
-        requires due { (request : BookEntry) × Contains book.old request × (request.entry.id ≡ id)
-            × (request.entry.port ≡ port) × IsDue self.old.mode (unanswered_of book.old) (as_unanswered request.entry) }
+        requires due { (request : BookEntry) × Contains book.old request × (request.request.id ≡ id)
+            × (request.request.port ≡ port)
+            × IsDue self.old.mode (unanswered_of book.old) (as_unanswered request.request) }
         ensures issues { (s : ServerState)
-            → HasFoundPort s (A.device adapter.old) book.old self.old.slots port self.old.mode self.old.found
+            → HasPortToIssue s (A.device adapter.old) book.old self.old.slots port self.old.mode self.old.probe_result
             → IssuesTogether port (id ∷ []) s (with_port_slots s (A.device adapter.new) book.new self.new.slots port) }
         ensures rest { self.new ≡ record self.old { slots = self.new.slots } }
         ensures cost { MakesAtMost ISSUE_ACCESSES (A.access_count adapter.old) (A.access_count adapter.new) }
@@ -80,11 +77,11 @@ impl ServedPort {
             book.old book.new }
     {
         law_due_in_turn();
-        law_the_book_stays_in_order();
+        law_book_stays_well_formed();
         if book.is_empty() {
             return;
         }
-        match book.lone_due(self.mode, port) {
+        match book.lone_due_id(self.mode, port) {
             Some(id) => self.issue_one(adapter, book, port, id),
             None => self.issue_listed(adapter, book, port),
         }
@@ -98,7 +95,7 @@ impl ServedPort {
             book.old book.new }
     {
         law_due_in_turn();
-        law_the_book_stays_in_order();
+        law_book_stays_well_formed();
         let mut due = DueIds::new();
         book.issuable(self.mode, port, &mut due);
         match due.len() {
@@ -129,7 +126,7 @@ impl ServedPort {
         law_due_in_turn();
         law_due_requests_get_slots();
         law_operations_change_what_is_due();
-        law_the_book_stays_in_order();
+        law_book_stays_well_formed();
         let mut mask = 0;
         for place in 0..due.len() {
             let id = due[place];
@@ -151,13 +148,13 @@ impl ServedPort {
 
     /// Issues the due requests of the port, in order of acceptance, if it is ready. On one that isn't none is due.
     pub fn issue_where_ready<A: Adapter>(&mut self, adapter: &mut A, book: &mut Book, port: Port)
-        requires lends { (s : ServerState)
-            × HasFoundPort s (A.device adapter.old) book.old self.old.slots port self.old.mode self.old.found }
+        requires server_has_port { (s : ServerState)
+            × HasPortToIssue s (A.device adapter.old) book.old self.old.slots port self.old.mode self.old.probe_result }
         ensures { IssuesWhatIsDue A.device A.access_count port self.old self.new adapter.old adapter.new
             book.old book.new }
     {
         law_a_port_goes_on_after_its_errors();
-        if let ProbeResult::Ready(_) = self.found {
+        if let ProbeResult::Ready(_) = self.probe_result {
             self.issue_due(adapter, book, port);
         }
     }

@@ -1,8 +1,7 @@
 // Loans of a dead port that are kept when their requests are answered, until a reset ends, or the server: the device
 // may still move their sectors.
 ghost use Rattle.std.specs.Prelude.{◌≡◌, ◌<◌, ◌++◌, ◌∷◌, [], All, AllPairs, Contains, IfOk, length};
-ghost use Rattle.server_history.specs.KeptLoans.{TakesBack};
-ghost use Rattle.server_history.specs.ServerState.{DifferInRequest, IsLentOut};
+ghost use Rattle.server_history.specs.{KeptLoans.{GivesBackLoans}, ServerState.{DifferInRequest, IsLentOut}};
 
 use ata_types::SLOTS;
 use dma_frames::{FrameTable, Loan};
@@ -47,9 +46,9 @@ impl Quarantine {
     /// Ends the loans: their frames are lent to none.
     pub fn give_back(&mut self, table: &mut FrameTable)
         requires lent { All (IsLentOut table.old) self.old }
-        requires apart { AllPairs DifferInRequest self.old }
+        requires loans_differ_in_request { AllPairs DifferInRequest self.old }
         ensures empty { self.new ≡ [] }
-        ensures back { TakesBack table.old table.new (Contains self.old) }
+        ensures takes_loans_back { GivesBackLoans table.old table.new (Contains self.old) }
     {
         law_loans_end_in_turn();
         while let Some(loan) = self.loans.pop() {

@@ -1,27 +1,21 @@
 // The error handler of a port: it is recovered, where a command had failed, else stopped; and booted anew where it has
 // to be.
 ghost use Rattle.std.specs.Prelude.{ℕ, ◌≡◌, ◌≤◌, ◌+◌, ◌++◌, IsTrue, ◌↔◌, Some, List, AllPairs, IsPermutation, drop, length, take};
-ghost use Rattle.ata_types.specs.declared.request.Reply.{Reply};
-ghost use Rattle.port_driver.specs.Recovery.{CompletesAndRecovers, IsInError, error_of};
-ghost use Rattle.server_history.specs.ServerState.{ServerState};
-ghost use Rattle.ata_types.specs.declared.Port.{Port};
-ghost use Rattle.adapter.specs.Rules.{IsOn};
+ghost use Rattle.ata_types.specs.{declared.request.Reply.{Reply}, declared.Port.{Port}};
+ghost use Rattle.port_driver.specs.{Recovery.{CompletesAndRecovers, IsInError, error_of}, Costs.{booting_accesses, handling_accesses}};
+ghost use Rattle.server_history.specs.{ServerState.{ServerState, probed_mode}, ErrorHandling.{AreAllQueuedAs, BootsAfter, IsFailedRequest, IsFoundAfterError, IsRevalidation, IsDiskOfSameSerialAndSize, ErrorHandlingIsBacked}};
+ghost use Rattle.adapter.specs.{Rules.{IsOn}, AccessBounds.{MakesAtMost}};
 ghost use Rattle.identify.specs.declared.error_log.FailedSlot.{FailedSlot};
-ghost use Rattle.error_recovery.specs.Recovery.{MayHandleError, MayRecover, RecoversOrStops};
+ghost use Rattle.error_recovery.specs.Recovery.{MayHandleError, PortMayRecover, RecoversOrStops};
 ghost use Rattle.host_boot.specs.declared.ProbeResult.TheVariants.{Ready};
 ghost use Rattle.port_boot.specs.States.{IsBootable};
 ghost use Rattle.port_control.specs.Ports.{IsStopped};
-ghost use Rattle.port_control.specs.declared.Stopped as stopped_token;
-ghost use Rattle.server_history.specs.ErrorHandling.{AreAllQueuedAs, BootsAfter, IsFailedRequest, IsRevalidated, IsRevalidation, IsSameDisk, TellsErrorHandling};
-ghost use Rattle.server_history.specs.ServerState.{probed_mode};
-ghost use Rattle.slots.specs.SlotUses.{use_at};
-ghost use Rattle.slots.specs.declared.SlotUse.{SlotUse};
-ghost use Rattle.adapter.specs.AccessBounds.{MakesAtMost};
+ghost use Rattle.slots.specs.{SlotUses.{use_at}, declared.SlotUse.{SlotUse}};
 ghost use Rattle.commands.specs.Costs.{DONE_ACCESSES};
-ghost use Rattle.port_driver.specs.Costs.{booting_accesses, handling_accesses};
+ghost use Rattle.port_control.specs.declared.Stopped as stopped_token;
 
 use super::answering::answer_done;
-use super::modes::{PLAIN, probed_mode};
+use super::modes::{PLAIN_MODE, probed_mode};
 use super::served_port::{ServedPort, Shared};
 use adapter::Adapter;
 use ata_types::{MOST_READINGS, MOST_UNANSWERED, Port, PortState, Replies};
@@ -58,11 +52,11 @@ fn recover_or_stop<A: Adapter>(
     queued: bool,
 ) -> Recovered
     requires ready { MayHandleError port outstanding queued (A.device adapter.old) }
-    requires may { port_error ≡ PortError.TaskFileError → MayRecover port.0 (A.device adapter.old) }
-    ensures on { IsOn (A.device adapter.new) }
+    requires may { port_error ≡ PortError.TaskFileError → PortMayRecover port.0 (A.device adapter.old) }
+    ensures adapter_is_on { IsOn (A.device adapter.new) }
     ensures handling { (m : RecoversOrStops port outstanding queued result (A.device adapter.old)
         (A.device adapter.new))
-        × TellsErrorHandling port_error port outstanding queued result m.accesses (A.device adapter.old)
+        × ErrorHandlingIsBacked port_error port outstanding queued result m.accesses (A.device adapter.old)
         (A.device adapter.new) }
     ensures cost { MakesAtMost (handling_accesses port_error) (A.access_count adapter.old)
         (A.access_count adapter.new) }
@@ -85,14 +79,15 @@ impl ServedPort {
         port_error: PortError,
         replies: &mut Replies,
     ) -> (Option<FailedRequest>, Next)
-        requires sees { (s : ServerState)
+        requires server_is_in_error { (s : ServerState)
             × IsInError s (A.device adapter.old) shared.old port self.old port_error }
         requires room { length replies.old.items + length shared.old.book ≤ MOST_UNANSWERED }
-        ensures on { IsOn (A.device adapter.new) }
-        ensures handling { (s : ServerState) → IsInError s (A.device adapter.old) shared.old port self.old port_error
+        ensures adapter_is_on { IsOn (A.device adapter.new) }
+        ensures completes_and_recovers { (s : ServerState)
+            → IsInError s (A.device adapter.old) shared.old port self.old port_error
             → CompletesAndRecovers port port_error replies.old.items replies.new.items result.0 result.1 s
             shared.new.table.value shared.new.book self.new.slots (A.device adapter.new) }
-        ensures rest { self.new ≡ record self.old { slots = self.new.slots } }
+        ensures only_slots_change { self.new ≡ record self.old { slots = self.new.slots } }
         ensures room { length replies.new.items + length shared.new.book ≤ MOST_UNANSWERED }
         ensures cost { MakesAtMost (DONE_ACCESSES + handling_accesses port_error)
             (A.access_count adapter.old) (A.access_count adapter.new) }
@@ -127,9 +122,9 @@ pub(crate) fn sort_replies_from(replies: &mut Replies, first: usize)
 
 /// Whether the commands of the used slots are queued, which all of them are, or none.
 pub(crate) fn are_queued(slots: &Slots) -> bool
-    requires alike { (slot : ℕ) (used : SlotUse) → use_at slots.now slot ≡ Some used
+    requires all_queued_or_none { (slot : ℕ) (used : SlotUse) → use_at slots.now slot ≡ Some used
         → AreAllQueuedAs used.queued slots.now }
-    requires places { length slots.now.places ≡ 32 }
+    requires places { length slots.now.slot_uses ≡ 32 }
     ensures { AreAllQueuedAs result slots.now }
 {
     let Some(slot) = slots.earliest(u32::MAX) else {
@@ -169,8 +164,8 @@ fn boot_after<A: Adapter>(
 ) -> Booted
     requires bootable { IsBootable stopped.port (A.device adapter.old) }
     requires stopped { IsStopped ((A.device adapter.old).port stopped.port.0) }
-    requires saw { ((A.device adapter.old).port stopped.port.0).notes.link_count ≡ MOST_READINGS }
-    ensures on { IsOn (A.device adapter.new) }
+    requires saw { ((A.device adapter.old).port stopped.port.0).notes.link_wait_count ≡ MOST_READINGS }
+    ensures adapter_is_on { IsOn (A.device adapter.new) }
     ensures boots { BootsAfter port_error wanted.now stopped.port result (A.device adapter.old) (A.device adapter.new) }
     ensures cost { MakesAtMost (booting_accesses port_error) (A.access_count adapter.old) (A.access_count adapter.new) }
 {
@@ -190,15 +185,15 @@ pub(crate) fn resume_or_reboot<A: Adapter>(
     mode: QueueMode,
     wanted: &Wanted,
 ) -> (ProbeResult, QueueMode)
-    requires on { IsOn (A.device adapter.old) }
+    requires adapter_is_on { IsOn (A.device adapter.old) }
     requires mode { mode ≡ probed_mode (A.device adapter.old).cap (Ready was.now) }
     requires bootable { (stopped : stopped_token.Stopped) → next ≡ Next.Restart stopped
         → IsBootable stopped.port (A.device adapter.old)
         × IsStopped ((A.device adapter.old).port stopped.port.0)
-        × (((A.device adapter.old).port stopped.port.0).notes.link_count ≡ MOST_READINGS) }
-    ensures on { IsOn (A.device adapter.new) }
+        × (((A.device adapter.old).port stopped.port.0).notes.link_wait_count ≡ MOST_READINGS) }
+    ensures adapter_is_on { IsOn (A.device adapter.new) }
     ensures found { (port : Port) → ((stopped : stopped_token.Stopped) → next ≡ Next.Restart stopped
-        → stopped.port ≡ port) → IsRevalidated wanted.now port port_error was.now next (A.device adapter.old)
+        → stopped.port ≡ port) → IsFoundAfterError wanted.now port port_error was.now next (A.device adapter.old)
         (A.device adapter.new) result.0 }
     ensures mode { result.1 ≡ probed_mode (A.device adapter.new).cap result.0 }
     ensures cost { MakesAtMost (booting_accesses port_error) (A.access_count adapter.old) (A.access_count adapter.new) }
@@ -207,16 +202,16 @@ pub(crate) fn resume_or_reboot<A: Adapter>(
         Next::Running(_) => (ProbeResult::Ready(*was), mode),
         Next::Restart(stopped) => {
             let booted = boot_after(adapter, port_error, stopped, wanted);
-            let mode = probed_mode(booted.slots, booted.queued, &booted.found);
+            let mode = probed_mode(booted.slot_count, booted.supports_ncq, &booted.found);
             (booted.found, mode)
         }
-        Next::Dead => (ProbeResult::Unready(PortState::Dead), PLAIN),
+        Next::Dead => (ProbeResult::Unready(PortState::Dead), PLAIN_MODE),
     }
 }
 
 /// Whether a disk is the one that was there: it has the same serial number, and as many sectors.
 pub(crate) fn is_same_disk(was: &DiskInfo, info: &DiskInfo) -> bool
-    ensures { IsTrue result ↔ IsSameDisk was.now info.now }
+    ensures { IsTrue result ↔ IsDiskOfSameSerialAndSize was.now info.now }
 {
     info.serial == was.serial && info.sectors == was.sectors
 }

@@ -1,12 +1,9 @@
 // A port that a server drives, and what all its ports share.
 ghost use Rattle.std.specs.Prelude.{◌≡◌, ◌≤◌};
 ghost use Rattle.port_driver.specs.PortAndShared.{NotesProbeResult, no_port};
-ghost use Rattle.server_history.specs.ErrorHandling.{HasNoUsedSlot};
-ghost use Rattle.server_history.specs.ServerState.{last_disk_of, plain_mode};
-ghost use Rattle.server_history.specs.StuckServer.{found_after_stuck_reset};
-ghost use Rattle.server_history.specs.Turns.{is_ready};
+ghost use Rattle.server_history.specs.{ErrorHandling.{HasNoUsedSlot}, ServerState.{last_disk_of, plain_mode}, StuckServer.{found_after_stuck_reset}, Turns.{is_ready}};
 
-use crate::modes::PLAIN;
+use crate::modes::PLAIN_MODE;
 use crate::quarantine::Quarantine;
 use ata_types::PortState;
 use block_machine::QueueMode;
@@ -21,7 +18,7 @@ pub struct ServedPort {
     /// Which disk is to be served here, if any: it stays so.
     pub wanted: Wanted,
     /// What the port was found to be.
-    pub found: ProbeResult,
+    pub probe_result: ProbeResult,
     /// The disk that it was last ready with, once it isn't ready, or its error was handled, or its adapter was reset.
     pub remembered: Option<DiskInfo>,
     /// How it takes commands.
@@ -49,19 +46,19 @@ impl ServedPort {
     {
         ServedPort {
             wanted,
-            found: ProbeResult::Unserved,
+            probe_result: ProbeResult::Unserved,
             remembered: None,
-            mode: PLAIN,
-            slots: Slots::new(PLAIN.usable),
+            mode: PLAIN_MODE,
+            slots: Slots::new(PLAIN_MODE.usable_slots),
             kept,
         }
     }
 
     /// The disk that it is ready with, or was last ready with, if it ever was.
     pub fn last_disk(&self) -> Option<DiskInfo>
-        ensures { result ≡ last_disk_of self.now.found self.now.remembered }
+        ensures { result ≡ last_disk_of self.now.probe_result self.now.remembered }
     {
-        match &self.found {
+        match &self.probe_result {
             ProbeResult::Ready(info) => Some(*info),
             _ => self.remembered,
         }
@@ -69,9 +66,9 @@ impl ServedPort {
 
     /// Whether it is ready.
     pub fn is_ready(&self) -> bool
-        ensures { result ≡ is_ready self.now.found }
+        ensures { result ≡ is_ready self.now.probe_result }
     {
-        match self.found {
+        match self.probe_result {
             ProbeResult::Ready(_) => true,
             _ => false,
         }
@@ -80,25 +77,25 @@ impl ServedPort {
     /// Notes what it was found to be by a boot, or once its error was handled, and how it takes commands then. The disk
     /// that it was last ready with is remembered, and no slot of it is used.
     pub fn note_probe_result(&mut self, found: ProbeResult, mode: QueueMode)
-        requires { mode.usable ≤ 32 }
+        requires { mode.usable_slots ≤ 32 }
         ensures { NotesProbeResult found mode self.old self.new }
     {
         self.remembered = self.last_disk();
-        self.found = found;
+        self.probe_result = found;
         self.mode = mode;
-        self.slots = Slots::new(mode.usable);
+        self.slots = Slots::new(mode.usable_slots);
     }
 
     /// Notes that a reset of its adapter got stuck: it is dead, if it is served, its disk is remembered, it takes
     /// plain commands, and no slot of it is used.
     pub fn note_stuck_reset(&mut self)
-        ensures { NotesProbeResult (found_after_stuck_reset self.old.found) plain_mode self.old self.new }
+        ensures { NotesProbeResult (found_after_stuck_reset self.old.probe_result) plain_mode self.old self.new }
     {
-        let found = match self.found {
+        let found = match self.probe_result {
             ProbeResult::Unserved => ProbeResult::Unserved,
             _ => ProbeResult::Unready(PortState::Dead),
         };
-        self.note_probe_result(found, PLAIN);
+        self.note_probe_result(found, PLAIN_MODE);
     }
 
     /// Its loans.
@@ -107,7 +104,7 @@ impl ServedPort {
     {
         let ServedPort {
             wanted: _,
-            found: _,
+            probe_result: _,
             remembered: _,
             mode: _,
             slots: _,

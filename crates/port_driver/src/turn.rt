@@ -2,17 +2,14 @@
 ghost use Rattle.std.specs.Prelude.{ℕ, ◌≡◌, ◌⊎◌, ◌<◌, ◌≤◌, ◌+◌, ◌↔◌, IsTrue, List, length, true, false};
 ghost use Rattle.adapter.specs.AccessBounds.{MakesAtMost};
 ghost use Rattle.ata_types.specs.declared.PortState.TheVariants.{Ready};
-ghost use Rattle.port_driver.specs.Costs.{ISSUE_DUE_ACCESSES, TURN_ACCESSES, port_error_accesses};
-ghost use Rattle.port_driver.specs.PortAndShared.{IsSettledWith, TakesTurn, TurnInService, TurnInTick, with_served_port};
-ghost use Rattle.port_driver.specs.Recovery.{HandlesPortErrorOf, IsInError};
+ghost use Rattle.port_driver.specs.{Costs.{ISSUE_DUE_ACCESSES, TURN_ACCESSES, port_error_accesses}, PortAndShared.{IsSettledWith, TakesTurn, TurnInService, TurnInTick, with_served_port}, Recovery.{HandlesPortErrorOf, IsInError}};
 ghost use Rattle.hba_regs.specs.Bits.{bit};
 ghost use Rattle.refinement.specs.Slots.{IsOver};
-ghost use Rattle.request_queue.specs.BookEntries.{BookEntry, IsOverdue};
-ghost use Rattle.server_history.specs.IssuingAndAnswering.{AnswersDone};
-ghost use Rattle.server_history.specs.ServerState.{ServerState, SettledInvariant, state_of};
-ghost use Rattle.server_history.specs.Turns.{ProbesUnready, ServicesPort, is_ready};
+ghost use Rattle.request_queue.specs.BookEntries.{BookEntry, HasOverdueOn};
+ghost use Rattle.server_history.specs.{IssuingAndAnswering.{AnswersDoneAndIssues}, ServerState.{ServerState, SettledInvariant, state_of}, Turns.{ProbesUnready, ServicesPort, is_ready}};
 
 use crate::answering::answer_done;
+use crate::dispositions::DispositionInputs;
 use crate::probing::{needs_probe, probe_anew};
 use crate::recovery::{error_of, resume_or_reboot, revalidation_of, sort_replies_from};
 use crate::served_port::{ServedPort, Shared};
@@ -22,8 +19,8 @@ use commands::done;
 use host_boot::ProbeResult;
 use port_control::events::{PortError, take_event};
 use server_history::laws::{
-    law_a_finished_port_settles, law_a_port_goes_on_after_its_errors, law_a_port_is_served,
-    law_a_timed_out_port_is_restarted, law_an_unready_port_is_probed, law_looks_preserve_invariant,
+    law_a_port_goes_on_after_its_errors, law_a_port_is_served, law_a_timed_out_port_is_restarted,
+    law_an_unready_port_is_probed, law_answer_and_issue_settle, law_looks_preserve_invariant,
 };
 
 impl ServedPort {
@@ -37,18 +34,18 @@ impl ServedPort {
         finished: u32,
         replies: &mut Replies,
     )
-        requires ready { state_of self.old.found ≡ Ready }
+        requires ready { state_of self.old.probe_result ≡ Ready }
         requires settled { (s : ServerState) × IsSettledWith s (A.device adapter.old) shared.old port self.old }
         requires over { (slot : ℕ) → slot < 32 → bit finished slot ≡ true
             → IsOver ((A.device adapter.old).port port.0) slot }
         requires room { length replies.old.items + length shared.old.book ≤ MOST_UNANSWERED }
         ensures finishes { (s : ServerState) → IsSettledWith s (A.device adapter.old) shared.old port self.old
-            → TakesTurn (AnswersDone port finished) replies.old.items replies.new.items s
+            → TakesTurn (AnswersDoneAndIssues port finished) replies.old.items replies.new.items s
             (with_served_port s (A.device adapter.new) shared.new port self.new) }
         ensures room { length replies.new.items + length shared.new.book ≤ MOST_UNANSWERED }
         ensures cost { MakesAtMost ISSUE_DUE_ACCESSES (A.access_count adapter.old) (A.access_count adapter.new) }
     {
-        law_a_finished_port_settles();
+        law_answer_and_issue_settle();
         answer_done(
             &mut shared.book,
             &mut shared.table,
@@ -86,7 +83,7 @@ impl ServedPort {
         law_a_port_goes_on_after_its_errors();
         law_a_port_is_served();
         law_a_timed_out_port_is_restarted();
-        let ProbeResult::Ready(was) = self.found else {
+        let ProbeResult::Ready(was) = self.probe_result else {
             unreachable!()
         };
         let first = replies.len();
@@ -100,8 +97,11 @@ impl ServedPort {
             &self.wanted,
         );
         self.note_probe_result(found, mode);
-        let revalidation = revalidation_of(port_error, &was, &found);
-        shared.resolve(&mut self.kept, port, &failed, revalidation, replies);
+        let stopped = DispositionInputs {
+            failed,
+            revalidation: revalidation_of(port_error, &was, &found),
+        };
+        shared.resolve(&mut self.kept, port, &stopped, replies);
         sort_replies_from(replies, first);
         self.issue_where_ready(adapter, &mut shared.book, port);
     }
@@ -115,7 +115,7 @@ impl ServedPort {
         port: Port,
         replies: &mut Replies,
     )
-        requires ready { state_of self.old.found ≡ Ready }
+        requires ready { state_of self.old.probe_result ≡ Ready }
         requires settled { (s : ServerState) × IsSettledWith s (A.device adapter.old) shared.old port self.old }
         requires room { length replies.old.items + length shared.old.book ≤ MOST_UNANSWERED }
         ensures serves { (s : ServerState) → IsSettledWith s (A.device adapter.old) shared.old port self.old
@@ -144,7 +144,7 @@ impl ServedPort {
     /// it is another by now, or gone, the port is stopped and booted. Nobody waits for it, so that nobody is answered.
     /// A dead port isn't looked at: no access is made.
     fn probe<A: Adapter>(&mut self, adapter: &mut A, port: Port, state: PortState)
-        requires unready { self.old.found ≡ ProbeResult.Unready state }
+        requires unready { self.old.probe_result ≡ ProbeResult.Unready state }
         requires settled { (s : ServerState) × (shared : Shared)
             × IsSettledWith s (A.device adapter.old) shared port self.old }
         ensures probes { (s : ServerState) (shared : Shared)
@@ -174,14 +174,14 @@ impl ServedPort {
         requires settled { (s : ServerState) × IsSettledWith s (A.device adapter.old) shared.old port self.old }
         requires room { length replies.old.items + length shared.old.book ≤ MOST_UNANSWERED }
         ensures turn { (s : ServerState) → IsSettledWith s (A.device adapter.old) shared.old port self.old
-            → TakesTurn (TurnInService self.old.found port) replies.old.items replies.new.items s
+            → TakesTurn (TurnInService self.old.probe_result port) replies.old.items replies.new.items s
             (with_served_port s (A.device adapter.new) shared.new port self.new) }
-        ensures untouched { (self.old.found ≡ ProbeResult.Unserved)
-            ⊎ (self.old.found ≡ ProbeResult.Unready PortState.Dead) → adapter.new ≡ adapter.old }
+        ensures no_access_if_unserved { (self.old.probe_result ≡ ProbeResult.Unserved)
+            ⊎ (self.old.probe_result ≡ ProbeResult.Unready PortState.Dead) → adapter.new ≡ adapter.old }
         ensures room { length replies.new.items + length shared.new.book ≤ MOST_UNANSWERED }
         ensures cost { MakesAtMost TURN_ACCESSES (A.access_count adapter.old) (A.access_count adapter.new) }
     {
-        match self.found {
+        match self.probe_result {
             ProbeResult::Ready(_) => self.service_ready(adapter, shared, port, replies),
             ProbeResult::Unready(state) => self.probe(adapter, port, state),
             ProbeResult::Unserved => {}
@@ -200,18 +200,19 @@ impl ServedPort {
     )
         requires settled { (s : ServerState) × IsSettledWith s (A.device adapter.old) shared.old port self.old }
         requires room { length replies.old.items + length shared.old.book ≤ MOST_UNANSWERED }
-        ensures turn { (s : ServerState) (book : List BookEntry) → IsTrue is_overdue ↔ IsOverdue port book
+        ensures turn { (s : ServerState) (book : List BookEntry) → IsTrue is_overdue ↔ HasOverdueOn port book
             → IsSettledWith s (A.device adapter.old) shared.old port self.old
-            → TakesTurn (TurnInTick self.old.found book port) replies.old.items replies.new.items s
+            → TakesTurn (TurnInTick self.old.probe_result book port) replies.old.items replies.new.items s
             (with_served_port s (A.device adapter.new) shared.new port self.new) }
-        ensures rests { (is_ready self.old.found ≡ false) ⊎ (is_overdue ≡ false) → adapter.new ≡ adapter.old }
+        ensures no_access_if_not_overdue { (is_ready self.old.probe_result ≡ false) ⊎ (is_overdue ≡ false)
+            → adapter.new ≡ adapter.old }
         ensures room { length replies.new.items + length shared.new.book ≤ MOST_UNANSWERED }
         ensures cost { MakesAtMost (port_error_accesses PortError.TimedOut)
             (A.access_count adapter.old) (A.access_count adapter.new) }
     {
         law_looks_preserve_invariant();
         law_a_timed_out_port_is_restarted();
-        let ProbeResult::Ready(_) = self.found else {
+        let ProbeResult::Ready(_) = self.probe_result else {
             return;
         };
         if is_overdue {

@@ -23,16 +23,16 @@ IsIssueStep (Issue mode e) = Unit {0}
 IsIssueStep step = ⊥
 
 -- it issues a request of the port
-abbrev pub IsIssueOn : Port → Step → Type 0
-IsIssueOn port (Issue mode e) = e.request.port ≡ port
-IsIssueOn port step = ⊥
+abbrev pub IsIssueStepOn : Port → Step → Type 0
+IsIssueStepOn port (Issue mode e) = e.request.port ≡ port
+IsIssueStepOn port step = ⊥
 
 -- One act of the driver: an access, over which the device makes steps; or none, where the driver decides on a request
 -- or a slot. With it, the machine's steps meanwhile, the last one first, and what the driver knows then.
 pub record Act : Type 0 where
   pub access : Option Access
   pub steps : List Step
-  pub later : DriverState
+  pub state_after : DriverState
 
 -- the access leads from the old device to the new; without one, they are the same
 abbrev pub AccessLeads : Option Access → Device → Device → Type 0
@@ -44,7 +44,7 @@ AccessLeads (Some access) old new = Does access old new
 abbrev pub IsOneDecision : Access → List Step → Type 0
 IsOneDecision access [] = Unit {0}
 IsOneDecision access (step ∷ []) = Unit {0}
-IsOneDecision (Writing (Px port Ci) v) own = All (IsIssueOn port) own
+IsOneDecision (Writing (Px port Ci) v) own = All (IsIssueStepOn port) own
 IsOneDecision access own = ⊥
 
 -- Over an access these are the device's steps, and after them what the driver decides by it; without one, a step of
@@ -57,14 +57,14 @@ IsOneAct (Some access) steps = AllByDevice steps ⊎ ((own before : List Step) �
 -- The act is done, from a machine that agrees with what the driver knew: its steps lead to one that agrees with what it
 -- knows then.
 pub record IsActDone (k : DriverState) (m : Machine) (act : Act) : Type 0 where
-  pub access_leads : AccessLeads act.access k.device act.later.device
+  pub access_leads : AccessLeads act.access k.device act.state_after.device
   pub is_one_act : IsOneAct act.access act.steps
-  pub driver_advances : DriverAdvances k m act.steps act.later
+  pub driver_advances : DriverAdvances k m act.steps act.state_after
 
 -- one act after another, from the one machine to the next
 abbrev pub AreActsDone : List Act → DriverState → Machine → DriverState → Type 0
 AreActsDone [] k m later = later ≡ k
-AreActsDone (act ∷ acts) k m later = IsActDone k m act × AreActsDone acts act.later (after m act.steps) later
+AreActsDone (act ∷ acts) k m later = IsActDone k m act × AreActsDone acts act.state_after (after m act.steps) later
 
 -- the accesses that were made, in their order
 abbrev pub prepend_access : Option Access → List Access → List Access
@@ -85,28 +85,32 @@ act_steps (act ∷ acts) = act_steps acts ++ act.steps
 -- What the driver has put into each slot, and, by port, the requests that it took from their slots and hasn't decided
 -- on.
 pub record DriverSlots : Type 0 where
-  pub uses : SlotStates
-  pub parked : ℕ → List RequestId
+  pub slot_states : SlotStates
+  pub awaiting_disposition : ℕ → List RequestId
 
 -- with the device, all that the driver knows
-abbrev pub driver_state : DriverSlots → Device → DriverState
-driver_state s d = record { uses = s.uses; parked = s.parked; device = d }
+abbrev pub driver_state_of_slots : DriverSlots → Device → DriverState
+driver_state_of_slots s d = record {
+  slot_states = s.slot_states;
+  awaiting_disposition = s.awaiting_disposition;
+  device = d;
+}
 
 -- From this machine, acts with these accesses lead to what the driver knows then; and this is told of them.
 pub record ActsReach (accesses : List Access) (k : DriverState) (m : Machine) (later : DriverState) (Tells : List Act
     → Type 0) : Type 0 where
   pub acts : List Act
   pub acts_are_done : AreActsDone acts k m later
-  pub accesses_are : accesses_of acts ≡ accesses
-  pub tells : Tells acts
+  pub accesses_match_acts : accesses_of acts ≡ accesses
+  pub acts_are_such : Tells acts
 
 -- So it is whatever is in the slots, from each machine that is reached and agrees with that, where the two fit; and the
 -- acts lead to what is in the slots next.
 abbrev pub ActsReachWith : List Access → (DriverSlots → Machine → Type 0) → (DriverSlots → DriverSlots)
     → (DriverSlots → Machine → List Act → Type 0) → Device → Device → Type 0
 ActsReachWith accesses Fits next Tells old new = (s : DriverSlots) (m : Machine) → IsReachable m
-    → DriverRelation m (driver_state s old) → Fits s m
-    → ActsReach accesses (driver_state s old) m (driver_state (next s) new) (Tells s m)
+    → DriverRelation m (driver_state_of_slots s old) → Fits s m
+    → ActsReach accesses (driver_state_of_slots s old) m (driver_state_of_slots (next s) new) (Tells s m)
 
 -- a part of a call, which made these accesses, from the old device to the new
 pub record Performs (accesses : List Access) (Fits : DriverSlots → Machine → Type 0) (next : DriverSlots → DriverSlots)

@@ -6,7 +6,7 @@ use Rattle.adapter.specs.declared.tape.Entry.{Entry}
 use Rattle.refinement.specs.Slots.{Own, SlotStates, IsMove}
 
 -- slot 0 has a command issued, which has moved nothing if it is taken
-pub record HasMovedNothing (p : DevicePort) : Type 0 where
+pub record Slot0HasMovedNothing (p : DevicePort) : Type 0 where
   pub issued : p.ci 0 ≡ true
   pub unmoved : (t : FetchedCommand) → p.taken 0 ≡ Some t → t.moved ≡ 0
 
@@ -21,9 +21,9 @@ pub record PageHasCome (tape : List Entry) (port : ℕ) (o : Operation) (since :
 
 -- The driver's own command in slot 0 of a running port was issued when the tape was so long, and no reset is pending:
 -- it has brought nothing yet, or its page has come since.
-pub record AwaitsPage (uses : SlotStates) (port : ℕ) (o : Operation) (since : ℕ) (d : Device) : Type 0 where
+pub record AwaitsOrHasPage (uses : SlotStates) (port : ℕ) (o : Operation) (since : ℕ) (d : Device) : Type 0 where
   pub hr_is_clear : d.hr ≡ false
-  pub st : (d.port port).st ≡ true
-  pub own : uses port 0 ≡ Own o
+  pub st_is_set : (d.port port).st ≡ true
+  pub slot_0_has_own_command : uses port 0 ≡ Own o
   pub since_is_on_tape : since ≤ length d.tape
-  pub page_is_awaited_or_came : HasMovedNothing (d.port port) ⊎ PageHasCome d.tape port o since
+  pub page_is_awaited_or_came : Slot0HasMovedNothing (d.port port) ⊎ PageHasCome d.tape port o since

@@ -44,11 +44,11 @@ pub record BootWitness : Type 0 where
   pub may_quiet : IsStable (MayWrite (Px (port_at 0) Is) 0xffffffff) cleared
   pub quiets : Writes (Px (port_at 0) Is) 0xffffffff cleared quieted
   pub ready : Device
-  pub waits : Reads (Px (port_at 0) Tfd) 0x77 quieted ready
-  pub may : MayStart (ready.port 0)
+  pub tfd_is_read_idle : Reads (Px (port_at 0) Tfd) 0x77 quieted ready
+  pub port_may_start : MayStart (ready.port 0)
   pub started : Device
   pub may_start : IsStable (MayWrite (Px (port_at 0) Cmd) 0x11) ready
   pub starts : Writes (Px (port_at 0) Cmd) 0x11 ready started
   pub found : Device
-  pub tells : Reads (Px (port_at 0) Is) 0 started found
+  pub pxis_is_read_clear : Reads (Px (port_at 0) Is) 0 started found
   pub port_runs_well : RunsWell (found.port 0)

@@ -18,34 +18,35 @@ use Rattle.block_machine.specs.DueRequests.{is_plain}
 use Rattle.block_machine.specs.Steps.{Step, Issue, IsEnabled}
 use Rattle.block_machine.specs.Expected.{after, AllStepsFaithful}
 use Rattle.block_machine.specs.Events.{AllEnabled, AllByDevice}
-use Rattle.refinement.specs.MemoryLayout.{list_of, received_of, table_of, scratch_of, IsTableByte, IsScratch}
-use Rattle.refinement.specs.Slots.{Free, Armed, Own, Serves, SlotStates, set_slot_state, SlotDecodesTo, MeansRequest, HasTrimBlock, HasListInPlace, op_of}
-use Rattle.refinement.specs.Relation.{StateRelation, HaveSlots}
+use Rattle.refinement.specs.MemoryLayout.{command_list_address, received_fis_address, command_table_address, scratch_frame_address, IsHeaderOrTableByte, IsScratchByte}
+use Rattle.refinement.specs.Slots.{Free, Armed, Own, Serves, SlotStates, set_slot_state, SlotDecodesTo, MeansRequest, HasBlockIfTrim, HasListInPlace, client_operation_of}
+use Rattle.refinement.specs.Relation.{StateRelation, HaveSlotsUnlessParked}
 use Rattle.refinement.specs.Tape.{TellsDeviceSteps, PutsInDisks}
 
 -- ---- stores
 
 -- bytes of the header or of the table of a free slot
-pub record IsInFreeTable (uses : SlotStates) (at n : ℕ) : Type 0 where
+pub record IsInFreeHeaderOrTable (uses : SlotStates) (at n : ℕ) : Type 0 where
   pub port : ℕ
   pub slot : ℕ
-  pub below : port < 4
+  pub port_is_below_4 : port < 4
   pub slot_below : slot < 32
   pub free : uses port slot ≡ Free
-  pub here : ((list_of port + HEADER_BYTES * slot ≤ at) × (at + n ≤ list_of port + HEADER_BYTES * slot + HEADER_BYTES))
-      ⊎ ((table_of port slot ≤ at) × (at + n ≤ table_of port slot + TABLE_BYTES))
+  pub is_in_header_or_table : ((command_list_address port + HEADER_BYTES * slot ≤ at)
+      × (at + n ≤ command_list_address port + HEADER_BYTES * slot + HEADER_BYTES))
+      ⊎ ((command_table_address port slot ≤ at) × (at + n ≤ command_table_address port slot + TABLE_BYTES))
 
 -- bytes of the scratch frame of a port whose slot 0 is free
 pub record IsInFreeScratch (uses : SlotStates) (at n : ℕ) : Type 0 where
   pub port : ℕ
   pub below : port < 4
   pub free : uses port 0 ≡ Free
-  pub from : scratch_of port ≤ at
-  pub to : at + n ≤ scratch_of port + FRAME_BYTES
+  pub begins_in_scratch : scratch_frame_address port ≤ at
+  pub ends_in_scratch : at + n ≤ scratch_frame_address port + FRAME_BYTES
 
 -- what the driver may store for itself
 abbrev pub MayStore : SlotStates → ℕ → ℕ → Type 0
-MayStore uses at n = IsInFreeTable uses at n ⊎ IsInFreeScratch uses at n
+MayStore uses at n = IsInFreeHeaderOrTable uses at n ⊎ IsInFreeScratch uses at n
 
 -- ---- writes that leave the slots to their uses
 
@@ -57,7 +58,7 @@ AllFree uses port = (slot : ℕ) → uses port slot ≡ Free
 -- place.
 pub record IsSafeCmdWrite (uses : SlotStates) (port v : ℕ) (p : DevicePort) : Type 0 where
   pub start : bit v 0 ≡ true → (p.st ≡ true) ⊎ AllFree uses port
-  pub receive : bit v 4 ≡ true → (port < 4) × (p.bases.fb ≡ received_of port)
+  pub receive : bit v 4 ≡ true → (port < 4) × (p.bases.fb ≡ received_fis_address port)
 
 -- a value of PxCMD with these bits ST and FRE, and the others as they were read
 pub record KeepsOtherCmdBits (st fre : Bool) (was v : ℕ) : Type 0 where
@@ -67,64 +68,67 @@ pub record KeepsOtherCmdBits (st fre : Bool) (was v : ℕ) : Type 0 where
 
 -- What is asked of a write so that each slot goes on as it was used: PxCLB has the list's place, or no slot is used;
 -- PxSACT and PxCI have no bit.
-abbrev pub LeavesUses : SlotStates → Reg → ℕ → Device → Type 0
-LeavesUses uses (Px port Clb) v d = (v ≡ list_of port.0) ⊎ AllFree uses port.0
-LeavesUses uses (Px port Cmd) v d = IsSafeCmdWrite uses port.0 v (d.port port.0)
-LeavesUses uses (Px port Sact) v d = (slot : ℕ) → bit v slot ≡ false
-LeavesUses uses (Px port Ci) v d = (slot : ℕ) → bit v slot ≡ false
-LeavesUses uses r v d = Unit {0}
+abbrev pub KeepsSlotStates : SlotStates → Reg → ℕ → Device → Type 0
+KeepsSlotStates uses (Px port Clb) v d = (v ≡ command_list_address port.0) ⊎ AllFree uses port.0
+KeepsSlotStates uses (Px port Cmd) v d = IsSafeCmdWrite uses port.0 v (d.port port.0)
+KeepsSlotStates uses (Px port Sact) v d = (slot : ℕ) → bit v slot ≡ false
+KeepsSlotStates uses (Px port Ci) v d = (slot : ℕ) → bit v slot ≡ false
+KeepsSlotStates uses r v d = Unit {0}
 
 -- ---- what the driver knows, and what a call adds
 
 -- What the driver has put into the slots; by port, the requests that it took from their slots and hasn't decided on;
 -- and the device.
 pub record DriverState : Type 0 where
-  pub uses : SlotStates
-  pub parked : ℕ → List RequestId
+  pub slot_states : SlotStates
+  pub awaiting_disposition : ℕ → List RequestId
   pub device : Device
 
 -- the machine agrees with what the driver knows
 pub record DriverRelation (m : Machine) (k : DriverState) : Type 0 where
-  pub state_relation : StateRelation k.uses m k.device
-  pub have_slots : (port : ℕ) → HaveSlots k.uses m port (k.parked port)
+  pub state_relation : StateRelation k.slot_states m k.device
+  pub have_slots : (port : ℕ) → HaveSlotsUnlessParked k.slot_states m port (k.awaiting_disposition port)
 
 -- The tape's new entries tell of the device's steps among these; reads moved what their disks hold, where these tell
 -- it; and the disks that were put in are the device's.
-pub record IsBacked (old new : Device) (m : Machine) (steps : List Step) : Type 0 where
-  pub telling : new.telling ≡ old.telling
+pub record TapeBacksSteps (old new : Device) (m : Machine) (steps : List Step) : Type 0 where
+  pub telling_is_same : new.telling ≡ old.telling
   pub new_entries : List Entry
   pub tape_is : new.tape ≡ old.tape ++ new_entries
   pub tells_device_steps : TellsDeviceSteps m new_entries steps
   pub steps_are_faithful : old.telling ≡ true → AllStepsFaithful m steps
-  pub plugged : (port : ℕ) → (disks : List device.Disk) × ((new.port port).plugged ≡ (old.port port).plugged ++ disks)
+  pub plugged_disks_match_steps : (port : ℕ) → (disks : List device.Disk)
+      × ((new.port port).plug_history ≡ (old.port port).plug_history ++ disks)
       × PutsInDisks port disks steps
 
 -- The device backs the steps, and all of them are its own: the driver made none.
 pub record IsBackedByDeviceAlone (old new : Device) (m : Machine) (steps : List Step) : Type 0 where
-  pub is_backed : IsBacked old new m steps
-  pub only : AllByDevice steps
+  pub is_backed : TapeBacksSteps old new m steps
+  pub all_steps_are_devices : AllByDevice steps
 
 -- The driver goes from what it knew to what it knows then: from this machine each of these steps may come, the device
 -- backs them, and the machine after them agrees with what the driver knows then.
 pub record DriverAdvances (k : DriverState) (m : Machine) (steps : List Step) (later : DriverState) : Type 0 where
   pub steps_are_enabled : AllEnabled m steps
-  pub is_backed : IsBacked k.device later.device m steps
+  pub is_backed : TapeBacksSteps k.device later.device m steps
   pub driver_relation : DriverRelation (after m steps) later
 
 -- What the device leaves of what is not in use: all headers, but for PRDBC, and all tables; and the scratch frame where
 -- slot 0 has no command of the driver's own.
-pub record KeepsTables (uses : SlotStates) (old new : Device) : Type 0 where
-  pub tables : (port slot at : ℕ) → port < 4 → slot < 32 → IsTableByte port slot at → new.memory at ≡ old.memory at
-  pub scratch : (port at : ℕ) → port < 4 → ((o : Operation) → uses port 0 ≡ Own o → ⊥) → IsScratch port at
+pub record KeepsTablesAndScratch (uses : SlotStates) (old new : Device) : Type 0 where
+  pub tables : (port slot at : ℕ) → port < 4 → slot < 32 → IsHeaderOrTableByte port slot at
+      → new.memory at ≡ old.memory at
+  pub scratch : (port at : ℕ) → port < 4 → ((o : Operation) → uses port 0 ≡ Own o → ⊥) → IsScratchByte port at
       → new.memory at ≡ old.memory at
 
 -- none of these n bytes is of the slot's header, but for PRDBC, or of its table
-abbrev pub MissesTable : ℕ → ℕ → ℕ → ℕ → Type 0
-MissesTable port slot at n = (place : ℕ) → IsTableByte port slot place → at ≤ place → place < at + n → ⊥
+abbrev pub MissesHeaderAndTable : ℕ → ℕ → ℕ → ℕ → Type 0
+MissesHeaderAndTable port slot at n = (place : ℕ) → IsHeaderOrTableByte port slot place → at ≤ place → place < at + n
+    → ⊥
 
 -- nor is any of the port's scratch frame
 abbrev pub MissesScratch : ℕ → ℕ → ℕ → Type 0
-MissesScratch port at n = (place : ℕ) → IsScratch port place → at ≤ place → place < at + n → ⊥
+MissesScratch port at n = (place : ℕ) → IsScratchByte port place → at ≤ place → place < at + n → ⊥
 
 -- ---- issuing
 
@@ -133,10 +137,10 @@ MissesScratch port at n = (place : ℕ) → IsScratch port place → at ≤ plac
 -- has the slot's bit alone.
 pub record IsPrepared (uses : SlotStates) (m : Machine) (d : Device) (port slot : ℕ) (mode : QueueMode) (e : Pending)
     (v : ℕ) : Type 0 where
-  pub may : IsEnabled m (Issue mode e)
+  pub issue_is_enabled : IsEnabled m (Issue mode e)
   pub port_is : e.request.port.0 ≡ port
-  pub free : uses port slot ≡ (if is_plain mode e.request.asked.op then Free else Armed)
-  pub usable : slot < mode.usable
+  pub slot_state_is : uses port slot ≡ (if is_plain mode e.request.asked.op then Free else Armed)
+  pub slot_is_usable : slot < mode.usable_slots
   pub plain_is_in_slot_0 : is_plain mode e.request.asked.op ≡ true → slot ≡ 0
   pub st_is_set : (d.port port).st ≡ true
   pub list_is_in_place : HasListInPlace (d.port port) port slot
@@ -144,20 +148,20 @@ pub record IsPrepared (uses : SlotStates) (m : Machine) (d : Device) (port slot 
   pub places : List ℕ
   pub slot_decodes_to : SlotDecodesTo d.memory (d.port port).bases.clb port slot command places
   pub means : MeansRequest port slot e.request command places
-  pub kind : is_queued command.operation ≡ not (is_plain mode e.request.asked.op)
-  pub block : HasTrimBlock e.request.asked.op d.memory port e.request
+  pub queued_as_request : is_queued command.operation ≡ not (is_plain mode e.request.asked.op)
+  pub has_block_if_trim : HasBlockIfTrim e.request.asked.op d.memory port e.request
   pub bit_is_set : bit v slot ≡ true
   pub no_other_bit_is_set : (k : ℕ) → k ≢ slot → bit v k ≡ false
 
 -- The same for a command of the driver's own, in slot 0.
 pub record IsOwnPrepared (uses : SlotStates) (d : Device) (port : ℕ) (o : Operation) (v : ℕ) : Type 0 where
-  pub own : op_of o ≡ None
+  pub operation_is_drivers_own : client_operation_of o ≡ None
   pub free : uses port 0 ≡ Free
   pub st_is_set : (d.port port).st ≡ true
   pub list_is_in_place : HasListInPlace (d.port port) port 0
   pub command : Meaning
   pub operation_is : command.operation ≡ o
-  pub slot_decodes_to : SlotDecodesTo d.memory (d.port port).bases.clb port 0 command (scratch_of port ∷ [])
+  pub slot_decodes_to : SlotDecodesTo d.memory (d.port port).bases.clb port 0 command (scratch_frame_address port ∷ [])
   pub st_set_is_on_tape : (d.port port).notes.st_set_at ≤ length d.tape
   pub bit_is_set : bit v 0 ≡ true
   pub no_other_bit_is_set : (k : ℕ) → k ≢ 0 → bit v k ≡ false
@@ -166,18 +170,21 @@ pub record IsOwnPrepared (uses : SlotStates) (d : Device) (port : ℕ) (o : Oper
 -- first, after which the machine agrees with what the driver knows then.
 pub record EndsInSteps (k : DriverState) (m : Machine) (own : List Step) (later : DriverState) : Type 0 where
   pub steps : List Step
-  pub only : AllByDevice steps
+  pub all_steps_are_devices : AllByDevice steps
   pub steps_are_enabled : AllEnabled m (own ++ steps)
-  pub is_backed : IsBacked k.device later.device m (own ++ steps)
+  pub is_backed : TapeBacksSteps k.device later.device m (own ++ steps)
   pub driver_relation : DriverRelation (after m (own ++ steps)) later
 
 -- the same, where it ends with one step
-abbrev pub EndsInStep : DriverState → Machine → Step → DriverState → Type 0
-EndsInStep k m step later = EndsInSteps k m (step ∷ []) later
+abbrev pub EndsInOneStep : DriverState → Machine → Step → DriverState → Type 0
+EndsInOneStep k m step later = EndsInSteps k m (step ∷ []) later
 
 -- the driver knows that the slot serves the request
 abbrev pub with_slot_serving : DriverState → ℕ → ℕ → RequestId → Device → DriverState
-with_slot_serving k port slot id new = record k { uses = set_slot_state k.uses port slot (Serves id); device = new }
+with_slot_serving k port slot id new = record k {
+  slot_states = set_slot_state k.slot_states port slot (Serves id);
+  device = new;
+}
 
 -- ---- deciding
 
@@ -198,12 +205,16 @@ ForgetsAtMostKept m parked later = (port : ℕ) (other : RequestId) → Contains
 -- the slot was given up, and its request isn't decided yet
 abbrev pub with_slot_parked : DriverState → ℕ → ℕ → RequestId → DriverState
 with_slot_parked k port slot id =
-    record k { uses = set_slot_state k.uses port slot Free; parked = changed k.parked port (id ∷ k.parked port) }
+    record k {
+      slot_states = set_slot_state k.slot_states port slot Free;
+      awaiting_disposition = changed
+          k.awaiting_disposition port (id ∷ k.awaiting_disposition port);
+    }
 
 -- the slot was given up
 abbrev pub with_slot_freed : DriverState → ℕ → ℕ → DriverState
-with_slot_freed k port slot = record k { uses = set_slot_state k.uses port slot Free }
+with_slot_freed k port slot = record k { slot_states = set_slot_state k.slot_states port slot Free }
 
 -- what the driver knows of a device that it takes over: no slot is used
 abbrev pub idle_driver_state : Device → DriverState
-idle_driver_state d = record { uses = λ port slot. Free; parked = λ port. []; device = d }
+idle_driver_state d = record { slot_states = λ port slot. Free; awaiting_disposition = λ port. []; device = d }

@@ -4,13 +4,13 @@ use Rattle.adapter.specs.Device.{DevicePort, Device}
 use Rattle.adapter.specs.declared.tape.Entry.{Entry}
 use Rattle.adapter.specs.declared.tape.Entry.TheVariants as entry
 use Rattle.refinement.specs.PortFacts.{IsQuiescentPort, IsFaultOf}
-use Rattle.refinement.specs.Links.{NoPlugEvents}
+use Rattle.refinement.specs.PreservedParts.{NoPlugEvents}
 
 -- each bit of PxIS that is set stays so, and so do N and X of PxSERR
 pub record KeepsErrors (old new : DevicePort) : Type 0 where
   pub pxis_is_kept : (place : ℕ) → old.is place ≡ true → new.is place ≡ true
-  pub serr_n : old.serr_n ≡ true → new.serr_n ≡ true
-  pub serr_x : old.serr_x ≡ true → new.serr_x ≡ true
+  pub serr_n_is_kept : old.serr_n ≡ true → new.serr_n ≡ true
+  pub serr_x_is_kept : old.serr_x ≡ true → new.serr_x ≡ true
 
 -- a disk of the port comes
 abbrev pub IsDiskComing : ℕ → Entry → Type 0
@@ -25,32 +25,35 @@ pub record NoDiskComes (port : ℕ) (old new : Device) : Type 0 where
 
 -- N of PxSERR rises only for a disk that goes or comes, and X only for one that comes. Where no disk has come and
 -- PxSSTS.DET is 3, it was 3 before, and none has gone.
-pub record ChangesByDisks (port : ℕ) (old new : Device) : Type 0 where
-  pub serr_n : NoPlugEvents port old new → (old.port port).serr_n ≡ false → (new.port port).serr_n ≡ false
-  pub serr_x : NoDiskComes port old new → (old.port port).serr_x ≡ false → (new.port port).serr_x ≡ false
-  pub det : NoDiskComes port old new → (new.port port).ssts_det ≡ 3 → ((old.port port).ssts_det ≡ 3)
+pub record LinkErrorsRiseByDisks (port : ℕ) (old new : Device) : Type 0 where
+  pub serr_n_rises_by_plug_events : NoPlugEvents port old new → (old.port port).serr_n ≡ false
+      → (new.port port).serr_n ≡ false
+  pub serr_x_rises_by_disk_coming : NoDiskComes port old new → (old.port port).serr_x ≡ false
+      → (new.port port).serr_x ≡ false
+  pub det_3_was_3_if_none_comes : NoDiskComes port old new → (new.port port).ssts_det ≡ 3
+      → ((old.port port).ssts_det ≡ 3)
       × NoPlugEvents port old new
 
 -- Each bit that tells of trouble is clear still if it was: N and X of PxSERR, and 27 to 30 of PxIS.
-pub record StaysClear (old new : DevicePort) : Type 0 where
-  pub serr_n : old.serr_n ≡ false → new.serr_n ≡ false
-  pub serr_x : old.serr_x ≡ false → new.serr_x ≡ false
+pub record ErrorBitsStayClear (old new : DevicePort) : Type 0 where
+  pub serr_n_stays_clear : old.serr_n ≡ false → new.serr_n ≡ false
+  pub serr_x_stays_clear : old.serr_x ≡ false → new.serr_x ≡ false
   pub pxis_stays_clear : (place : ℕ) → 27 ≤ place → place ≤ 30 → old.is place ≡ false → new.is place ≡ false
 
 -- a fatal error of the port
-abbrev pub IsFatalOf : ℕ → Entry → Type 0
-IsFatalOf port (entry.Fatal at) = at.0 ≡ port
-IsFatalOf port _ = ⊥
+abbrev pub IsFatalErrorOf : ℕ → Entry → Type 0
+IsFatalErrorOf port (entry.Fatal at) = at.0 ≡ port
+IsFatalErrorOf port _ = ⊥
 
 -- The tape gained no fatal error of the port. It counts on the tape: so what holds of a fragment of accesses holds of
 -- each of its parts.
-pub record NoneFatal (port : ℕ) (old new : Device) : Type 0 where
+pub record NoFatalErrors (port : ℕ) (old new : Device) : Type 0 where
   pub new_entries : List Entry
   pub tape_is : new.tape ≡ old.tape ++ new_entries
-  pub no_such_entry : All (λ e. IsFatalOf port e → ⊥) new_entries
+  pub no_such_entry : All (λ e. IsFatalErrorOf port e → ⊥) new_entries
 
 -- the tape gained no fault of the port
-pub record NoneFails (port : ℕ) (old new : Device) : Type 0 where
+pub record NoFaults (port : ℕ) (old new : Device) : Type 0 where
   pub new_entries : List Entry
   pub tape_is : new.tape ≡ old.tape ++ new_entries
   pub no_such_entry : All (λ e. IsFaultOf port e → ⊥) new_entries
@@ -58,17 +61,17 @@ pub record NoneFails (port : ℕ) (old new : Device) : Type 0 where
 -- What the tape tells nothing of in two parts of a call it tells nothing of in the whole, and the other way round,
 -- where the tape only grows; and where nothing was done it tells nothing of it.
 pub record IsCompositional (Untold : ℕ → Device → Device → Type 0) : Type 0 where
-  pub none : (port : ℕ) (d : Device) → Untold port d d
-  pub more : (port : ℕ) (old mid new : Device) → Untold port old mid → Untold port mid new → Untold port old new
-  pub parts : (port : ℕ) (old mid new : Device) (early late : List Entry) → mid.tape ≡ old.tape ++ early
+  pub reflexive : (port : ℕ) (d : Device) → Untold port d d
+  pub transitive : (port : ℕ) (old mid new : Device) → Untold port old mid → Untold port mid new → Untold port old new
+  pub whole_gives_parts : (port : ℕ) (old mid new : Device) (early late : List Entry) → mid.tape ≡ old.tape ++ early
       → new.tape ≡ mid.tape ++ late → Untold port old new → Untold port old mid × Untold port mid new
 
 -- Bits 27 to 29 of PxIS, IFS, HBDS and HBFS, rise only for a fatal error of the port; and bit 30, TFES, only for a
 -- fault of it (AHCI 1.3.1, 3.3.5).
-pub record ChangesByErrors (port : ℕ) (old new : Device) : Type 0 where
-  pub fatal : NoneFatal port old new → (place : ℕ) → 27 ≤ place → place ≤ 29 → (old.port port).is place ≡ false
+pub record ErrorBitsRiseByErrors (port : ℕ) (old new : Device) : Type 0 where
+  pub fatal : NoFatalErrors port old new → (place : ℕ) → 27 ≤ place → place ≤ 29 → (old.port port).is place ≡ false
       → (new.port port).is place ≡ false
-  pub fault : NoneFails port old new → (old.port port).is 30 ≡ false → (new.port port).is 30 ≡ false
+  pub fault : NoFaults port old new → (old.port port).is 30 ≡ false → (new.port port).is 30 ≡ false
 
 -- ---- a reset
 
@@ -76,14 +79,14 @@ pub record ChangesByErrors (port : ℕ) (old new : Device) : Type 0 where
 pub record IsLeftByReset (p : DevicePort) : Type 0 where
   pub is_quiescent : IsQuiescentPort p
   pub pxis_is_clear : (place : ℕ) → p.is place ≡ false
-  pub serr_n : p.serr_n ≡ false
-  pub serr_x : p.serr_x ≡ false
+  pub serr_n_is_clear : p.serr_n ≡ false
+  pub serr_x_is_clear : p.serr_x ≡ false
   pub sctl_det : p.sctl_det ≡ 0
   pub ssts_det : p.ssts_det ≡ 0
   pub tfd : p.tfd ≡ 0x7f
   pub sig : p.sig ≡ 0xffffffff
-  pub fresh : p.fresh ≡ false
-  pub broken : p.broken ≡ false
+  pub first_fis_has_not_come : p.fresh ≡ false
+  pub is_not_broken : p.broken ≡ false
 
 -- What a port shows after it while its engine stands: no bit of PxIS, and PxSCTL.DET 0; and until X tells of a disk or
 -- a link that came, no device in PxSSTS, and task file and signature as the reset left them.
@@ -95,10 +98,10 @@ pub record ShowsResetState (p : DevicePort) : Type 0 where
 -- ---- the engine's work
 
 -- the entry is a move, a clearing, an end, a fault or a fatal error of the port's
-abbrev pub IsWork : ℕ → Entry → Type 0
-IsWork port (entry.Move move) = move.port.0 ≡ port
-IsWork port (entry.Clear clear) = clear.port.0 ≡ port
-IsWork port (entry.Done done) = done.port.0 ≡ port
-IsWork port (entry.Fault fault) = fault.port.0 ≡ port
-IsWork port (entry.Fatal at) = at.0 ≡ port
-IsWork port _ = ⊥
+abbrev pub IsEngineWork : ℕ → Entry → Type 0
+IsEngineWork port (entry.Move move) = move.port.0 ≡ port
+IsEngineWork port (entry.Clear clear) = clear.port.0 ≡ port
+IsEngineWork port (entry.Done done) = done.port.0 ≡ port
+IsEngineWork port (entry.Fault fault) = fault.port.0 ≡ port
+IsEngineWork port (entry.Fatal at) = at.0 ≡ port
+IsEngineWork port _ = ⊥

@@ -10,7 +10,7 @@ use Rattle.hba_regs.specs.declared.reg.Reg.TheVariants.{Is, Px}
 use Rattle.adapter.specs.Access.{Access, DoesAll}
 use Rattle.adapter.specs.Access.Access.{Reading, Writing}
 use Rattle.adapter.specs.Device.{DevicePort, Device}
-use Rattle.adapter.specs.KeptBySteps.{KeepsPort, KeepsControls}
+use Rattle.adapter.specs.KeptBySteps.{PortBitsOnlyFall, KeepsControlsFlagsRise}
 use Rattle.adapter.specs.declared.command.Operation.{Operation}
 use Rattle.adapter.specs.declared.tape.Entry.{Entry}
 use Rattle.block_machine.specs.Events.{AllByDevice}
@@ -18,31 +18,31 @@ use Rattle.block_machine.specs.Histories.{IsReachable}
 use Rattle.block_machine.specs.State.{Machine}
 use Rattle.refinement.specs.Acts.{Act, ActsReachWith, act_steps}
 use Rattle.refinement.specs.Driver.{DriverState, DriverRelation}
-use Rattle.refinement.specs.Links.{DoesNotWrite}
+use Rattle.refinement.specs.PreservedParts.{DoesNotWrite}
 use Rattle.refinement.specs.Slots.{SlotStates, IsMove, IsOver}
 
 -- what the driver knows: the use of each slot, the requests that it took from their slots, and the device
 abbrev pub driver_state_of : SlotStates → (ℕ → List RequestId) → Device → DriverState
-driver_state_of uses parked d = record { uses = uses; parked = parked; device = d }
+driver_state_of uses parked d = record { slot_states = uses; awaiting_disposition = parked; device = d }
 
 -- Some machine that a history leads to agrees with a driver that uses the slots so.
-pub record IsRelated (uses : SlotStates) (d : Device) : Type 0 where
+pub record SomeMachineAgrees (uses : SlotStates) (d : Device) : Type 0 where
   pub machine : Machine
   pub parked : ℕ → List RequestId
   pub reached : IsReachable machine
   pub driver_relation : DriverRelation machine (driver_state_of uses parked d)
 
 -- so it is with some use of the slots that fits
-abbrev pub RelatesWith : (SlotStates → Type 0) → Device → Type 0
-RelatesWith Fits d = (uses : SlotStates) × Fits uses × IsRelated uses d
+abbrev pub SomeMachineAgreesWith : (SlotStates → Type 0) → Device → Type 0
+SomeMachineAgreesWith Fits d = (uses : SlotStates) × Fits uses × SomeMachineAgrees uses d
 
 -- the slots may be used in any way
-abbrev pub AnyUse : SlotStates → Type 0
-AnyUse uses = Unit {0}
+abbrev pub AnySlotStates : SlotStates → Type 0
+AnySlotStates uses = Unit {0}
 
 -- they are used in this way
-abbrev pub SameUses : SlotStates → SlotStates → Type 0
-SameUses uses other = other ≡ uses
+abbrev pub SameSlotStates : SlotStates → SlotStates → Type 0
+SameSlotStates uses other = other ≡ uses
 
 -- ---- accesses
 
@@ -57,15 +57,15 @@ abbrev pub AnyAccess : Access → Type 0
 AnyAccess access = Unit {0}
 
 -- it reads a register of the port, or writes one of these of its registers
-abbrev pub IsPortAccessWriting : (PortReg → Type 0) → Port → Access → Type 0
-IsPortAccessWriting Written port (Reading (Px at r) v) = at ≡ port
-IsPortAccessWriting Written port (Writing (Px at r) v) = (at ≡ port) × Written r
-IsPortAccessWriting Written port access = ⊥
+abbrev pub ReadsPortOrWrites : (PortReg → Type 0) → Port → Access → Type 0
+ReadsPortOrWrites Written port (Reading (Px at r) v) = at ≡ port
+ReadsPortOrWrites Written port (Writing (Px at r) v) = (at ≡ port) × Written r
+ReadsPortOrWrites Written port access = ⊥
 
 -- the value has the port's bit alone
-pub record IsSoleBit (port v : ℕ) : Type 0 where
-  pub bit_is_set : bit v port ≡ true
-  pub no_other_bit_is_set : (k : ℕ) → k ≢ port → bit v k ≡ false
+pub record IsSoleBit (place v : ℕ) : Type 0 where
+  pub bit_is_set : bit v place ≡ true
+  pub no_other_bit_is_set : (k : ℕ) → k ≢ place → bit v k ≡ false
 
 -- It reads or writes a register of the port, writes IS with the port's bit alone, reads a register of the adapter's
 -- own, or loads or stores bytes: it touches no register of another port, nor another port's bit of IS.
@@ -87,18 +87,19 @@ GainsNoMove port o old new = (gained : List Entry) × (new.tape ≡ old.tape ++ 
 
 -- Acts in which the device alone makes steps. Where no access of the kind writes PxCI or PxSACT of a port, its slots
 -- are used after each act as before the first.
-pub record OnlyDeviceActs (May : Access → Type 0) (uses : SlotStates) (acts : List Act) : Type 0 where
-  pub only : AllByDevice (act_steps acts)
-  pub kept : (port : Port) → NoneWrites May (Px port Ci) → NoneWrites May (Px port Sact)
-      → All (λ act. act.later.uses port.0 ≡ uses port.0) acts
+pub record DeviceStepsKeepSlots (May : Access → Type 0) (uses : SlotStates) (acts : List Act) : Type 0 where
+  pub all_steps_are_devices : AllByDevice (act_steps acts)
+  pub unwritten_ports_keep_slots : (port : Port) → NoneWrites May (Px port Ci) → NoneWrites May (Px port Sact)
+      → All (λ act. act.state_after.slot_states port.0 ≡ uses port.0) acts
 
 -- Accesses of this kind led from the old device to the new. And where the uses of slots fit, acts with these accesses
 -- lead to such uses of the slots, with what is parked as it was; and the device alone makes steps meanwhile.
 pub record IsSimulatedChangingUses (May : Access → Type 0) (Fits : SlotStates → Type 0) (next : SlotStates → SlotStates)
     (old new : Device) : Type 0 where
   pub is_driven : IsDrivenBy May old new
-  pub acts_reach : ActsReachWith is_driven.accesses (λ s m. Fits s.uses) (λ s. record s { uses = next s.uses })
-      (λ s m. OnlyDeviceActs May s.uses) old new
+  pub acts_reach : ActsReachWith is_driven.accesses (λ s m. Fits s.slot_states)
+      (λ s. record s { slot_states = next s.slot_states })
+      (λ s m. DeviceStepsKeepSlots May s.slot_states) old new
 
 -- the same, where each slot goes on as it is used
 abbrev pub IsSimulated : (Access → Type 0) → (SlotStates → Type 0) → Device → Device → Type 0
@@ -109,8 +110,8 @@ pub record IsSimulatedAlongChangingUses (Tells : List Access → Type 0) (May : 
     → Type 0)
     (next : SlotStates → SlotStates)
     (old new : Device) : Type 0 where
-  pub followed : IsSimulatedChangingUses May Fits next old new
-  pub tells : Tells followed.is_driven.accesses
+  pub is_simulated : IsSimulatedChangingUses May Fits next old new
+  pub accesses_are_such : Tells is_simulated.is_driven.accesses
 
 -- the same, where each slot goes on as it is used
 abbrev pub IsSimulatedAlong : (List Access → Type 0) → (Access → Type 0) → (SlotStates → Type 0) → Device → Device
@@ -129,6 +130,6 @@ HasNoCommand p = (slot : ℕ) → IsOver p slot
 
 -- A port that the driver doesn't touch: what the device's steps leave of it, and all that readings noted of it.
 pub record LeavesPort (old new : DevicePort) : Type 0 where
-  pub keeps : KeepsPort old new
-  pub controls : KeepsControls old new
+  pub port_is_kept_by_device : PortBitsOnlyFall old new
+  pub controls : KeepsControlsFlagsRise old new
   pub notes : new.notes ≡ old.notes

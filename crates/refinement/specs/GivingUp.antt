@@ -23,22 +23,23 @@ ids_in_slots uses port zero = []
 ids_in_slots uses port (suc n) = prepend_slot_request (uses port n) (ids_in_slots uses port n)
 
 -- Each slot of the port is over, and none is armed while ST is one.
-abbrev pub AreSlotsOver : SlotStates → DevicePort → ℕ → Type 0
-AreSlotsOver uses p port = (slot : ℕ) → IsOver p slot × (uses port slot ≡ Armed → p.st ≡ false)
+abbrev pub AreSlotsOverAndUnarmed : SlotStates → DevicePort → ℕ → Type 0
+AreSlotsOverAndUnarmed uses p port = (slot : ℕ) → IsOver p slot × (uses port slot ≡ Armed → p.st ≡ false)
 
 -- every slot of the port was given up, and the requests that they served aren't decided yet
 abbrev pub with_all_parked : DriverState → ℕ → DriverState
 with_all_parked k port = record k {
-  uses = changed k.uses port (λ slot. Free);
-  parked = changed k.parked port (ids_in_slots k.uses port 32 ++ k.parked port);
+  slot_states = changed k.slot_states port (λ slot. Free);
+  awaiting_disposition = changed k.awaiting_disposition port (ids_in_slots k.slot_states port 32
+      ++ k.awaiting_disposition port);
 }
 
 -- what is in the slots then, and parked
-abbrev pub with_all_given_up : ℕ → DriverSlots → DriverSlots
-with_all_given_up port s = record {
-  uses = changed s.uses port (λ slot. Free);
-  parked = changed s.parked port
-      (ids_in_slots s.uses port 32 ++ s.parked port);
+abbrev pub slots_with_all_parked : ℕ → DriverSlots → DriverSlots
+slots_with_all_parked port s = record {
+  slot_states = changed s.slot_states port (λ slot. Free);
+  awaiting_disposition = changed s.awaiting_disposition port
+      (ids_in_slots s.slot_states port 32 ++ s.awaiting_disposition port);
 }
 
 -- a request of the port that the device may move, and hasn't ended
@@ -52,7 +53,7 @@ pub record IsUnended (m : Machine) (port : ℕ) (id : RequestId) : Type 0 where
 -- What a slot in use has: a command of the driver's own, in slot 0, or one of an unended request; and while ST is 1, a
 -- bit of the slot is set in PxCI or PxSACT.
 pub record IsOutstanding (uses : SlotStates) (m : Machine) (p : DevicePort) (port slot : ℕ) : Type 0 where
-  pub below : slot < 32
+  pub slot_is_below_32 : slot < 32
   pub is_own_or_unended : ((o : Operation) × (uses port slot ≡ Own o) × (slot ≡ 0))
       ⊎ ((id : RequestId) × (uses port slot ≡ Serves id) × IsUnended m port id)
   pub bit_is_set_while_st : p.st ≡ true → (p.ci slot ≡ true) ⊎ (p.sact slot ≡ true)

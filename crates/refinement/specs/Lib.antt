@@ -1,5 +1,6 @@
 pub mod MemoryLayout
 pub mod Slots
+pub mod Staying
 pub mod Relation
 pub mod Replug
 pub mod Tape
@@ -8,11 +9,11 @@ pub mod Driver
 pub mod ReadWitness
 pub mod PortFacts
 pub mod SparedBook
-pub mod Links
+pub mod PreservedParts
 pub mod Errors
 pub mod PortNotes
 pub mod StartedPort
-pub mod TwoReads
+pub mod TwoReadsWitness
 pub mod TrimWitness
 pub mod AwaitedPage
 pub mod StepLaws

@@ -15,16 +15,16 @@ use Rattle.refinement.specs.Relation.{port_at}
 use Rattle.refinement.specs.Driver.{DriverRelation, IsOwnPrepared, idle_driver_state}
 use Rattle.refinement.specs.PortFacts.{RunsWell}
 use Rattle.refinement.specs.Slots.{Free, Own, SlotStates, set_slot_state}
-use Rattle.refinement.specs.ReadWitness.{page_bytes, ready_port, ready_device}
-use Rattle.refinement.specs.HaltRecovery.{RunsLinked, EndsHalt, FaultLeavesIssued}
+use Rattle.refinement.specs.ReadWitness.{encoded_page_prd, ready_port, ready_device}
+use Rattle.refinement.specs.HaltRecovery.{RunsLinked, OwnCommandEndsHalt, FaultLeavesIssued}
 
 -- the FIS of READ LOG EXT, log 10h, one page
-abbrev pub log_bytes : List ℕ
-log_bytes = 0x27 ∷ 0x80 ∷ 0x2f ∷ 0 ∷ 0x10 ∷ 0 ∷ 0 ∷ 0 ∷ 0 ∷ 0 ∷ 0 ∷ 0 ∷ 1 ∷ replicate 7 0
+abbrev pub read_log_fis : List ℕ
+read_log_fis = 0x27 ∷ 0x80 ∷ 0x2f ∷ 0 ∷ 0x10 ∷ 0 ∷ 0 ∷ 0 ∷ 0 ∷ 0 ∷ 0 ∷ 0 ∷ 1 ∷ replicate 7 0
 
 -- it and the PRD of its page stand in the first read's table
 unfoldable pub log_memory : ℕ → ℕ
-log_memory = patched (patched first_memory 0x1000 log_bytes) 0x1080 page_bytes
+log_memory = patched (patched first_memory 0x1000 read_log_fis) 0x1080 encoded_page_prd
 
 -- A port in the state of one that was started again after a queued fault: it takes READ LOG EXT alone.
 abbrev pub log_port : DevicePort
@@ -38,17 +38,17 @@ log_uses = set_slot_state (λ port slot. Free) 0 0 (Own ReadLog)
 
 -- A machine agrees with its driver, for whom READ LOG EXT is prepared. The write of PxCI is permitted, and issues it.
 -- PxCI may be read 0 then, and PxIS with DHRS alone: the port runs well.
-pub record LogIsEnded : Type 0 where
+pub record LogEndsHaltWitness : Type 0 where
   pub machine : Machine
   pub reached : IsReachable machine
   pub driver_relation : DriverRelation machine (idle_driver_state log_device)
   pub halted : (log_device.port 0).halt ≡ LogOnly
   pub runs_linked : RunsLinked (log_device.port 0)
-  pub prepared : IsOwnPrepared (idle_driver_state log_device).uses log_device 0 ReadLog 1
+  pub prepared : IsOwnPrepared (idle_driver_state log_device).slot_states log_device 0 ReadLog 1
   pub permitted : IsStable (MayWrite (Px (port_at 0) Ci) 1) log_device
   pub issued : Device
   pub writes : Writes (Px (port_at 0) Ci) 1 log_device issued
-  pub ends_halt : EndsHalt log_uses 0 issued
+  pub ends_halt : OwnCommandEndsHalt log_uses 0 issued
   pub fault_leaves_issued : FaultLeavesIssued log_uses 0 issued
   pub ended_device : Device
   pub reads : Reads (Px (port_at 0) Ci) 0 issued ended_device

@@ -17,7 +17,7 @@ use Rattle.adapter.specs.declared.tape.Entry.{Entry}
 use Rattle.adapter.specs.declared.tape.Entry.TheVariants as entry
 use Rattle.adapter.specs.declared.tape.Fault as tape_fault
 use Rattle.block_machine.specs.State.{Pending, Machine}
-use Rattle.block_machine.specs.Steps.{MayStillMove, AllTouched, NoneQuarantined}
+use Rattle.block_machine.specs.Steps.{MayStillMove, AllTouched, NoneKept}
 use Rattle.refinement.specs.Simulation.{SimulatesSteps}
 use Rattle.refinement.specs.Slots.{Serves, SlotStates, IsOver, PageStandsInScratch}
 
@@ -25,18 +25,18 @@ use Rattle.refinement.specs.Slots.{Serves, SlotStates, IsOver, PageStandsInScrat
 
 -- ST and CR are 0, no command is issued, and none is taken (AHCI 1.3.1, 10.1.2).
 pub record IsEngineStopped (p : DevicePort) : Type 0 where
-  pub st : p.st ≡ false
-  pub cr : p.cr ≡ false
-  pub ci : (slot : ℕ) → p.ci slot ≡ false
-  pub taken : (slot : ℕ) → p.taken slot ≡ None
+  pub st_is_clear : p.st ≡ false
+  pub cr_is_clear : p.cr ≡ false
+  pub no_command_is_issued : (slot : ℕ) → p.ci slot ≡ false
+  pub no_command_is_taken : (slot : ℕ) → p.taken slot ≡ None
 
 -- A port after a reset of its adapter: halted, with no bit of SACT, and the engine that receives FISes is stopped, too
 -- (AHCI 1.3.1, 10.4.3).
 pub record IsQuiescentPort (p : DevicePort) : Type 0 where
   pub engine_is_stopped : IsEngineStopped p
-  pub sact : (slot : ℕ) → p.sact slot ≡ false
-  pub fre : p.fre ≡ false
-  pub fr : p.fr ≡ false
+  pub sact_is_clear : (slot : ℕ) → p.sact slot ≡ false
+  pub fre_is_clear : p.fre ≡ false
+  pub fr_is_clear : p.fr ≡ false
 
 -- ---- commands that are over
 
@@ -49,12 +49,12 @@ pub record EndedIn (m : Machine) (port : Port) (id : RequestId) : Type 0 where
   pub port_is : pending.request.port ≡ port
   pub ended : pending.ended ≡ true
   pub all_are_touched : AllTouched pending
-  pub stands_in_book : NoneQuarantined m port → Contains m.book pending
+  pub stands_in_book : NoneKept m port → Contains m.book pending
 
 -- the slot's command is over, and its bit of SACT is clear
 pub record IsSlotClear (p : DevicePort) (slot : ℕ) : Type 0 where
   pub over : IsOver p slot
-  pub sact : p.sact slot ≡ false
+  pub sact_is_clear : p.sact slot ≡ false
 
 -- What CI tells of a command of the driver's own: the machine follows, and the command is over and has brought its page
 -- since ST was set.
@@ -79,16 +79,16 @@ CommandsAreOver uses d id = (port slot : ℕ) → uses port slot ≡ Serves id �
 
 -- no bit of PxSERR or PxIS tells of trouble: neither N and X, nor IFS, HBDS, HBFS and TFES, which are 27 to 30
 pub record ShowsNoTrouble (p : DevicePort) : Type 0 where
-  pub serr_n : p.serr_n ≡ false
-  pub serr_x : p.serr_x ≡ false
+  pub serr_n_is_clear : p.serr_n ≡ false
+  pub serr_x_is_clear : p.serr_x ≡ false
   pub no_error_bit_is_set : (place : ℕ) → 27 ≤ place → place ≤ 30 → p.is place ≡ false
 
 -- The port runs, its disk is there with its link up and no other link due, no error has stopped it, and no bit tells of
 -- one.
 pub record RunsWell (p : DevicePort) : Type 0 where
-  pub st : p.st ≡ true
-  pub cr : p.cr ≡ true
-  pub det : p.ssts_det ≡ 3
+  pub st_is_set : p.st ≡ true
+  pub cr_is_set : p.cr ≡ true
+  pub det_is_3 : p.ssts_det ≡ 3
   pub present : p.present ≡ true
   pub fresh : p.fresh ≡ true
   pub no_link_is_due : p.link_due ≡ false
@@ -112,7 +112,7 @@ pub record Undisturbed (port : ℕ) (old new : Device) : Type 0 where
 
 -- A value of PxIS tells of none: neither PCS, which shows X, and PRCS, which shows N, nor those four (AHCI 1.3.1,
 -- 3.3.5).
-pub record TellsNoTrouble (v : ℕ) : Type 0 where
+pub record PxisValueTellsNoTrouble (v : ℕ) : Type 0 where
   pub pcs_is_clear : bit v 6 ≡ false
   pub prcs_is_clear : bit v 22 ≡ false
   pub no_error_bit_is_set : (place : ℕ) → 27 ≤ place → place ≤ 30 → bit v place ≡ false
@@ -156,12 +156,12 @@ pub record RecordsFaults (tape : List Entry) (p : DevicePort) (port : ℕ) : Typ
   pub shows_last_fault : IsFaulted p.halt → ShowsFault (drop p.notes.st_set_at tape) p port
 
 -- so it is while ST is 1
-abbrev pub FaultsOnRecord : List Entry → DevicePort → ℕ → Type 0
-FaultsOnRecord tape p port = p.st ≡ true → RecordsFaults tape p port
+abbrev pub RecordsFaultsIfSt : List Entry → DevicePort → ℕ → Type 0
+RecordsFaultsIfSt tape p port = p.st ≡ true → RecordsFaults tape p port
 
 -- From COMRESET until the link comes up the engine stands, and the task file shows DRQ, bit 3.
-abbrev pub ShowsDrqTillLink : DevicePort → Type 0
-ShowsDrqTillLink p = (p.link_due ≡ true) ⊎ (p.sctl_det ≡ 1) → (p.cr ≡ false) × (bit p.tfd 3 ≡ true)
+abbrev pub StoppedWithDrqTillLink : DevicePort → Type 0
+StoppedWithDrqTillLink p = (p.link_due ≡ true) ⊎ (p.sctl_det ≡ 1) → (p.cr ≡ false) × (bit p.tfd 3 ≡ true)
 
 -- the engine stands, and TFES is clear
 abbrev pub StoppedTfesClear : DevicePort → Type 0
@@ -169,7 +169,7 @@ StoppedTfesClear p = (p.cr ≡ false) × (p.is 30 ≡ false)
 
 -- Nothing of the past would be taken for news of the next start: the engine stands, TFES is clear, and no link is due.
 pub record IsCleanToStart (p : DevicePort) : Type 0 where
-  pub tfes_is_clear : StoppedTfesClear p
+  pub is_stopped_tfes_clear : StoppedTfesClear p
   pub no_link_is_due : p.link_due ≡ false
   pub no_comreset : p.sctl_det ≢ 1
 

@@ -8,7 +8,7 @@ use Rattle.hba_regs.specs.declared.reg.PortReg.TheVariants.{Cmd, Tfd, Sig, Ssts,
 use Rattle.adapter.specs.Access.{Access, Reads}
 use Rattle.adapter.specs.Access.Access.{Reading}
 use Rattle.adapter.specs.Device.{Device, Notes}
-use Rattle.refinement.specs.Links.{DoesNotWrite}
+use Rattle.refinement.specs.PreservedParts.{DoesNotWrite}
 
 -- the access doesn't read the register
 abbrev pub DoesNotRead : Reg → Access → Type 0
@@ -21,11 +21,13 @@ pub record LeavesNotes (access : Access) (port : Port) (old new : Notes) : Type 
   pub command : DoesNotRead (Px port Cmd) access → (new.last_cmd ≡ old.last_cmd)
       × (new.engine_count ≡ old.engine_count)
   pub link : DoesNotRead (Px port Ssts) access
-      → (new.last_ssts ≡ old.last_ssts) × (DoesNotWrite (Px port Sctl) access → new.link_count ≡ old.link_count)
-  pub file : DoesNotRead (Px port Tfd) access
+      → (new.last_ssts ≡ old.last_ssts) × (DoesNotWrite (Px port Sctl) access
+      → new.link_wait_count ≡ old.link_wait_count)
+  pub task_file : DoesNotRead (Px port Tfd) access
       → (new.last_tfd ≡ old.last_tfd) × (DoesNotWrite (Px port Sctl) access → new.busy_count ≡ old.busy_count)
   pub issued : DoesNotRead (Px port Ci) access
-      → (new.last_ci ≡ old.last_ci) × (DoesNotWrite (Px port Sctl) access → new.command_count ≡ old.command_count)
+      → (new.last_ci ≡ old.last_ci) × (DoesNotWrite (Px port Sctl) access
+      → new.slot0_issued_count ≡ old.slot0_issued_count)
   pub active : DoesNotRead (Px port Sact) access → new.last_sact ≡ old.last_sact
   pub signature : DoesNotRead (Px port Sig) access → new.last_sig ≡ old.last_sig
 

@@ -4,7 +4,7 @@ use Rattle.std.specs.Int.{to_le_bytes, w32}
 use Rattle.ata_types.specs.declared.request.RequestId.{RequestId}
 use Rattle.hba_regs.specs.declared.reg.Reg.TheVariants.{Px}
 use Rattle.hba_regs.specs.declared.reg.PortReg.TheVariants.{Cmd, Ci}
-use Rattle.adapter.specs.Access.{Reads, Writes, written}
+use Rattle.adapter.specs.Access.{Reads, Writes, device_after_write}
 use Rattle.adapter.specs.Device.{DevicePort, Device}
 use Rattle.adapter.specs.FirstRead.{first_memory, empty_port, reading_port, first_read_device}
 use Rattle.adapter.specs.Memory.{patched, changed}
@@ -19,7 +19,7 @@ use Rattle.block_machine.specs.Steps.{WaitAgain, IsEnabled, MayStillMove}
 use Rattle.refinement.specs.Relation.{port_at}
 use Rattle.refinement.specs.Driver.{DriverState, DriverRelation, IsPrepared, IsOwnPrepared, HasNoSlot, idle_driver_state, with_slot_parked}
 use Rattle.refinement.specs.PortFacts.{IsEngineStopped, FindsOwnPage}
-use Rattle.refinement.specs.MemoryLayout.{scratch_of}
+use Rattle.refinement.specs.MemoryLayout.{scratch_frame_address}
 use Rattle.refinement.specs.Slots.{Free, Own, Serves, SlotStates, set_slot_state, IsEnded}
 
 -- request 1
@@ -47,16 +47,20 @@ pub record PreparedReadWitness : Type 0 where
   pub mode : QueueMode
   pub request : Pending
   pub id_is : request.request.id ≡ first_id
-  pub prepared : IsPrepared (idle_driver_state prepared_read).uses machine prepared_read 0 0 mode request 1
+  pub prepared : IsPrepared (idle_driver_state prepared_read).slot_states machine prepared_read 0 0 mode request 1
   pub permitted : IsStable (MayWrite (Px (port_at 0) Ci) 1) prepared_read
   pub writes : Writes (Px (port_at 0) Ci) 1 prepared_read first_read_device
 
 -- slot 0 of port 0 serves request 1, and no other slot is used
-abbrev pub first_uses : SlotStates
-first_uses = set_slot_state (λ port slot. Free) 0 0 (Serves first_id)
+abbrev pub first_slot_states : SlotStates
+first_slot_states = set_slot_state (λ port slot. Free) 0 0 (Serves first_id)
 
 abbrev pub first_driver_state : DriverState
-first_driver_state = record { uses = first_uses; parked = λ port. []; device = first_read_device }
+first_driver_state = record {
+  slot_states = first_slot_states;
+  awaiting_disposition = λ port. [];
+  device = first_read_device;
+}
 
 -- A machine is reached that has issued request 1, and agrees with the driver of the first read.
 pub record FirstReadWitness : Type 0 where
@@ -69,7 +73,7 @@ pub record FirstReadWitness : Type 0 where
 
 -- the first read's device when PxCMD was written with ST 0 and FRE 1, and when CR has fallen then
 abbrev pub stopping_read : Device
-stopping_read = written (Px (port_at 0) Cmd) 0x10 first_read_device
+stopping_read = device_after_write (Px (port_at 0) Cmd) 0x10 first_read_device
 
 abbrev pub stopped_read : Device
 stopped_read = device_after (Fall 0) stopping_read
@@ -88,10 +92,10 @@ pub record ParkedReadWitness : Type 0 where
   pub machine : Machine
   pub reached : IsReachable machine
   pub driver_relation : DriverRelation machine parked_driver_state
-  pub unserved : HasNoSlot parked_driver_state.uses first_id
+  pub request_has_no_slot : HasNoSlot parked_driver_state.slot_states first_id
   pub request : Pending
   pub id_is : request.request.id ≡ first_id
-  pub may : IsEnabled machine (WaitAgain request)
+  pub wait_again_is_enabled : IsEnabled machine (WaitAgain request)
 
 -- A machine is reached that answered request 1 PortDead: its frames are kept. It agrees with the driver of the first
 -- read, whose slot serves the request still, and with the one who has taken it from there; so no slot serves a kept
@@ -103,20 +107,21 @@ pub record KeptReadAgrees : Type 0 where
   pub kept : Contains machine.kept request
   pub id_is : request.request.id ≡ first_id
   pub driver_relation : DriverRelation machine first_driver_state
-  pub taken : DriverRelation machine parked_driver_state
-  pub unserved : (e : Pending) → Contains machine.kept e → HasNoSlot parked_driver_state.uses e.request.id
+  pub relation_once_parked : DriverRelation machine parked_driver_state
+  pub kept_have_no_slot : (e : Pending) → Contains machine.kept e
+      → HasNoSlot parked_driver_state.slot_states e.request.id
 
 -- ---- a request whose command is done
 
 -- The device may go on to where the command in slot 0 of port 0 has ended. A machine is reached that agrees with the
 -- driver then: the slot serves this request still, which has ended and is unanswered.
-pub record DoneReadAgrees (k : DriverState) (id : RequestId) : Type 0 where
+pub record DoneRequestAgrees (k : DriverState) (id : RequestId) : Type 0 where
   pub device : Device
   pub steps : Steps k.device device
   pub machine : Machine
   pub reached : IsReachable machine
   pub driver_relation : DriverRelation machine (record k { device = device })
-  pub served : k.uses 0 0 ≡ Serves id
+  pub slot_serves_request : k.slot_states 0 0 ≡ Serves id
   pub request : Pending
   pub id_is : request.request.id ≡ id
   pub ended : IsEnded (device.port 0) 0 request
@@ -124,34 +129,34 @@ pub record DoneReadAgrees (k : DriverState) (id : RequestId) : Type 0 where
 
 -- so it is of the first read
 abbrev pub EndedReadAgrees : Type 0
-EndedReadAgrees = DoneReadAgrees first_driver_state first_id
+EndedReadAgrees = DoneRequestAgrees first_driver_state first_id
 
 -- ---- a command of the driver's own
 
 -- the FIS of IDENTIFY DEVICE
-abbrev pub identify_bytes : List ℕ
-identify_bytes = 0x27 ∷ 0x80 ∷ 0xec ∷ replicate 17 0
+abbrev pub identify_fis : List ℕ
+identify_fis = 0x27 ∷ 0x80 ∷ 0xec ∷ replicate 17 0
 
 -- the PRD of its page: 512 bytes from the beginning of port 0's scratch frame on
-abbrev pub page_bytes : List ℕ
-page_bytes = to_le_bytes w32 (scratch_of 0) ++ replicate 8 0 ++ 0xff ∷ 1 ∷ 0 ∷ 0 ∷ []
+abbrev pub encoded_page_prd : List ℕ
+encoded_page_prd = to_le_bytes w32 (scratch_frame_address 0) ++ replicate 8 0 ++ 0xff ∷ 1 ∷ 0 ∷ 0 ∷ []
 
 -- they stand in the first read's table, and the header of slot 0 is the same
 unfoldable pub identify_memory : ℕ → ℕ
-identify_memory = patched (patched first_memory 0x1000 identify_bytes) 0x1080 page_bytes
+identify_memory = patched (patched first_memory 0x1000 identify_fis) 0x1080 encoded_page_prd
 
 -- such a device before bit 0 of PxCI is written, and after
 abbrev pub prepared_identify : Device
 prepared_identify = ready_device identify_memory
 
 abbrev pub issued_identify : Device
-issued_identify = written (Px (port_at 0) Ci) 1 prepared_identify
+issued_identify = device_after_write (Px (port_at 0) Ci) 1 prepared_identify
 
 -- slot 0 of port 0 has the driver's own command
 abbrev pub own_driver_state : DriverState
 own_driver_state = record {
-  uses = set_slot_state (λ port slot. Free) 0 0 (Own Identify);
-  parked = λ port. [];
+  slot_states = set_slot_state (λ port slot. Free) 0 0 (Own Identify);
+  awaiting_disposition = λ port. [];
   device = issued_identify;
 }
 
@@ -160,11 +165,11 @@ own_driver_state = record {
 pub record OwnCommandAgrees : Type 0 where
   pub machine : Machine
   pub reached : IsReachable machine
-  pub before : DriverRelation machine (idle_driver_state prepared_identify)
-  pub prepared : IsOwnPrepared (idle_driver_state prepared_identify).uses prepared_identify 0 Identify 1
+  pub relation_before_issue : DriverRelation machine (idle_driver_state prepared_identify)
+  pub prepared : IsOwnPrepared (idle_driver_state prepared_identify).slot_states prepared_identify 0 Identify 1
   pub permitted : IsStable (MayWrite (Px (port_at 0) Ci) 1) prepared_identify
   pub writes : Writes (Px (port_at 0) Ci) 1 prepared_identify issued_identify
   pub driver_relation : DriverRelation machine own_driver_state
-  pub found : Device
-  pub reads : Reads (Px (port_at 0) Ci) 0 issued_identify found
-  pub page : FindsOwnPage own_driver_state.uses machine 0 Identify issued_identify found
+  pub device_after_read : Device
+  pub reads : Reads (Px (port_at 0) Ci) 0 issued_identify device_after_read
+  pub finds_own_page : FindsOwnPage own_driver_state.slot_states machine 0 Identify issued_identify device_after_read

@@ -7,8 +7,8 @@ use Rattle.adapter.specs.Access.{Access}
 use Rattle.adapter.specs.Access.Access.{Storing}
 use Rattle.adapter.specs.Commands.{Meaning, is_queued}
 use Rattle.adapter.specs.Device.{Device}
-use Rattle.refinement.specs.Driver.{MissesTable}
-use Rattle.refinement.specs.Links.{DoesNotWrite}
+use Rattle.refinement.specs.Driver.{MissesHeaderAndTable}
+use Rattle.refinement.specs.PreservedParts.{DoesNotWrite}
 use Rattle.refinement.specs.Slots.{Free, Armed, SlotStates, HasListInPlace, SlotDecodesTo}
 use Rattle.refinement.specs.StartedPort.{ClearsNoStart}
 
@@ -25,16 +25,16 @@ pub record IsReadied (uses : SlotStates) (d : Device) (port slot : ℕ) (c : Mea
 
 -- The slot is one that the adapter has (AHCI 1.3.1, 3.1.1, CAP.NCS), and it is readied for some command.
 pub record IsReadyToIssue (uses : SlotStates) (d : Device) (port slot : ℕ) : Type 0 where
-  pub usable : slot ≤ d.cap / 256 % 32
+  pub slot_is_implemented : slot ≤ d.cap / 256 % 32
   pub command : Meaning
   pub places : List ℕ
   pub readied : IsReadied uses d port slot command places
 
 -- The access leaves what is stored for the slot: it writes neither GHC nor PxCLB, doesn't clear ST, and stores nothing
 -- in header or table.
-pub record LeavesStored (port : Port) (slot : ℕ) (access : Access) : Type 0 where
+pub record KeepsStoredCommand (port : Port) (slot : ℕ) (access : Access) : Type 0 where
   pub ghc_is_not_written : DoesNotWrite Ghc access
   pub st_is_not_cleared : ClearsNoStart port access
   pub clb_is_not_written : DoesNotWrite (Px port Clb) access
   pub table_is_not_stored_to : (at : ℕ) (bytes : List ℕ) → access ≡ Storing at bytes
-      → MissesTable port.0 slot at (length bytes)
+      → MissesHeaderAndTable port.0 slot at (length bytes)

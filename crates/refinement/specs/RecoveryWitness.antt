@@ -31,19 +31,19 @@ pub record RecoveredWitness : Type 0 where
   pub engine_has_stopped : IsEngineStopped (stopped.port 0)
   pub may_clear : IsStable (MayWrite (Px (port_at 0) Serr) 0xffffffff) stopped
   pub cleared : Device
-  pub clears : Writes (Px (port_at 0) Serr) 0xffffffff stopped cleared
-  pub may_quiet : IsStable (MayWrite (Px (port_at 0) Is) 0xffffffff) cleared
+  pub serr_is_cleared : Writes (Px (port_at 0) Serr) 0xffffffff stopped cleared
+  pub pxis_may_be_cleared : IsStable (MayWrite (Px (port_at 0) Is) 0xffffffff) cleared
   pub quieted : Device
-  pub quiets : Writes (Px (port_at 0) Is) 0xffffffff cleared quieted
+  pub pxis_is_cleared : Writes (Px (port_at 0) Is) 0xffffffff cleared quieted
   pub idle : Device
-  pub waits : Reads (Px (port_at 0) Tfd) 0x4041 quieted idle
+  pub tfd_is_read_idle : Reads (Px (port_at 0) Tfd) 0x4041 quieted idle
   pub ready : Device
-  pub sees : Reads (Px (port_at 0) Ssts) 3 idle ready
+  pub ssts_is_read_present : Reads (Px (port_at 0) Ssts) 3 idle ready
   pub may_start : IsStable (MayWrite (Px (port_at 0) Cmd) 0x11) ready
   pub started : Device
   pub starts : Writes (Px (port_at 0) Cmd) 0x11 ready started
   pub found : Device
-  pub tells : Reads (Px (port_at 0) Is) 0 started found
+  pub pxis_is_read_clear : Reads (Px (port_at 0) Is) 0 started found
   pub still_plain : WorksPlainly (ready.port 0)
   pub still_linked : IsLinked (ready.port 0)
   pub port_runs_well : RunsWell (found.port 0)
@@ -55,5 +55,5 @@ pub record FaultIsSeen (old : Device) (slot : ℕ) (halt : Halt) : Type 0 where
   pub sees : Reads (Px (port_at 0) Ssts) 3 old seen
   pub halted : (seen.port 0).halt ≡ halt
   pub fault : tape_fault.Fault
-  pub here : Contains seen.tape (entry.Fault fault)
-  pub of : (fault.port.0 ≡ 0) × (fault.slot.0 ≡ slot)
+  pub fault_is_on_tape : Contains seen.tape (entry.Fault fault)
+  pub fault_is_of_slot : (fault.port.0 ≡ 0) × (fault.slot.0 ≡ slot)

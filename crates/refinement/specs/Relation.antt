@@ -9,7 +9,7 @@ use Rattle.adapter.specs.Steps.{WereHeld}
 use Rattle.adapter.specs.declared.tape.Entry.{Entry}
 use Rattle.block_machine.specs.State.{Pending, Machine}
 use Rattle.block_machine.specs.Steps.{MayStillMove, HoldsOrHeldSinceFlush}
-use Rattle.refinement.specs.MemoryLayout.{received_of}
+use Rattle.refinement.specs.MemoryLayout.{received_fis_address}
 use Rattle.refinement.specs.Slots.{Serves, SlotStates, RelatesSlot}
 
 -- the port of a number
@@ -18,34 +18,36 @@ port_at n = record { 0 = n }
 
 -- the received FIS area is where it belongs
 pub record HasReceivedArea (p : DevicePort) (port : ℕ) : Type 0 where
-  pub below : port < 4
-  pub area : p.bases.fb ≡ received_of port
+  pub port_is_below_4 : port < 4
+  pub area_is_in_place : p.bases.fb ≡ received_fis_address port
 
 -- The machine's disk is the port's: whether it is in, which one it is, and how many sectors it has.
 pub record IsDiskOf (m : Machine) (p : DevicePort) (port : ℕ) : Type 0 where
   pub present : m.present (port_at port) ≡ p.present
   pub id : m.disk_ids (port_at port) ≡ p.disk.name
-  pub size : m.sizes (port_at port) ≡ p.disk.size
+  pub sector_count : m.sizes (port_at port) ≡ p.disk.sector_count
 
 -- the disk tells its sectors, and they hold what the machine's do
 pub record SameSectors (m : Machine) (disk : Disk) (port : ℕ) : Type 0 where
   pub told_sectors : ℕ → List ℕ
   pub disk_tells : disk.sectors ≡ Some told_sectors
-  pub bytes_are_same : (k b : ℕ) → k < disk.size → b < 512 → slice_index (told_sectors k) b ≡ m.disks (port_at port) k b
+  pub bytes_are_same : (k b : ℕ) → k < disk.sector_count → b < 512
+      → slice_index (told_sectors k) b ≡ m.disk_bytes (port_at port) k b
 
 -- what a sector of the port's disk may come back with, the machine's disk holds there or has held
-abbrev pub HasLasting : Machine → List Entry → DevicePort → ℕ → Type 0
-HasLasting m tape p port = (k : ℕ) → k < p.disk.size → (bytes : List ℕ) → WereHeld tape p.lasting port k bytes
+abbrev pub HoldsReplugCandidates : Machine → List Entry → DevicePort → ℕ → Type 0
+HoldsReplugCandidates m tape p port = (k : ℕ) → k < p.disk.sector_count → (bytes : List ℕ)
+    → WereHeld tape p.lasting port k bytes
     → HoldsOrHeldSinceFlush m (port_at port) k (slice_index bytes)
 
 -- each client frame holds what the machine's does
-abbrev pub SameMemory : Machine → (ℕ → ℕ) → Type 0
-SameMemory m memory = (frame : Frame) (b : ℕ) → DRIVER_FRAMES ≤ frame.0 → b < FRAME_BYTES
+abbrev pub SameClientFrames : Machine → (ℕ → ℕ) → Type 0
+SameClientFrames m memory = (frame : Frame) (b : ℕ) → DRIVER_FRAMES ≤ frame.0 → b < FRAME_BYTES
     → memory (FRAME_BYTES * frame.0 + b) ≡ m.memory frame b
 
 -- no two slots serve one request
-abbrev pub ServeApart : SlotStates → Type 0
-ServeApart uses = (port slot other_port other_slot : ℕ) (id : RequestId) → uses port slot ≡ Serves id
+abbrev pub ServeDistinctRequests : SlotStates → Type 0
+ServeDistinctRequests uses = (port slot other_port other_slot : ℕ) (id : RequestId) → uses port slot ≡ Serves id
     → uses other_port other_slot ≡ Serves id → (port ≡ other_port) × (slot ≡ other_slot)
 
 -- Device and machine agree: each slot is as its use says, each received FIS area that is in use is where it belongs,
@@ -53,17 +55,17 @@ ServeApart uses = (port slot other_port other_slot : ℕ) (id : RequestId) → u
 -- what those may come back with, the machine knows.
 pub record StateRelation (uses : SlotStates) (m : Machine) (d : Device) : Type 0 where
   pub relates_slots : (port slot : ℕ) → RelatesSlot m d.memory d.tape (d.port port) port slot (uses port slot)
-  pub serve_apart : ServeApart uses
+  pub serve_distinct_requests : ServeDistinctRequests uses
   pub received_areas_are_placed : (port : ℕ) → (d.port port).fre ≡ true → HasReceivedArea (d.port port) port
   pub disks_are_same : (port : ℕ) → IsDiskOf m (d.port port) port
-  pub memory_is_same : SameMemory m d.memory
+  pub client_frames_are_same : SameClientFrames m d.memory
   pub sectors_are_same : d.telling ≡ true → (port : ℕ) → SameSectors m (d.port port).disk port
-  pub has_lasting : d.telling ≡ true → (port : ℕ) → HasLasting m d.tape (d.port port) port
+  pub holds_replug_candidates : d.telling ≡ true → (port : ℕ) → HoldsReplugCandidates m d.tape (d.port port) port
 
 -- ---- what stands beside it, by port
 
 -- Each request of the port that is issued or kept has a slot, but for those of these ids: their slots were given up
 -- before they were decided.
-abbrev pub HaveSlots : SlotStates → Machine → ℕ → List RequestId → Type 0
-HaveSlots uses m port parked = (e : Pending) → MayStillMove m e → e.request.port.0 ≡ port
+abbrev pub HaveSlotsUnlessParked : SlotStates → Machine → ℕ → List RequestId → Type 0
+HaveSlotsUnlessParked uses m port parked = (e : Pending) → MayStillMove m e → e.request.port.0 ≡ port
     → Contains parked e.request.id ⊎ ((slot : ℕ) × (uses port slot ≡ Serves e.request.id))

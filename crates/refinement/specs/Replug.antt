@@ -1,6 +1,6 @@
 -- What a sector may come back with, as a list (this project's own).
 use Rattle.std.specs.Prelude.{ℕ, List, [], ◌∷◌, ◌++◌, Option, Some, None, option_map, drop, slice_index}
-use Rattle.adapter.specs.Device.{Lasting}
+use Rattle.adapter.specs.Device.{DurableState}
 use Rattle.adapter.specs.Steps.{bytes_put_into}
 use Rattle.adapter.specs.declared.tape.Entry.{Entry}
 use Rattle.block_machine.specs.State.{Block}
@@ -16,6 +16,6 @@ blocks_put port k [] = []
 blocks_put port k (entry ∷ later) = optional_block (bytes_put_into port k entry) ++ blocks_put port k later
 
 -- what is lasting there, and what was put there since
-abbrev pub replug_candidates : List Entry → Lasting → (port k : ℕ) → List Block
+abbrev pub replug_candidates : List Entry → DurableState → (port k : ℕ) → List Block
 replug_candidates tape lasting port k = optional_block (option_map (λ sectors. sectors k) lasting.sectors)
     ++ blocks_put port k (drop lasting.tape_length tape)

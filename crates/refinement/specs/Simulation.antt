@@ -15,12 +15,13 @@ use Rattle.refinement.specs.Tape.{TapeTells, PutsInDisks}
 -- where these tell it; the disks that were put in are the device's; and after the steps the two agree.
 pub record SimulatesSteps (uses : SlotStates) (m : Machine) (old new : Device) : Type 0 where
   pub steps : List Step
-  pub telling : new.telling ≡ old.telling
-  pub may : AllEnabled m steps
+  pub telling_is_same : new.telling ≡ old.telling
+  pub steps_are_enabled : AllEnabled m steps
   pub steps_are_faithful : old.telling ≡ true → AllStepsFaithful m steps
   pub new_entries : List Entry
   pub tape_is : new.tape ≡ old.tape ++ new_entries
   pub tape_tells_steps : TapeTells m new_entries steps
-  pub plugged : (port : ℕ) → (disks : List device.Disk) × ((new.port port).plugged ≡ (old.port port).plugged ++ disks)
+  pub plugged_disks_match_steps : (port : ℕ) → (disks : List device.Disk)
+      × ((new.port port).plug_history ≡ (old.port port).plug_history ++ disks)
       × PutsInDisks port disks steps
-  pub agrees : StateRelation uses (after m steps) new
+  pub state_relation : StateRelation uses (after m steps) new

@@ -17,7 +17,7 @@ use Rattle.adapter.specs.declared.tape.Entry.TheVariants as entry
 use Rattle.adapter.specs.declared.tape.Move as tape_move
 use Rattle.block_machine.specs.State.{Accepted, Pending, Machine}
 use Rattle.block_machine.specs.Steps.{MayStillMove, AllTouched}
-use Rattle.refinement.specs.MemoryLayout.{list_of, table_of, scratch_of, place_in}
+use Rattle.refinement.specs.MemoryLayout.{command_list_address, command_table_address, scratch_frame_address, sector_address}
 
 -- What the driver has put into a slot: nothing, its bit of PxSACT alone, a command of its own (IDENTIFY DEVICE or READ
 -- LOG EXT), or the request of this id.
@@ -49,30 +49,30 @@ serving_count uses port (suc n) = if is_serving (uses port n) then suc (serving_
     uses port n
 
 -- the client's operation that a command does; the driver's own do none
-abbrev pub op_of : Operation → Option Op
-op_of operation.Read = Some Read
-op_of operation.ReadQueued = Some Read
-op_of operation.Write = Some Write
-op_of operation.WriteQueued = Some Write
-op_of operation.Trim = Some Trim
-op_of operation.Flush = Some Flush
-op_of operation.Identify = None
-op_of operation.ReadLog = None
+abbrev pub client_operation_of : Operation → Option Op
+client_operation_of operation.Read = Some Read
+client_operation_of operation.ReadQueued = Some Read
+client_operation_of operation.Write = Some Write
+client_operation_of operation.WriteQueued = Some Write
+client_operation_of operation.Trim = Some Trim
+client_operation_of operation.Flush = Some Flush
+client_operation_of operation.Identify = None
+client_operation_of operation.ReadLog = None
 
 -- ---- the command of a slot
 
 -- Where a request's bytes lie: its sectors at their places in its frames, a trim's block in the scratch frame.
 abbrev pub AreRequestPlaces : Op → ℕ → Accepted → List ℕ → Type 0
 AreRequestPlaces Read port r places = (length places ≡ r.asked.count)
-    × ((i : ℕ) → i < r.asked.count → slice_index places i ≡ place_in r.asked.frames.items i)
+    × ((i : ℕ) → i < r.asked.count → slice_index places i ≡ sector_address r.asked.frames.items i)
 AreRequestPlaces Write port r places = (length places ≡ r.asked.count)
-    × ((i : ℕ) → i < r.asked.count → slice_index places i ≡ place_in r.asked.frames.items i)
-AreRequestPlaces Trim port r places = places ≡ scratch_of port ∷ []
+    × ((i : ℕ) → i < r.asked.count → slice_index places i ≡ sector_address r.asked.frames.items i)
+AreRequestPlaces Trim port r places = places ≡ scratch_frame_address port ∷ []
 AreRequestPlaces Flush port r places = places ≡ []
 
 -- The command is the request's. Only slot 0 has a block in the scratch frame.
 pub record MeansRequest (port slot : ℕ) (r : Accepted) (c : Meaning) (places : List ℕ) : Type 0 where
-  pub op_is : op_of c.operation ≡ Some r.asked.op
+  pub op_is : client_operation_of c.operation ≡ Some r.asked.op
   pub first_sector_is : is_ranged c.operation ≡ true → c.first ≡ r.asked.first.0
   pub places_are : AreRequestPlaces r.asked.op port r places
   pub trim_is_in_slot_0 : r.asked.op ≡ Trim → slot ≡ 0
@@ -81,14 +81,14 @@ pub record MeansRequest (port slot : ℕ) (r : Accepted) (c : Meaning) (places :
 -- command is taken, has ended or was given up: what a slot in use has is never stored to.
 pub record SlotDecodesTo (memory : ℕ → ℕ) (list port slot : ℕ) (c : Meaning) (places : List ℕ) : Type 0 where
   pub decodes_to : DecodesTo memory list slot c places
-  pub table_is : decodes_to.table ≡ table_of port slot
+  pub table_is : decodes_to.table ≡ command_table_address port slot
   pub prds_are_few : length decodes_to.prds ≤ MOST_REQUEST_FRAMES
 
 -- the port's command list is where it belongs
 pub record HasListInPlace (p : DevicePort) (port slot : ℕ) : Type 0 where
   pub port_below : port < 4
   pub slot_below : slot < 32
-  pub list : p.bases.clb ≡ list_of port
+  pub list : p.bases.clb ≡ command_list_address port
 
 -- ---- how far a request's command is
 
@@ -101,17 +101,17 @@ abbrev pub MeansRange : List ℕ → Accepted → Type 0
 MeansRange block r = trim_sectors block ≡ consecutive r.asked.first.0 r.asked.count
 
 -- a trim's block stands in the scratch frame
-abbrev pub HasTrimBlock : Op → (ℕ → ℕ) → ℕ → Accepted → Type 0
-HasTrimBlock Trim memory port r = MeansRange (bytes_at memory (scratch_of port) 512) r
-HasTrimBlock _ memory port r = Unit {0}
+abbrev pub HasBlockIfTrim : Op → (ℕ → ℕ) → ℕ → Accepted → Type 0
+HasBlockIfTrim Trim memory port r = MeansRange (bytes_at memory (scratch_frame_address port) 512) r
+HasBlockIfTrim _ memory port r = Unit {0}
 
 -- issued, and not taken yet: the request isn't ended
 pub record AwaitsFetch (memory : ℕ → ℕ) (p : DevicePort) (port slot : ℕ) (e : Pending) (c : Meaning) : Type 0 where
   pub started : p.st ≡ true
   pub issued : p.ci slot ≡ true
-  pub free : p.taken slot ≡ None
+  pub is_not_taken : p.taken slot ≡ None
   pub sact : p.sact slot ≡ is_queued c.operation
-  pub block : HasTrimBlock e.request.asked.op memory port e.request
+  pub has_block_if_trim : HasBlockIfTrim e.request.asked.op memory port e.request
   pub untouched : TouchedUpTo e.touched 0
   pub unended : e.ended ≡ false
 
@@ -121,7 +121,7 @@ TouchedAsMoved Read memory port e t = TouchedUpTo e.touched t.moved
 TouchedAsMoved Write memory port e t = TouchedUpTo e.touched t.moved
 TouchedAsMoved Trim memory port e t =
     TouchedUpTo e.touched t.cleared
-    × (((t.moved ≡ 0) × (t.cleared ≡ 0) × MeansRange (bytes_at memory (scratch_of port) 512) e.request)
+    × (((t.moved ≡ 0) × (t.cleared ≡ 0) × MeansRange (bytes_at memory (scratch_frame_address port) 512) e.request)
     ⊎ ((t.moved ≡ 1) × MeansRange t.block e.request))
 TouchedAsMoved Flush memory port e t = Unit {0}
 
@@ -133,25 +133,25 @@ pub record IsTakenFor (memory : ℕ → ℕ) (p : DevicePort) (port slot : ℕ) 
   pub meaning : command.meaning ≡ c
   pub places_are : command.places ≡ places
   pub running : p.cr ≡ true
-  pub issued : p.ci slot ≡ p.st && not (is_queued c.operation)
+  pub ci_is_set_while_plain : p.ci slot ≡ p.st && not (is_queued c.operation)
   pub sact : p.sact slot ≡ p.st && is_queued c.operation
   pub progress : TouchedAsMoved e.request.asked.op memory port e command
   pub unended : e.ended ≡ false
 
 -- ended, its bits clear
 pub record IsEnded (p : DevicePort) (slot : ℕ) (e : Pending) : Type 0 where
-  pub issued : p.ci slot ≡ false
-  pub sact : p.sact slot ≡ false
-  pub free : p.taken slot ≡ None
+  pub is_not_issued : p.ci slot ≡ false
+  pub sact_is_clear : p.sact slot ≡ false
+  pub is_not_taken : p.taken slot ≡ None
   pub ended : e.ended ≡ true
   pub touched : AllTouched e
 
 -- given up by the device before it ended: ST was cleared before it was taken, CR fell, or a reset of the adapter ended
 pub record IsDropped (p : DevicePort) (slot : ℕ) (e : Pending) : Type 0 where
-  pub stopped : p.st ≡ false
-  pub issued : p.ci slot ≡ false
-  pub sact : p.sact slot ≡ false
-  pub free : p.taken slot ≡ None
+  pub st_is_clear : p.st ≡ false
+  pub is_not_issued : p.ci slot ≡ false
+  pub sact_is_clear : p.sact slot ≡ false
+  pub is_not_taken : p.taken slot ≡ None
   pub unended : e.ended ≡ false
 
 -- a request's command waits, is taken, has ended, or was given up
@@ -177,8 +177,8 @@ pub record ServesRequest (m : Machine) (memory : ℕ → ℕ) (p : DevicePort) (
 
 -- no command is issued or taken
 pub record IsOver (p : DevicePort) (slot : ℕ) : Type 0 where
-  pub issued : p.ci slot ≡ false
-  pub free : p.taken slot ≡ None
+  pub is_not_issued : p.ci slot ≡ false
+  pub is_not_taken : p.taken slot ≡ None
 
 -- the entry is a move of the port's, by a command of this operation
 abbrev pub IsMove : ℕ → Operation → Entry → Type 0
@@ -195,21 +195,21 @@ pub record PageStandsInScratch (memory : ℕ → ℕ) (tape : List Entry) (port 
     pub later : List Entry
     pub tape_is_split : tape ≡ before ++ entry.Move move ∷ later
     pub is_move : IsMove port o (entry.Move move)
-    pub last : All (λ e. IsMove port o e → ⊥) later
-    pub bytes : bytes_at memory (scratch_of port) 512 ≡ move.bytes.value
+    pub no_later_move : All (λ e. IsMove port o e → ⊥) later
+    pub scratch_holds_page : bytes_at memory (scratch_frame_address port) 512 ≡ move.bytes.value
 
 -- issued, and not taken yet
 pub record OwnAwaitsFetch (p : DevicePort) (slot : ℕ) : Type 0 where
   pub started : p.st ≡ true
   pub issued : p.ci slot ≡ true
-  pub free : p.taken slot ≡ None
+  pub is_not_taken : p.taken slot ≡ None
 
 -- taken by the device
 pub record OwnIsTaken (memory : ℕ → ℕ) (tape : List Entry) (p : DevicePort) (port slot : ℕ) (c : Meaning) : Type 0 where
   pub command : FetchedCommand
   pub taken : p.taken slot ≡ Some command
   pub meaning : command.meaning ≡ c
-  pub places_are : command.places ≡ scratch_of port ∷ []
+  pub places_are : command.places ≡ scratch_frame_address port ∷ []
   pub running : p.cr ≡ true
   pub issued : p.ci slot ≡ p.st
   pub page_is_brought : (command.moved ≡ 0) ⊎ ((command.moved ≡ 1) × PageStandsInScratch memory tape port c.operation
@@ -224,12 +224,12 @@ pub record OwnIsOver (memory : ℕ → ℕ) (tape : List Entry) (p : DevicePort)
 -- one.
 pub record ServesOwn (memory : ℕ → ℕ) (tape : List Entry) (p : DevicePort) (port slot : ℕ)
     (o : Operation) : Type 0 where
-  pub own : op_of o ≡ None
+  pub operation_is_drivers_own : client_operation_of o ≡ None
   pub slot_is_0 : slot ≡ 0
   pub list_is_in_place : HasListInPlace p port slot
   pub command : Meaning
   pub operation_is : command.operation ≡ o
-  pub slot_decodes_to : SlotDecodesTo memory p.bases.clb port slot command (scratch_of port ∷ [])
+  pub slot_decodes_to : SlotDecodesTo memory p.bases.clb port slot command (scratch_frame_address port ∷ [])
   pub unqueued : p.sact slot ≡ false
   pub st_set_is_on_tape : p.notes.st_set_at ≤ length tape
   pub stage : OwnAwaitsFetch p slot ⊎ (OwnIsTaken memory tape p port slot command
@@ -237,14 +237,14 @@ pub record ServesOwn (memory : ℕ → ℕ) (tape : List Entry) (p : DevicePort)
 
 -- no command is issued or taken, and no bit of SACT is set
 pub record IsEmptySlot (p : DevicePort) (slot : ℕ) : Type 0 where
-  pub issued : p.ci slot ≡ false
-  pub free : p.taken slot ≡ None
+  pub is_not_issued : p.ci slot ≡ false
+  pub is_not_taken : p.taken slot ≡ None
   pub unarmed : p.sact slot ≡ false
 
 -- No command is issued or taken, and the bit of SACT is set for the next one; clearing ST clears it.
 pub record IsArmed (p : DevicePort) (slot : ℕ) : Type 0 where
-  pub issued : p.ci slot ≡ false
-  pub free : p.taken slot ≡ None
+  pub is_not_issued : p.ci slot ≡ false
+  pub is_not_taken : p.taken slot ≡ None
   pub armed : p.sact slot ≡ p.st
 
 -- the relation of one slot

@@ -7,7 +7,7 @@ use Rattle.block_machine.specs.Steps.{Step, Issue, Touch, End, WaitAgain, Answer
 -- The same request, issued as often and as long ago: it is as far as it was, or further.
 pub record IsFurther (old new : Pending) : Type 0 where
   pub request : new.request ≡ old.request
-  pub issues : new.issues ≡ old.issues
+  pub issues : new.issue_count ≡ old.issue_count
   pub age : new.age ≡ old.age
   pub issued : new.issued ≡ old.issued
   pub touched : (i : ℕ) → old.touched i ≡ true → new.touched i ≡ true
@@ -20,11 +20,11 @@ AllFurther (old ∷ olds) [] = ⊥
 AllFurther (old ∷ olds) (new ∷ news) = IsFurther old new × AllFurther olds news
 
 -- Grants, owners, loans and the next id are the same; so are the requests that are unanswered, and those that are kept.
-pub record SparesBook (m later : Machine) : Type 0 where
+pub record KeepsBookAndLoans (m later : Machine) : Type 0 where
   pub rows : later.rows ≡ m.rows
   pub owner : later.owner ≡ m.owner
   pub lent : later.lent ≡ m.lent
-  pub next : later.next_id ≡ m.next_id
+  pub next_id : later.next_id ≡ m.next_id
   pub book : AllFurther m.book later.book
   pub kept : AllFurther m.kept later.kept
 

@@ -12,8 +12,8 @@ use Rattle.adapter.specs.Steps.{halt_after_start}
 
 -- The link is up: a disk is in, its first FIS has come, no other link is due, and COMRESET isn't being sent. Once ST
 -- is set, no halt is left (AHCI 1.3.1, 6.2.2 and 10.4.2).
-pub record IsUp (p : DevicePort) : Type 0 where
-  pub det : p.ssts_det ≡ 3
+pub record IsUpForStart (p : DevicePort) : Type 0 where
+  pub det_is_3 : p.ssts_det ≡ 3
   pub present : p.present ≡ true
   pub fresh : p.fresh ≡ true
   pub no_link_is_due : p.link_due ≡ false
@@ -23,14 +23,14 @@ pub record IsUp (p : DevicePort) : Type 0 where
 -- The engine stands; and if PxSSTS.DET is 3, the link is up.
 pub record IsComingUp (p : DevicePort) : Type 0 where
   pub cr_is_clear : p.cr ≡ false
-  pub is_up_if_shown : p.ssts_det ≡ 3 → IsUp p
+  pub is_up_if_shown : p.ssts_det ≡ 3 → IsUpForStart p
 
 -- The port runs, its disk is there with its link up and no other link due, and no error has stopped it since. Its bits
 -- may tell of what was before.
 pub record IsStarted (p : DevicePort) : Type 0 where
-  pub st : p.st ≡ true
-  pub cr : p.cr ≡ true
-  pub det : p.ssts_det ≡ 3
+  pub st_is_set : p.st ≡ true
+  pub cr_is_set : p.cr ≡ true
+  pub det_is_3 : p.ssts_det ≡ 3
   pub present : p.present ≡ true
   pub fresh : p.fresh ≡ true
   pub no_link_is_due : p.link_due ≡ false

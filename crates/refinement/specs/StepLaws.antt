@@ -5,7 +5,7 @@ use Rattle.hba_regs.specs.declared.reg.PortReg.{PortReg}
 use Rattle.hba_regs.specs.declared.reg.Reg.TheVariants.{Px}
 use Rattle.adapter.specs.Access.{Reads}
 use Rattle.adapter.specs.Device.{Device}
-use Rattle.adapter.specs.KeptBySteps.{Keeps}
+use Rattle.adapter.specs.KeptBySteps.{KeepsOverSteps}
 use Rattle.adapter.specs.RegisterEffects.{PortRegisterRead}
 use Rattle.adapter.specs.Steps.{Can, DeviceTransition, Steps, device_after}
 use Rattle.block_machine.specs.Events.{AllEnabled}
@@ -16,10 +16,12 @@ use Rattle.block_machine.specs.Steps.{Step}
 
 pub record StepLaws : Type 0 where
   -- what the device's steps keep, and one of them
-  pub keeps : (old new : Device) → Steps old new → Keeps old new
-  pub step : (step : DeviceTransition) (d : Device) → Can step d → Keeps d (device_after step d)
+  pub steps_keep : (old new : Device) → Steps old new → KeepsOverSteps old new
+  pub one_step_keeps : (step : DeviceTransition) (d : Device) → Can step d → KeepsOverSteps d (device_after step d)
   -- what a reading of a port's register shows
-  pub seen : (port : Port) (r : PortReg) (v : ℕ) (old new : Device) → Reads (Px port r) v old new → old.hr ≡ false
+  pub reading_shows_register : (port : Port) (r : PortReg) (v : ℕ) (old new : Device) → Reads (Px port r) v old new
+      → old.hr ≡ false
       → PortRegisterRead port.0 r v old new
   -- the machine's steps lead on from one that is reached
-  pub reached : (m : Machine) (steps : List Step) → IsReachable m → AllEnabled m steps → IsReachable (after m steps)
+  pub reachable_goes_on : (m : Machine) (steps : List Step) → IsReachable m → AllEnabled m steps
+      → IsReachable (after m steps)

@@ -13,8 +13,8 @@ use Rattle.block_machine.specs.State.{DiskBytes, Pending, Machine, frame_at, sec
 use Rattle.block_machine.specs.Steps.{Step, Touch, End, Unplug, Replace, MayStillMove, touch}
 use Rattle.block_machine.specs.Expected.{after}
 use Rattle.block_machine.specs.Events.{IsByDevice}
-use Rattle.refinement.specs.MemoryLayout.{scratch_of, place_in}
-use Rattle.refinement.specs.Slots.{op_of}
+use Rattle.refinement.specs.MemoryLayout.{scratch_frame_address, sector_address}
+use Rattle.refinement.specs.Slots.{client_operation_of}
 
 -- Sector number i of a request that may move went between its place on the disk and its place in memory, in the
 -- operation's direction, and the frame there is lent to the request.
@@ -26,7 +26,7 @@ pub record MovesSector (m : Machine) (op : Op) (move : tape_move.Move) (steps : 
   pub sector_number : ℕ
   pub number_is_in_range : sector_number < pending.request.asked.count
   pub sector_is : move.sector ≡ sector_of pending.request sector_number
-  pub place_is : move.address ≡ place_in pending.request.asked.frames.items sector_number
+  pub place_is : move.address ≡ sector_address pending.request.asked.frames.items sector_number
   pub direction_is : move.direction ≡ direction_of move.operation
   pub frame_is_lent : m.lent (frame_at pending.request.asked.frames.items (sector_number / 8)) ≡ Some pending.request.id
   pub step_is : steps ≡ Touch pending sector_number (slice_index move.bytes.value) ∷ []
@@ -34,20 +34,20 @@ pub record MovesSector (m : Machine) (op : Op) (move : tape_move.Move) (steps : 
 -- A move, by the client's operation that its command does. A page, or a trim's block, goes between disk and scratch
 -- frame: that is no step of the machine.
 abbrev pub TellsMove : Option Op → Machine → tape_move.Move → List Step → Type 0
-TellsMove None m move steps = (move.address ≡ scratch_of move.port.0) × (steps ≡ [])
+TellsMove None m move steps = (move.address ≡ scratch_frame_address move.port.0) × (steps ≡ [])
 TellsMove (Some Read) m move steps = MovesSector m Read move steps
 TellsMove (Some Write) m move steps = MovesSector m Write move steps
-TellsMove (Some Trim) m move steps = (move.address ≡ scratch_of move.port.0) × (steps ≡ [])
+TellsMove (Some Trim) m move steps = (move.address ≡ scratch_frame_address move.port.0) × (steps ≡ [])
 TellsMove (Some Flush) m move steps = ⊥
 
 -- n sectors touched in a row, from one on: the request then, and the steps, the newest first. No bytes are moved.
-abbrev pub touched_by : Pending → ℕ → ℕ → Pending
-touched_by e from zero = e
-touched_by e from (suc n) = touch (from + n) (touched_by e from n)
+abbrev pub with_sectors_touched : Pending → ℕ → ℕ → Pending
+with_sectors_touched e from zero = e
+with_sectors_touched e from (suc n) = touch (from + n) (with_sectors_touched e from n)
 
 abbrev pub touch_steps : Pending → ℕ → ℕ → List Step
 touch_steps e from zero = []
-touch_steps e from (suc n) = Touch (touched_by e from n) (from + n) (λ b. 0) ∷ touch_steps e from n
+touch_steps e from (suc n) = Touch (with_sectors_touched e from n) (from + n) (λ b. 0) ∷ touch_steps e from n
 
 -- sectors of a trim became zero
 pub record ClearsSectors (m : Machine) (clear : tape_clear.Clear) (steps : List Step) : Type 0 where
@@ -76,9 +76,9 @@ TellsDone (Some op) m done steps = EndsPending m op done steps
 
 -- The machine's steps that an entry tells of. Of a disk that was put in the tape has the name alone.
 abbrev pub TellsEntry : Machine → Entry → List Step → Type 0
-TellsEntry m (entry.Move move) steps = TellsMove (op_of move.operation) m move steps
+TellsEntry m (entry.Move move) steps = TellsMove (client_operation_of move.operation) m move steps
 TellsEntry m (entry.Clear clear) steps = ClearsSectors m clear steps
-TellsEntry m (entry.Done done) steps = TellsDone (op_of done.operation) m done steps
+TellsEntry m (entry.Done done) steps = TellsDone (client_operation_of done.operation) m done steps
 TellsEntry m (entry.Fault fault) steps = steps ≡ []
 TellsEntry m (entry.Fatal port) steps = steps ≡ []
 TellsEntry m (entry.Unplug port) steps = steps ≡ Unplug port ∷ []
@@ -102,8 +102,8 @@ OneAtMost IsKind (entry ∷ entries) = (IsKind entry → All (λ e. IsKind e →
 -- the machine has the disk's name, its size and, where the disk tells its sectors, their bytes
 pub record IsPutIn (disk : device.Disk) (name size : ℕ) (content : DiskBytes) : Type 0 where
   pub name_is : name ≡ disk.name
-  pub size_is : size ≡ disk.size
-  pub holds : (told : ℕ → List ℕ) → disk.sectors ≡ Some told → (k b : ℕ) → k < disk.size → b < 512
+  pub size_is : size ≡ disk.sector_count
+  pub bytes_are_same : (told : ℕ → List ℕ) → disk.sectors ≡ Some told → (k b : ℕ) → k < disk.sector_count → b < 512
       → slice_index (told k) b ≡ content k b
 
 -- the disks that these steps, the newest first, put into the port, the oldest first

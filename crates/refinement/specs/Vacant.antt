@@ -5,7 +5,7 @@ use Rattle.adapter.specs.Device.{DevicePort}
 -- no disk is in, and PxSSTS shows none
 pub record IsVacant (p : DevicePort) : Type 0 where
   pub no_disk_is_in : p.present ≡ false
-  pub det : p.ssts_det ≢ 3
+  pub det_is_not_3 : p.ssts_det ≢ 3
 
 -- where PxSSTS.DET is 3, the first FIS of the disk has come
 abbrev pub HasFirstFisIfShown : DevicePort → Type 0

@@ -4,24 +4,10 @@
 // calls these functions when it runs.
 ghost use Rattle.std.specs.Prelude.{ℕ, ⊤, None, false, ◌≡◌, ◌⊎◌, ◌++◌, [], ◌∷◌, List, length};
 ghost use Rattle.ata_types.specs.declared.Port.{Port};
-ghost use Rattle.hba_regs.specs.declared.reg.PortReg.{PortReg};
-ghost use Rattle.hba_regs.specs.declared.reg.PortReg.TheVariants.{Sact, Ci};
-ghost use Rattle.hba_regs.specs.declared.reg.Reg.{Reg};
-ghost use Rattle.hba_regs.specs.declared.reg.Reg.TheVariants.{Px};
-ghost use Rattle.adapter.specs.Access.{Access, Reads, Writes, Loads, Stores};
-ghost use Rattle.adapter.specs.Access.Access.{Reading, Writing, Loading, Storing};
-ghost use Rattle.adapter.specs.Device.{Device};
-ghost use Rattle.adapter.specs.Rules.{MayWrite, IsStable};
-ghost use Rattle.adapter.specs.declared.command.Operation.{Operation};
-ghost use Rattle.refinement.specs.Acts.{ActsByDeviceAlone, Performs};
-ghost use Rattle.refinement.specs.Fragments.{IsRelated, IsPortAccessWriting, IsSimulated, IsSimulatedChangingUses, SparesOtherPorts, IsSimulatedAlong, IsSimulatedAlongChangingUses, NoneWrites, GainsNoMove};
-ghost use Rattle.refinement.specs.Driver.{AllFree, LeavesUses, IsOwnPrepared, MayStore};
-ghost use Rattle.refinement.specs.PortFacts.{IsEngineStopped};
-ghost use Rattle.refinement.specs.GivingUp.{with_all_given_up};
-ghost use Rattle.refinement.specs.Laws.{FragmentLaws};
-ghost use Rattle.refinement.specs.Links.{DoesNotWrite};
-ghost use Rattle.refinement.specs.HaltRecovery.{WorksPlainly};
-ghost use Rattle.refinement.specs.Slots.{SlotStates, Free, Own, IsOver, op_of, set_slot_state};
+ghost use Rattle.hba_regs.specs.{declared.reg.PortReg.{PortReg}, declared.reg.PortReg.TheVariants.{Sact, Ci}, declared.reg.Reg.{Reg}, declared.reg.Reg.TheVariants.{Px}};
+ghost use Rattle.adapter.specs.{Access.{Access, Reads, Writes, Loads, Stores}, Access.Access.{Reading, Writing, Loading, Storing}, Device.{Device}, Rules.{MayWrite, IsStable}, declared.command.Operation.{Operation}};
+ghost use Rattle.refinement.specs.{Acts.{ActsByDeviceAlone, Performs}, Fragments.{SomeMachineAgrees, ReadsPortOrWrites, IsSimulated, IsSimulatedChangingUses, SparesOtherPorts, IsSimulatedAlong, IsSimulatedAlongChangingUses, NoneWrites, GainsNoMove}, Driver.{AllFree, KeepsSlotStates, IsOwnPrepared, MayStore}, PortFacts.{IsEngineStopped}, GivingUp.{slots_with_all_parked}, Laws.{FragmentLaws}, PreservedParts.{DoesNotWrite}};
+ghost use Rattle.refinement.specs.{HaltRecovery.{WorksPlainly}, Slots.{SlotStates, Free, Own, IsOver, client_operation_of, set_slot_state}};
 
 use super::prerequisites::law_prerequisites;
 use adapter::laws::law_accesses_compose;
@@ -65,31 +51,32 @@ impl AccessKinds for Brand {
 /// (`SparesOtherPorts`), spare its other registers, and are so of each wider set.
 pub fn law_controls_are_of_a_port<R: RegisterSets>()
     ensures is_reading_or_writing { (set : R.Set) (port : Port) (access : Access)
-        → IsPortAccessWriting (R.has set) port access
+        → ReadsPortOrWrites (R.has set) port access
         → ((r : PortReg) × (v : ℕ) × (access ≡ Reading (Px port r) v))
         ⊎ ((r : PortReg) × (v : ℕ) × (access ≡ Writing (Px port r) v) × R.has set r) }
-    ensures is_of_port { (set : R.Set) (port : Port) (access : Access) → IsPortAccessWriting (R.has set) port access
+    ensures is_of_port { (set : R.Set) (port : Port) (access : Access) → ReadsPortOrWrites (R.has set) port access
         → SparesOtherPorts port access }
     ensures spares { (set : R.Set) (port : Port) (r : PortReg) → (R.has set r → ⊥) → (access : Access)
-        → IsPortAccessWriting (R.has set) port access → DoesNotWrite (Px port r) access }
+        → ReadsPortOrWrites (R.has set) port access → DoesNotWrite (Px port r) access }
     ensures wider { (set more : R.Set) (port : Port) → ((r : PortReg) → R.has set r → R.has more r) → (access : Access)
-        → IsPortAccessWriting (R.has set) port access → IsPortAccessWriting (R.has more) port access }
+        → ReadsPortOrWrites (R.has set) port access → ReadsPortOrWrites (R.has more) port access }
 {}
 
 /// What is a fragment that is followed: no access is; and one of its kind is, where it is a reading, a load, a write
 /// that is permitted and leaves each slot to its use, or the issue of a command of the driver's own.
 pub fn law_accesses_are_followed<K: AccessKinds>()
-    ensures none { (kind : K.Kind) (d : Device) → IsSimulatedAlong (λ made. made ≡ []) (K.may kind) (K.fits kind) d d }
+    ensures no_access { (kind : K.Kind) (d : Device)
+        → IsSimulatedAlong (λ made. made ≡ []) (K.may kind) (K.fits kind) d d }
     ensures reads { (kind : K.Kind) (r : Reg) (v : ℕ) (old new : Device) → K.may kind (Reading r v) → Reads r v old new
         → IsSimulatedAlong (λ made. made ≡ Reading r v ∷ []) (K.may kind) (K.fits kind) old new }
     ensures loads { (kind : K.Kind) (at : ℕ) (bytes : List ℕ) (old new : Device) → K.may kind (Loading at bytes)
         → Loads at bytes old new
         → IsSimulatedAlong (λ made. made ≡ Loading at bytes ∷ []) (K.may kind) (K.fits kind) old new }
     ensures writes { (kind : K.Kind) (r : Reg) (v : ℕ) (old new : Device) → K.may kind (Writing r v)
-        → IsStable (MayWrite r v) old → ((uses : SlotStates) → K.fits kind uses → LeavesUses uses r v old)
+        → IsStable (MayWrite r v) old → ((uses : SlotStates) → K.fits kind uses → KeepsSlotStates uses r v old)
         → Writes r v old new
         → IsSimulatedAlong (λ made. made ≡ Writing r v ∷ []) (K.may kind) (K.fits kind) old new }
-    ensures asks { (kind : K.Kind) (port : Port) (o : Operation) (v : ℕ) (old new : Device)
+    ensures own_command_is_issued { (kind : K.Kind) (port : Port) (o : Operation) (v : ℕ) (old new : Device)
         → K.may kind (Writing (Px port Ci) v) → old.hr ≡ false
         → ((uses : SlotStates) → K.fits kind uses → IsOwnPrepared uses old port.0 o v) → Writes (Px port Ci) v old new
         → IsSimulatedChangingUses (K.may kind) (K.fits kind) (λ uses. set_slot_state uses port.0 0 (Own o)) old new }
@@ -105,7 +92,7 @@ pub fn law_stores_are_followed<K: AccessKinds>()
 /// Fragments that are followed compose: by one after another, where the second is of the first's kind or a narrower
 /// one, and the uses that the first leads to fit it. One is so with each wider kind whose uses fit it. And a command of
 /// the driver's own that was issued meanwhile and is over leaves its slot.
-pub fn law_fragments_are_followed<K: AccessKinds>()
+pub fn law_fragments_compose<K: AccessKinds>()
     ensures fragments_join { (kind then : K.Kind) (first second : SlotStates → SlotStates)
         → ((access : Access) → K.may then access → K.may kind access)
         → ((uses : SlotStates) → K.fits kind uses → K.fits then (first uses)) → (old mid new : Device)
@@ -133,18 +120,20 @@ pub fn law_fragments_are_followed<K: AccessKinds>()
 pub fn law_followed_fragments_agree<K: AccessKinds>()
     ensures agreed { (kind : K.Kind) (next : SlotStates → SlotStates) (uses : SlotStates) (old new : Device)
         → K.fits kind uses
-        → IsSimulatedChangingUses (K.may kind) (K.fits kind) next old new → IsRelated uses old
-        → IsRelated (next uses) new }
-    ensures silent { (kind : K.Kind) (next : SlotStates → SlotStates) (uses : SlotStates) (port : Port) (o : Operation)
+        → IsSimulatedChangingUses (K.may kind) (K.fits kind) next old new → SomeMachineAgrees uses old
+        → SomeMachineAgrees (next uses) new }
+    ensures gains_no_move { (kind : K.Kind) (next : SlotStates → SlotStates) (uses : SlotStates) (port : Port)
+        (o : Operation)
         (old new : Device)
         → K.fits kind uses → NoneWrites (K.may kind) (Px port Ci) → NoneWrites (K.may kind) (Px port Sact)
-        → op_of o ≡ None → (uses port.0 0 ≡ Own o → ⊥) → IsSimulatedChangingUses (K.may kind) (K.fits kind) next old new
-        → IsRelated uses old → GainsNoMove port.0 o old new }
-    ensures plain { (kind : K.Kind) (next : SlotStates → SlotStates) (uses : SlotStates) (port : Port)
+        → client_operation_of o ≡ None → (uses port.0 0 ≡ Own o → ⊥)
+        → IsSimulatedChangingUses (K.may kind) (K.fits kind) next old new
+        → SomeMachineAgrees uses old → GainsNoMove port.0 o old new }
+    ensures works_plainly_still { (kind : K.Kind) (next : SlotStates → SlotStates) (uses : SlotStates) (port : Port)
         (old new : Device)
         → K.fits kind uses → NoneWrites (K.may kind) (Px port Sact)
         → IsSimulatedChangingUses (K.may kind) (K.fits kind) next old
-        new → IsRelated uses old
+        new → SomeMachineAgrees uses old
         → WorksPlainly (old.port port.0) → WorksPlainly (new.port port.0) }
 {
     law_prerequisites();
@@ -156,7 +145,8 @@ pub fn law_followed_fragments_agree<K: AccessKinds>()
 pub fn law_fragments_are_parts<K: AccessKinds>()
     ensures is_a_part { (kind : K.Kind) (next : SlotStates → SlotStates) (old new : Device)
         → (a : IsSimulatedChangingUses (K.may kind) (K.fits kind) next old new)
-        → Performs a.is_driven.accesses (λ s m. K.fits kind s.uses) (λ s. record s { uses = next s.uses })
+        → Performs a.is_driven.accesses (λ s m. K.fits kind s.slot_states)
+        (λ s. record s { slot_states = next s.slot_states })
         ActsByDeviceAlone
         old new }
     ensures giving_up { (kind then : K.Kind) (next : SlotStates → SlotStates) (port : ℕ) (old mid new : Device)
@@ -164,8 +154,9 @@ pub fn law_fragments_are_parts<K: AccessKinds>()
         → ((uses : SlotStates) → AllFree uses port → K.fits then uses)
         → (b : IsSimulatedChangingUses (K.may then) (K.fits then) next mid new)
         → Performs (a.is_driven.accesses ++ b.is_driven.accesses)
-        (λ s m. K.fits kind s.uses)
-        (λ s. record (with_all_given_up port s) { uses = next (with_all_given_up port s).uses }) ActsByDeviceAlone old
+        (λ s m. K.fits kind s.slot_states)
+        (λ s. record (slots_with_all_parked port s) { slot_states = next (slots_with_all_parked port s).slot_states })
+        ActsByDeviceAlone old
         new }
 {
     law_accesses_compose();
@@ -177,7 +168,7 @@ pub fn law_fragment_prerequisites<K: AccessKinds>()
 {
     law_accesses_are_followed::<K>();
     law_stores_are_followed::<K>();
-    law_fragments_are_followed::<K>();
+    law_fragments_compose::<K>();
     law_followed_fragments_agree::<K>();
     law_fragments_are_parts::<K>();
 }

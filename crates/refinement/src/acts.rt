@@ -1,21 +1,10 @@
 // Laws of a part of a call, act by act: the clause is the theorem. Nothing that runs calls these functions.
 ghost use Rattle.std.specs.Prelude.{ℕ, All, None, Some, ◌≡◌, ◌++◌, List, [], ◌∷◌};
 ghost use Rattle.ata_types.specs.declared.Port.{Port};
-ghost use Rattle.hba_regs.specs.declared.reg.Reg.TheVariants.{Px};
-ghost use Rattle.hba_regs.specs.declared.reg.PortReg.TheVariants.{Sact};
-ghost use Rattle.adapter.specs.Access.{Access, Does, DoesAll};
-ghost use Rattle.adapter.specs.declared.command.Operation.{Operation};
-ghost use Rattle.block_machine.specs.Events.{AllByDevice, IsByDevice};
-ghost use Rattle.block_machine.specs.Histories.{IsReachable, IsSimulatedBySteps};
-ghost use Rattle.block_machine.specs.Expected.{after};
-ghost use Rattle.block_machine.specs.State.{Machine};
-ghost use Rattle.block_machine.specs.Steps.{Step, IsEnabled, after_step};
-ghost use Rattle.refinement.specs.Acts.{Act, IsActDone, AreActsDone, IsOneDecision, accesses_of, act_steps};
-ghost use Rattle.refinement.specs.Fragments.{GainsNoMove};
-ghost use Rattle.refinement.specs.Driver.{DriverState, DriverRelation, IsBackedByDeviceAlone, DriverAdvances, EndsInSteps};
-ghost use Rattle.refinement.specs.Links.{DoesNotWrite};
-ghost use Rattle.refinement.specs.HaltRecovery.{WorksPlainly};
-ghost use Rattle.refinement.specs.Slots.{Own, op_of};
+ghost use Rattle.hba_regs.specs.{declared.reg.Reg.TheVariants.{Px}, declared.reg.PortReg.TheVariants.{Sact}};
+ghost use Rattle.adapter.specs.{Access.{Access, Does, DoesAll}, declared.command.Operation.{Operation}};
+ghost use Rattle.block_machine.specs.{Events.{AllByDevice, IsByDevice}, Histories.{IsReachable, IsSimulatedBySteps}, Expected.{after}, State.{Machine}, Steps.{Step, IsEnabled, after_step}};
+ghost use Rattle.refinement.specs.{Acts.{Act, IsActDone, AreActsDone, IsOneDecision, accesses_of, act_steps}, Fragments.{GainsNoMove}, Driver.{DriverState, DriverRelation, IsBackedByDeviceAlone, DriverAdvances, EndsInSteps}, PreservedParts.{DoesNotWrite}, HaltRecovery.{WorksPlainly}, Slots.{Own, client_operation_of}};
 
 use super::prerequisites::law_prerequisites;
 
@@ -27,16 +16,17 @@ pub fn law_accesses_and_decisions_are_acts()
         → IsSimulatedBySteps DriverRelation k later (IsBackedByDeviceAlone k.device later.device) → IsReachable m
         → DriverRelation m k
         → Does access k.device later.device → (steps : List Step) × AllByDevice steps
-        × IsActDone k m (record { access = Some access; steps = steps; later = later }) }
-    ensures ends { (k later : DriverState) (m : Machine) (access : Access) (own : List Step)
+        × IsActDone k m (record { access = Some access; steps = steps; state_after = later }) }
+    ensures access_with_own_steps { (k later : DriverState) (m : Machine) (access : Access) (own : List Step)
         → (e : EndsInSteps k m own later) → IsOneDecision access own
         → Does access k.device later.device
-        → IsActDone k m (record { access = Some access; steps = own ++ e.steps; later = later }) }
+        → IsActDone k m (record { access = Some access; steps = own ++ e.steps; state_after = later }) }
     ensures own { (k later : DriverState) (m : Machine) (step : Step) → (IsByDevice step → ⊥) → IsEnabled m step
         → later.device ≡ k.device → DriverRelation (after_step m step) later
-        → IsActDone k m (record { access = None; steps = step ∷ []; later = later }) }
-    ensures still { (k later : DriverState) (m : Machine) → later.device ≡ k.device → DriverRelation m later
-        → IsActDone k m (record { access = None; steps = []; later = later }) }
+        → IsActDone k m (record { access = None; steps = step ∷ []; state_after = later }) }
+    ensures same_device_is_an_act { (k later : DriverState) (m : Machine) → later.device ≡ k.device
+        → DriverRelation m later
+        → IsActDone k m (record { access = None; steps = []; state_after = later }) }
 {}
 
 /// Parts of a call compose: no act is one, and so is one after another, with the accesses and the steps of both.
@@ -52,16 +42,17 @@ pub fn law_acts_compose()
 /// command of an operation, before any of them, is sent no page by it; and where none of them writes its PxSACT, one
 /// that works on plain commands alone goes on so.
 pub fn law_acts_advance_driver()
-    ensures goes { (acts : List Act) (k later : DriverState) (m : Machine) → DriverRelation m k
+    ensures driver_advances { (acts : List Act) (k later : DriverState) (m : Machine) → DriverRelation m k
         → AreActsDone acts k m later
         → DriverAdvances k m (act_steps acts) later }
     ensures does { (acts : List Act) (k later : DriverState) (m : Machine) → AreActsDone acts k m later
         → DoesAll (accesses_of acts) k.device later.device }
-    ensures silent { (acts : List Act) (k later : DriverState) (m : Machine) (port : ℕ) (o : Operation) → op_of o ≡ None
-        → IsReachable m → DriverRelation m k → (k.uses port 0 ≡ Own o → ⊥)
-        → All (λ act. act.later.uses port 0 ≡ Own o → ⊥) acts
+    ensures gains_no_move { (acts : List Act) (k later : DriverState) (m : Machine) (port : ℕ) (o : Operation)
+        → client_operation_of o ≡ None
+        → IsReachable m → DriverRelation m k → (k.slot_states port 0 ≡ Own o → ⊥)
+        → All (λ act. act.state_after.slot_states port 0 ≡ Own o → ⊥) acts
         → AreActsDone acts k m later → GainsNoMove port o k.device later.device }
-    ensures plain { (acts : List Act) (k later : DriverState) (m : Machine) (port : Port) → IsReachable m
+    ensures works_plainly_still { (acts : List Act) (k later : DriverState) (m : Machine) (port : Port) → IsReachable m
         → DriverRelation m k
         → All (DoesNotWrite (Px port Sact)) (accesses_of acts) → AreActsDone acts k m later
         → WorksPlainly (k.device.port port.0) → WorksPlainly (later.device.port port.0) }

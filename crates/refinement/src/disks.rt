@@ -2,16 +2,9 @@
 // functions.
 ghost use Rattle.std.specs.Prelude.{ℕ, true, false, ◌≡◌, ◌≢◌, ◌≤◌, ◌%◌, ◌⊎◌};
 ghost use Rattle.ata_types.specs.declared.Port.{Port};
-ghost use Rattle.hba_regs.specs.Bits.{bit};
-ghost use Rattle.hba_regs.specs.declared.reg.Reg.TheVariants.{Ghc, Px};
-ghost use Rattle.hba_regs.specs.declared.reg.PortReg.TheVariants.{Is, Sctl, Ssts};
-ghost use Rattle.adapter.specs.Access.{Reads, Writes, Access, Does};
-ghost use Rattle.adapter.specs.Device.{DevicePort, Device};
-ghost use Rattle.adapter.specs.Idle.{IsIdle};
-ghost use Rattle.adapter.specs.Steps.{Steps};
-ghost use Rattle.refinement.specs.Errors.{NoDiskComes, NoneFails};
-ghost use Rattle.refinement.specs.Links.{NoPlugEvents, ShowsDiskIfIn};
-ghost use Rattle.refinement.specs.Vacant.{IsVacant, HasFirstFisIfShown};
+ghost use Rattle.hba_regs.specs.{Bits.{bit}, declared.reg.Reg.TheVariants.{Ghc, Px}, declared.reg.PortReg.TheVariants.{Is, Sctl, Ssts}};
+ghost use Rattle.adapter.specs.{Access.{Reads, Writes, Access, Does}, Device.{DevicePort, Device}, Idle.{IsIdle}, Steps.{Steps}};
+ghost use Rattle.refinement.specs.{Errors.{NoDiskComes, NoFaults}, PreservedParts.{NoPlugEvents, ShowsDiskIfIn}, Vacant.{IsVacant, HasFirstFisIfShown}};
 
 use super::prerequisites::law_prerequisites;
 
@@ -19,7 +12,7 @@ use super::prerequisites::law_prerequisites;
 /// none, none then; and where a device shows, its first FIS has come, if it had where one showed before. Whatever else
 /// the device does, also over a reset that ends, and over each access. A reset that has ended shows no device, and so
 /// does COMRESET.
-pub fn law_no_disk_comes_in()
+pub fn law_where_no_disk_comes()
     ensures out_steps { (port : ℕ) (old new : Device) → NoDiskComes port old new → Steps old new
         → (old.port port).present ≡ false → (new.port port).present ≡ false }
     ensures out_access { (port : Port) (access : Access) (old new : Device) → NoDiskComes port.0 old new
@@ -38,7 +31,8 @@ pub fn law_no_disk_comes_in()
         → (port : ℕ) → NoDiskComes port old new → HasFirstFisIfShown (new.port port) }
     ensures fresh_comreset { (port : Port) (v : ℕ) (old new : Device) → v % 16 ≡ 1 → Writes (Px port Sctl) v old new
         → HasFirstFisIfShown (new.port port.0) }
-    ensures shown { (port : Port) (v : ℕ) (old new : Device) → Reads (Px port Ssts) v old new → v % 16 ≡ 3
+    ensures det_3_shows_disk_if_in { (port : Port) (v : ℕ) (old new : Device) → Reads (Px port Ssts) v old new
+        → v % 16 ≡ 3
         → ShowsDiskIfIn (new.port port.0) }
 {
     law_prerequisites();
@@ -55,18 +49,22 @@ pub fn law_reset_is_idle()
 /// shows N and PCS X. Where PxIS shows PRCS or PCS, or PxSSTS no device, N or X was set or no device showed before, or
 /// a disk has gone or come. And where it shows TFES, it was set before, or the tape tells of a fault.
 pub fn law_looks_tell_trouble()
-    ensures causes { (port : Port) (v place : ℕ) (old new : Device) → old.hr ≡ false → Reads (Px port Is) v old new
+    ensures pxis_shows_set_bits { (port : Port) (v place : ℕ) (old new : Device) → old.hr ≡ false
+        → Reads (Px port Is) v old new
         → 27 ≤ place → place ≤ 30 → (old.port port.0).is place ≡ true → bit v place ≡ true }
-    ensures errors { (port : Port) (v : ℕ) (old new : Device) → old.hr ≡ false → Reads (Px port Is) v old new
+    ensures pxis_shows_serr_n_and_x { (port : Port) (v : ℕ) (old new : Device) → old.hr ≡ false
+        → Reads (Px port Is) v old new
         → ((old.port port.0).serr_n ≡ true → bit v 22 ≡ true) × ((old.port port.0).serr_x ≡ true → bit v 6 ≡ true) }
-    ensures lost { (port : Port) (v : ℕ) (old new : Device) → old.hr ≡ false → (old.port port.0).link_due ≡ false
+    ensures link_bits_tell_changes { (port : Port) (v : ℕ) (old new : Device) → old.hr ≡ false
+        → (old.port port.0).link_due ≡ false
         → Reads (Px port Is) v old new → (bit v 22 ≡ true) ⊎ (bit v 6 ≡ true)
         → ((old.port port.0).serr_n ≡ true) ⊎ (((old.port port.0).serr_x ≡ true) ⊎ (NoPlugEvents port.0 old new → ⊥)) }
-    ensures unlinked { (port : Port) (v : ℕ) (old new : Device) → old.hr ≡ false → (old.port port.0).link_due ≡ false
+    ensures det_not_3_was_or_plug_event { (port : Port) (v : ℕ) (old new : Device) → old.hr ≡ false
+        → (old.port port.0).link_due ≡ false
         → Reads (Px port Ssts) v old new → v % 16 ≢ 3 → ((old.port port.0).ssts_det ≢ 3)
         ⊎ (NoPlugEvents port.0 old new → ⊥) }
     ensures fault { (port : Port) (v : ℕ) (old new : Device) → old.hr ≡ false → Reads (Px port Is) v old new
-        → bit v 30 ≡ true → ((old.port port.0).is 30 ≡ true) ⊎ (NoneFails port.0 old new → ⊥) }
+        → bit v 30 ≡ true → ((old.port port.0).is 30 ≡ true) ⊎ (NoFaults port.0 old new → ⊥) }
 {
     law_prerequisites();
 }

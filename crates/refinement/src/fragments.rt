@@ -2,23 +2,10 @@
 // functions.
 ghost use Rattle.std.specs.Prelude.{ℕ, false, ◌≡◌, ◌≢◌, ◌++◌, List, Contains, length, None};
 ghost use Rattle.ata_types.specs.declared.Port.{Port};
-ghost use Rattle.hba_regs.specs.Bits.{bit};
-ghost use Rattle.hba_regs.specs.declared.reg.PortReg.{PortReg};
-ghost use Rattle.hba_regs.specs.declared.reg.PortReg.TheVariants.{Cmd, Is, Sctl, Sact, Ci};
-ghost use Rattle.hba_regs.specs.declared.reg.Reg.TheVariants.{Ghc, Px};
-ghost use Rattle.adapter.specs.Access.{Access, Does, Reads, Writes, Loads, Stores};
-ghost use Rattle.adapter.specs.Device.{DevicePort, Device};
-ghost use Rattle.adapter.specs.Idle.{IsIdle, TellsDisks};
-ghost use Rattle.adapter.specs.Rules.{IsOn, MayWrite, IsStable};
-ghost use Rattle.adapter.specs.Steps.{Steps};
-ghost use Rattle.adapter.specs.declared.command.Operation.{Operation};
-ghost use Rattle.adapter.specs.declared.tape.Entry.{Entry};
-ghost use Rattle.refinement.specs.Fragments.{AnyAccess, TapeGrows, AnyUse, SameUses, IsRelated, IsDrivenBy, IsPortAccessWriting, IsSimulated, IsSimulatedChangingUses, SparesOtherPorts, LeavesPort, HasNoCommand, GainsNoMove};
-ghost use Rattle.refinement.specs.Driver.{LeavesUses, MayStore};
-ghost use Rattle.refinement.specs.PortFacts.{FaultsOnRecord};
-ghost use Rattle.refinement.specs.Laws.{TapeLaws};
-ghost use Rattle.refinement.specs.Links.{SameAdapter, DoesNotWrite};
-ghost use Rattle.refinement.specs.Slots.{SlotStates, Free, IsOver, Own, op_of, set_slot_state};
+ghost use Rattle.hba_regs.specs.{Bits.{bit}, declared.reg.PortReg.{PortReg}, declared.reg.PortReg.TheVariants.{Cmd, Is, Sctl, Sact, Ci}, declared.reg.Reg.TheVariants.{Ghc, Px}};
+ghost use Rattle.adapter.specs.{Access.{Access, Does, Reads, Writes, Loads, Stores}, Device.{DevicePort, Device}, Idle.{IsIdle, TellsDisks}, Rules.{IsOn, MayWrite, IsStable}, Steps.{Steps}, declared.command.Operation.{Operation}, declared.tape.Entry.{Entry}};
+ghost use Rattle.refinement.specs.{Fragments.{AnyAccess, TapeGrows, AnySlotStates, SameSlotStates, SomeMachineAgrees, IsDrivenBy, ReadsPortOrWrites, IsSimulated, IsSimulatedChangingUses, SparesOtherPorts, LeavesPort, HasNoCommand, GainsNoMove}, Driver.{KeepsSlotStates, MayStore}, PortFacts.{RecordsFaultsIfSt}, Laws.{TapeLaws}, PreservedParts.{SameAdapter, DoesNotWrite}};
+ghost use Rattle.refinement.specs.Slots.{SlotStates, Free, IsOver, Own, client_operation_of, set_slot_state};
 
 use super::port_facts::{
     law_errors_rise_by_disks, law_tape_absence_composes, law_undisturbed_ports_tell_nothing,
@@ -30,18 +17,18 @@ use super::prerequisites::law_prerequisites;
 /// followed, its disk sends no page for which its slot 0 has no command. What is left so in two fragments is left in
 /// both. They write neither GHC nor a register of another port, and an adapter that is on stays on. Any accesses leave
 /// the adapter what it is, and the tape only gains.
-pub fn law_other_ports_are_left()
-    ensures left { (port : Port) (q : ℕ) (old new : Device) → q ≢ port.0 → IsOn old
+pub fn law_other_ports_are_untouched()
+    ensures other_port_is_untouched { (port : Port) (q : ℕ) (old new : Device) → q ≢ port.0 → IsOn old
         → IsDrivenBy (SparesOtherPorts port) old new
         → LeavesPort (old.port q) (new.port q) }
     ensures recorded { (port : Port) (q : ℕ) (old new : Device) → q ≢ port.0
         → IsDrivenBy (SparesOtherPorts port) old new
-        → FaultsOnRecord old.tape (old.port q) q → FaultsOnRecord new.tape (new.port q) q }
+        → RecordsFaultsIfSt old.tape (old.port q) q → RecordsFaultsIfSt new.tape (new.port q) q }
     ensures silent { (port q : Port) (uses : SlotStates) (next : SlotStates → SlotStates) (o : Operation)
         (old new : Device)
-        → q.0 ≢ port.0 → IsSimulatedChangingUses (SparesOtherPorts port) (SameUses uses) next old new
-        → IsRelated uses old
-        → op_of o ≡ None
+        → q.0 ≢ port.0 → IsSimulatedChangingUses (SparesOtherPorts port) (SameSlotStates uses) next old new
+        → SomeMachineAgrees uses old
+        → client_operation_of o ≡ None
         → (uses q.0 0 ≡ Own o → ⊥) → GainsNoMove q.0 o old new }
     ensures reflexive { (p : DevicePort) → LeavesPort p p }
     ensures transitive { (old mid new : DevicePort) → LeavesPort old mid → LeavesPort mid new → LeavesPort old new }
@@ -50,8 +37,8 @@ pub fn law_other_ports_are_left()
     ensures spares_host { (port : Port) (access : Access) → SparesOtherPorts port access → DoesNotWrite Ghc access }
     ensures adapter_stays_on { (port : Port) (old new : Device) → IsOn old → IsDrivenBy (SparesOtherPorts port) old new
         → IsOn new }
-    ensures adapter { (old new : Device) → IsDrivenBy AnyAccess old new → SameAdapter old new }
-    ensures tape { (old new : Device) → IsDrivenBy AnyAccess old new → (gained : List Entry)
+    ensures adapter_is_same { (old new : Device) → IsDrivenBy AnyAccess old new → SameAdapter old new }
+    ensures tape_grows { (old new : Device) → IsDrivenBy AnyAccess old new → (gained : List Entry)
         × (new.tape ≡ old.tape ++ gained) }
 {
     law_prerequisites();
@@ -62,11 +49,12 @@ pub fn law_other_ports_are_left()
 /// is one that tells, some machine agrees where no slot is used.
 pub fn law_agreeing_goes_on()
     ensures followed { (uses : SlotStates) (old new : Device)
-        → IsSimulated AnyAccess (SameUses uses) old new
-        → IsRelated uses old → IsRelated uses new }
-    ensures released { (uses : SlotStates) (port : ℕ) (o : Operation) (d : Device) → uses port 0 ≡ Free
-        → IsOver (d.port port) 0 → IsRelated (set_slot_state uses port 0 (Own o)) d → IsRelated uses d }
-    ensures idle { (d : Device) → IsIdle d → TellsDisks d → IsRelated (λ port slot. Free) d }
+        → IsSimulated AnyAccess (SameSlotStates uses) old new
+        → SomeMachineAgrees uses old → SomeMachineAgrees uses new }
+    ensures own_command_over_frees_slot { (uses : SlotStates) (port : ℕ) (o : Operation) (d : Device)
+        → uses port 0 ≡ Free
+        → IsOver (d.port port) 0 → SomeMachineAgrees (set_slot_state uses port 0 (Own o)) d → SomeMachineAgrees uses d }
+    ensures idle_device_agrees { (d : Device) → IsIdle d → TellsDisks d → SomeMachineAgrees (λ port slot. Free) d }
 {}
 
 /// The tape only gains: over none, over each access, and over one fragment after another.
@@ -115,8 +103,8 @@ pub fn law_unused_slots_are_silent()
         → GainsNoMove port o old new }
     ensures access { (port : ℕ) (o : Operation) (access : Access) (old new : Device) → HasNoCommand (old.port port)
         → Does access old new → GainsNoMove port o old new }
-    ensures controls { (port : Port) (o : Operation) (old new : Device)
-        → IsDrivenBy (IsPortAccessWriting (λ r. r ≢ Ci) port) old new → HasNoCommand (old.port port.0)
+    ensures port_accesses_gain_no_move { (port : Port) (o : Operation) (old new : Device)
+        → IsDrivenBy (ReadsPortOrWrites (λ r. r ≢ Ci) port) old new → HasNoCommand (old.port port.0)
         → GainsNoMove port.0 o old new × HasNoCommand (new.port port.0) }
     ensures transitive { (port : ℕ) (o : Operation) (old mid new : Device) → GainsNoMove port o old mid
         → GainsNoMove port o mid new → GainsNoMove port o old new }

@@ -2,16 +2,9 @@
 // calls these functions.
 ghost use Rattle.std.specs.Prelude.{ℕ, true, false, ◌⊎◌, ◌≡◌, ◌≢◌, ◌<◌, ◌++◌, List, Contains};
 ghost use Rattle.ata_types.specs.declared.request.RequestId.{RequestId};
-ghost use Rattle.adapter.specs.Device.{Device};
-ghost use Rattle.adapter.specs.Rules.{InUse};
-ghost use Rattle.adapter.specs.declared.tape.Entry.{Entry};
-ghost use Rattle.block_machine.specs.State.{Pending, Machine};
-ghost use Rattle.block_machine.specs.Steps.{MayStillMove};
-ghost use Rattle.refinement.specs.Relation.{StateRelation, ServeApart};
-ghost use Rattle.refinement.specs.Driver.{DriverState, DriverRelation, AllFree, HasNoSlot};
-ghost use Rattle.refinement.specs.PortFacts.{IsEngineStopped, ShowsFault};
-ghost use Rattle.refinement.specs.Slots.{SlotStates, Free, Serves, IsOver};
-ghost use Rattle.refinement.specs.GivingUp.{AreSlotsOver, ids_in_slots, with_all_parked, IsOutstanding};
+ghost use Rattle.adapter.specs.{Device.{Device}, Rules.{InUse}, declared.tape.Entry.{Entry}};
+ghost use Rattle.block_machine.specs.{State.{Pending, Machine}, Steps.{MayStillMove}};
+ghost use Rattle.refinement.specs.{Relation.{StateRelation, ServeDistinctRequests}, Driver.{DriverState, DriverRelation, AllFree, HasNoSlot}, PortFacts.{IsEngineStopped, ShowsFault}, Slots.{SlotStates, Free, Serves, IsOver}, GivingUp.{AreSlotsOverAndUnarmed, ids_in_slots, with_all_parked, IsOutstanding}};
 
 /// Where all slots of a port are over, and none is armed on a running one, as on a port that has halted, the driver
 /// gives them all up at once: what it knows stays known. None of them is used then, other ports' are as they were, and
@@ -19,32 +12,35 @@ ghost use Rattle.refinement.specs.GivingUp.{AreSlotsOver, ids_in_slots, with_all
 /// that none served before.
 pub fn law_slots_are_given_up()
     ensures over { (k : DriverState) (m : Machine) (port : ℕ) → DriverRelation m k
-        → AreSlotsOver k.uses (k.device.port port) port
+        → AreSlotsOverAndUnarmed k.slot_states (k.device.port port) port
         → DriverRelation m (with_all_parked k port) }
-    ensures halted { (k : DriverState) (m : Machine) (port : ℕ) → DriverRelation m k
+    ensures engine_stopped { (k : DriverState) (m : Machine) (port : ℕ) → DriverRelation m k
         → IsEngineStopped (k.device.port port)
         → DriverRelation m (with_all_parked k port) }
-    ensures free { (k : DriverState) (port : ℕ) → AllFree (with_all_parked k port).uses port }
+    ensures given_up_port_is_free { (k : DriverState) (port : ℕ) → AllFree (with_all_parked k port).slot_states port }
     ensures others { (k : DriverState) (port other : ℕ) → other ≢ port
-        → ((with_all_parked k port).uses other ≡ k.uses other)
-        × ((with_all_parked k port).parked other ≡ k.parked other) }
-    ensures parks { (k : DriverState) (m : Machine) (port slot : ℕ) (id : RequestId) → StateRelation k.uses m k.device
-        → k.uses port slot ≡ Serves id → Contains ((with_all_parked k port).parked port) id }
-    ensures keeps { (k : DriverState) (port : ℕ) (id : RequestId) → Contains (k.parked port) id
-        → Contains ((with_all_parked k port).parked port) id }
-    ensures served { (uses : SlotStates) (port n : ℕ) (id : RequestId) → Contains (ids_in_slots uses port n) id
+        → ((with_all_parked k port).slot_states other ≡ k.slot_states other)
+        × ((with_all_parked k port).awaiting_disposition other ≡ k.awaiting_disposition other) }
+    ensures parks { (k : DriverState) (m : Machine) (port slot : ℕ) (id : RequestId)
+        → StateRelation k.slot_states m k.device
+        → k.slot_states port slot ≡ Serves id → Contains ((with_all_parked k port).awaiting_disposition port) id }
+    ensures keeps { (k : DriverState) (port : ℕ) (id : RequestId) → Contains (k.awaiting_disposition port) id
+        → Contains ((with_all_parked k port).awaiting_disposition port) id }
+    ensures ids_in_slots_are_served { (uses : SlotStates) (port n : ℕ) (id : RequestId)
+        → Contains (ids_in_slots uses port n) id
         → (slot : ℕ) × (slot < n) × (uses port slot ≡ Serves id) }
-    ensures frees { (k : DriverState) (port slot : ℕ) (id : RequestId) → ServeApart k.uses
-        → k.uses port slot ≡ Serves id
-        → HasNoSlot (with_all_parked k port).uses id }
-    ensures leaves { (k : DriverState) (port : ℕ) (id : RequestId) → HasNoSlot k.uses id
-        → HasNoSlot (with_all_parked k port).uses id }
+    ensures frees { (k : DriverState) (port slot : ℕ) (id : RequestId) → ServeDistinctRequests k.slot_states
+        → k.slot_states port slot ≡ Serves id
+        → HasNoSlot (with_all_parked k port).slot_states id }
+    ensures leaves { (k : DriverState) (port : ℕ) (id : RequestId) → HasNoSlot k.slot_states id
+        → HasNoSlot (with_all_parked k port).slot_states id }
 {}
 
 /// What is parked of the port then are the requests that its 32 slots served, and those that were parked before.
 pub fn law_given_up_requests_are_parked()
     ensures { (k : DriverState) (port : ℕ)
-        → (with_all_parked k port).parked port ≡ ids_in_slots k.uses port 32 ++ k.parked port }
+        → (with_all_parked k port).awaiting_disposition port ≡ ids_in_slots k.slot_states port 32
+        ++ k.awaiting_disposition port }
 {}
 
 /// Where the machine agrees with the device, a slot in use is outstanding: so is the slot of a fault that the task file
@@ -56,7 +52,8 @@ pub fn law_fault_is_outstanding()
     ensures shown { (uses : SlotStates) (m : Machine) (d : Device) (port : ℕ) (entries : List Entry)
         → StateRelation uses m d
         → (s : ShowsFault entries (d.port port) port) → IsOutstanding uses m (d.port port) port s.fault.slot.0 }
-    ensures sole { (uses : SlotStates) (m : Machine) (d : Device) (port slot : ℕ) (entries : List Entry)
+    ensures only_used_slot_has_fault { (uses : SlotStates) (m : Machine) (d : Device) (port slot : ℕ)
+        (entries : List Entry)
         → StateRelation uses m d
         → (s : ShowsFault entries (d.port port) port) → ((other : ℕ) → other ≢ slot → uses port other ≡ Free)
         → s.fault.slot.0 ≡ slot }
@@ -67,7 +64,7 @@ pub fn law_fault_is_outstanding()
 pub fn law_stopped_slots_tell()
     ensures clear { (uses : SlotStates) (m : Machine) (d : Device) (port slot : ℕ) → StateRelation uses m d
         → (d.port port).st ≡ false → ((d.port port).ci slot ≡ false) × ((d.port port).sact slot ≡ false) }
-    ensures over { (uses : SlotStates) (m : Machine) (d : Device) (port slot : ℕ) (id : RequestId)
+    ensures over_is_ended_or_dropped { (uses : SlotStates) (m : Machine) (d : Device) (port slot : ℕ) (id : RequestId)
         → StateRelation uses m d
         → uses port slot ≡ Serves id → IsOver (d.port port) slot
         → (e : Pending) × MayStillMove m e × (e.request.id ≡ id)

@@ -1,48 +1,15 @@
 // Laws of the relation, for the crates above: the clause is the theorem. Nothing that runs calls these functions.
-ghost use Rattle.std.specs.List.{list_any};
-ghost use Rattle.std.specs.Prelude.{◌≡◌, ◌+◌, ◌*◌, ◌/◌, ◌%◌, ◌<◌, ◌≤◌, ◌∷◌, ◌++◌, ℕ, Bool, true, false, [], List, length, map, Contains, ◌≢◌, ◌⊎◌, None, Some, All};
-ghost use Rattle.ata_types.specs.declared.Port.{Port};
-ghost use Rattle.ata_types.specs.declared.memory.TheConstants.{FRAME_BYTES, LIST_BYTES, RECEIVED_FIS_BYTES};
-ghost use Rattle.ata_types.specs.declared.request.ClientId.{ClientId};
-ghost use Rattle.ata_types.specs.declared.request.Frame.{Frame};
-ghost use Rattle.ata_types.specs.declared.request.Outcome.{Outcome};
-ghost use Rattle.ata_types.specs.declared.request.RequestId.{RequestId};
-ghost use Rattle.hba_regs.specs.Bits.{bit};
-ghost use Rattle.hba_regs.specs.declared.reg.PortReg.TheVariants.{Clb, Clbu, Fb, Fbu, Is, Cmd, Ci, Sact};
-ghost use Rattle.hba_regs.specs.declared.reg.Reg.TheVariants.{Px};
+ghost use Rattle.std.specs.{List.{list_any}, Prelude.{◌≡◌, ◌+◌, ◌*◌, ◌/◌, ◌%◌, ◌<◌, ◌≤◌, ◌∷◌, ◌++◌, ℕ, Bool, true, false, [], List, length, map, Contains, ◌≢◌, ◌⊎◌, None, Some, All}};
+ghost use Rattle.ata_types.specs.{declared.Port.{Port}, declared.memory.TheConstants.{FRAME_BYTES, LIST_BYTES, RECEIVED_FIS_BYTES}, declared.request.ClientId.{ClientId}, declared.request.Frame.{Frame}, declared.request.Outcome.{Outcome}, declared.request.RequestId.{RequestId}};
+ghost use Rattle.hba_regs.specs.{Bits.{bit}, declared.reg.PortReg.TheVariants.{Clb, Clbu, Fb, Fbu, Is, Cmd, Ci, Sact}, declared.reg.Reg.TheVariants.{Px}, declared.reg.Reg.{Reg}};
+ghost use Rattle.adapter.specs.{Access.{Reads, Writes, Loads, Stores, device_after_write, Access, Does}, Commands.{Meaning}, Device.{DevicePort, Device}, FirstRead.{first_read_device}, Idle.{IsIdle}, Memory.{patched}, Rules.{IsUnowned, IsOn, HasPort, MayStart, MaySetFre, MayStopReceiving, MayWrite, IsStable}, Steps.{Steps}, declared.command.Operation.{Operation}, declared.tape.Entry.{Entry}};
+ghost use Rattle.block_machine.specs.{DueRequests.{is_plain, issued_count}, Events.{IsByDevice, AllByDevice, AllEnabled, changes_disk}, Histories.{IsReachable, IsSimulatedBySteps}, Expected.{IsInitial, after, AllStepsFaithful}, Refusals.{MayAccessFrame}, State.{Accepted, Pending, Machine, unanswered}};
+ghost use Rattle.block_machine.specs.{Steps.{Step, Accept, Issue, Age, WaitAgain, Answer, Release, Store, Load, IsEnabled, NoneKept, aged_pending, after_step, is_kept_at_answer, MayStillMove, Revoke}, declared.due.QueueMode.{QueueMode}};
+ghost use Rattle.refinement.specs.{Relation.{StateRelation, IsDiskOf, SameClientFrames, SameSectors, HaveSlotsUnlessParked, ServeDistinctRequests, port_at}, Replug.{replug_candidates}, Acts.{IsIssueStep}};
+ghost use Rattle.refinement.specs.{Driver.{MayStore, KeepsSlotStates, KeepsTablesAndScratch, DriverState, DriverRelation, TapeBacksSteps, IsBackedByDeviceAlone, DriverAdvances, IsOwnPrepared, EndsInOneStep, HasNoSlot, ForgetsAtMost, ForgetsAtMostKept, with_slot_parked, with_slot_freed, idle_driver_state, KeepsOtherCmdBits, MissesHeaderAndTable, MissesScratch}, Simulation.{SimulatesSteps}, PreservedParts.{IsPlugEvent}};
+ghost use Rattle.refinement.specs.{MemoryLayout.{command_list_address, scratch_frame_address, received_fis_address}, TrimWitness.{TrimAgrees}, ReadWitness.{PreparedReadWitness, FirstReadWitness, KeptReadAgrees, ParkedReadWitness, EndedReadAgrees, OwnCommandAgrees}, TwoReadsWitness.{TwoReadsWitness, TwoStoredReads}};
+ghost use Rattle.refinement.specs.{Slots.{SlotState, Free, Armed, Own, Serves, SlotStates, set_slot_state, serving_count, SlotDecodesTo, HasBlockIfTrim, IsOver, client_operation_of, IsMove}, SparedBook.{IsFurther, AllFurther, KeepsBookAndLoans, IsOfAnother}, Tape.{OneAtMost, TellsDeviceSteps}};
 ghost use Rattle.hba_regs.specs.declared.reg.Reg.TheVariants as registers;
-ghost use Rattle.hba_regs.specs.declared.reg.Reg.{Reg};
-ghost use Rattle.adapter.specs.Access.{Reads, Writes, Loads, Stores, written, Access, Does};
-ghost use Rattle.adapter.specs.Commands.{Meaning};
-ghost use Rattle.adapter.specs.Device.{DevicePort, Device};
-ghost use Rattle.adapter.specs.FirstRead.{first_read_device};
-ghost use Rattle.adapter.specs.Idle.{IsIdle};
-ghost use Rattle.adapter.specs.Memory.{patched};
-ghost use Rattle.adapter.specs.Rules.{IsUnowned, IsOn, HasPort, MayStart, MaySetFre, MayStopReceiving, MayWrite, IsStable};
-ghost use Rattle.adapter.specs.Steps.{Steps};
-ghost use Rattle.adapter.specs.declared.command.Operation.{Operation};
-ghost use Rattle.block_machine.specs.DueRequests.{is_plain, issued_count};
-ghost use Rattle.adapter.specs.declared.tape.Entry.{Entry};
-ghost use Rattle.block_machine.specs.Events.{IsByDevice, AllByDevice, AllEnabled, changes_disk};
-ghost use Rattle.block_machine.specs.Histories.{IsReachable, IsSimulatedBySteps};
-ghost use Rattle.block_machine.specs.Expected.{IsInitial, after, AllStepsFaithful};
-ghost use Rattle.block_machine.specs.Refusals.{MayAccessFrame};
-ghost use Rattle.block_machine.specs.State.{Accepted, Pending, Machine, unanswered};
-ghost use Rattle.block_machine.specs.Steps.{Step, Accept, Issue, Age, WaitAgain, Answer, Release, Store, Load, IsEnabled, NoneQuarantined, aged_pending, after_step, is_kept_at_answer, MayStillMove, Revoke};
-ghost use Rattle.block_machine.specs.declared.due.QueueMode.{QueueMode};
-ghost use Rattle.refinement.specs.Relation.{StateRelation, IsDiskOf, SameMemory, SameSectors, HaveSlots, ServeApart, port_at};
-ghost use Rattle.refinement.specs.Replug.{replug_candidates};
-ghost use Rattle.refinement.specs.Acts.{IsIssueStep};
-ghost use Rattle.refinement.specs.Driver.{MayStore, LeavesUses, KeepsTables, DriverState, DriverRelation, IsBacked, IsBackedByDeviceAlone, DriverAdvances, IsOwnPrepared, EndsInStep, HasNoSlot, ForgetsAtMost, ForgetsAtMostKept, with_slot_parked, with_slot_freed, idle_driver_state, KeepsOtherCmdBits, MissesTable, MissesScratch};
-ghost use Rattle.refinement.specs.Simulation.{SimulatesSteps};
-ghost use Rattle.refinement.specs.Links.{IsPlugEvent};
-ghost use Rattle.refinement.specs.MemoryLayout.{list_of, scratch_of, received_of};
-ghost use Rattle.refinement.specs.TrimWitness.{TrimAgrees};
-ghost use Rattle.refinement.specs.ReadWitness.{PreparedReadWitness, FirstReadWitness, KeptReadAgrees, ParkedReadWitness, EndedReadAgrees, OwnCommandAgrees};
-ghost use Rattle.refinement.specs.TwoReads.{TwoReadsWitness, TwoStoredReads};
-ghost use Rattle.refinement.specs.Slots.{SlotState, Free, Armed, Own, Serves, SlotStates, set_slot_state, serving_count, SlotDecodesTo, HasTrimBlock, IsOver, op_of, IsMove};
-ghost use Rattle.refinement.specs.SparedBook.{IsFurther, AllFurther, SparesBook, IsOfAnother};
-ghost use Rattle.refinement.specs.Tape.{OneAtMost, TellsDeviceSteps};
 
 use super::prerequisites::law_prerequisites;
 use block_machine::laws::law_step_lists_compose;
@@ -71,8 +38,9 @@ pub fn law_reading_is_followed()
 pub fn law_slots_are_disarmed()
     ensures disarmed { (k : DriverState) (m : Machine) → DriverRelation m k → (port slot : ℕ)
         → (k.device.port port).st ≡ false
-        → k.uses port slot ≡ Armed → DriverRelation m (with_slot_freed k port slot) }
-    ensures free { (uses : SlotStates) (m : Machine) (d : Device) → StateRelation uses m d → (port slot : ℕ)
+        → k.slot_states port slot ≡ Armed → DriverRelation m (with_slot_freed k port slot) }
+    ensures free_slot_has_sact_clear { (uses : SlotStates) (m : Machine) (d : Device) → StateRelation uses m d
+        → (port slot : ℕ)
         → uses port slot ≡ Free
         → (d.port port).sact slot ≡ false }
 {}
@@ -83,7 +51,7 @@ pub fn law_client_store_is_followed()
         (new : Device)
         → IsReachable m → DriverRelation m k → IsEnabled m (Store client frame offset bytes)
         → Stores (FRAME_BYTES * frame.0 + offset) bytes k.device new
-        → EndsInStep k m (Store client frame offset bytes) (record k { device = new }) }
+        → EndsInOneStep k m (Store client frame offset bytes) (record k { device = new }) }
 {
     law_prerequisites();
 }
@@ -94,24 +62,25 @@ pub fn law_client_load_is_followed()
         (new : Device)
         → IsReachable m → DriverRelation m k → MayAccessFrame m.owner m.lent client frame offset (length bytes)
         → Loads (FRAME_BYTES * frame.0 + offset) bytes k.device new
-        → EndsInStep k m (Load client frame offset bytes) (record k { device = new }) }
+        → EndsInOneStep k m (Load client frame offset bytes) (record k { device = new }) }
 {
     law_prerequisites();
 }
 
 /// A step of the driver's own needs nothing of the device.
 pub fn law_own_steps_are_backed()
-    ensures { (d : Device) (m : Machine) (step : Step) → (IsByDevice step → ⊥) → IsBacked d d m (step ∷ []) }
+    ensures { (d : Device) (m : Machine) (step : Step) → (IsByDevice step → ⊥) → TapeBacksSteps d d m (step ∷ []) }
 {}
 
 /// What backs two fragments backs both; nothing is backed by nothing; and so with what the device does alone.
 pub fn law_backing_composes()
-    ensures reflexive { (d : Device) (m : Machine) → IsBacked d d m [] }
+    ensures reflexive { (d : Device) (m : Machine) → TapeBacksSteps d d m [] }
     ensures device_parts_join { (old mid new : Device) (m : Machine) (early late : List Step)
         → IsBackedByDeviceAlone old mid m early
         → IsBackedByDeviceAlone mid new (after m early) late → IsBackedByDeviceAlone old new m (late ++ early) }
-    ensures backings_join { (old mid new : Device) (m : Machine) (early late : List Step) → IsBacked old mid m early
-        → IsBacked mid new (after m early) late → IsBacked old new m (late ++ early) }
+    ensures backings_join { (old mid new : Device) (m : Machine) (early late : List Step)
+        → TapeBacksSteps old mid m early
+        → TapeBacksSteps mid new (after m early) late → TapeBacksSteps old new m (late ++ early) }
 {}
 
 /// A driver's moves compose in one form. It goes by no step, where it knows the same device, and by one fragment after
@@ -130,21 +99,21 @@ pub fn law_advances_compose()
         → IsBackedByDeviceAlone k.device later.device m steps → DriverRelation (after m steps) later
         → DriverAdvances k m steps later }
     ensures device_steps { (k : DriverState) (m : Machine) (new : Device) → DriverRelation m k
-        → (f : SimulatesSteps k.uses m k.device new)
+        → (f : SimulatesSteps k.slot_states m k.device new)
         → DriverAdvances k m f.steps (record k { device = new }) }
-    ensures ends_in_step { (k later : DriverState) (m : Machine) (step : Step) → (e : EndsInStep k m step later)
+    ensures ends_in_step { (k later : DriverState) (m : Machine) (step : Step) → (e : EndsInOneStep k m step later)
         → DriverAdvances k m (step ∷ e.steps) later }
     ensures access { (k later : DriverState) (m : Machine)
         → IsSimulatedBySteps DriverRelation k later (IsBackedByDeviceAlone k.device later.device)
         → IsReachable m → DriverRelation m k → (steps : List Step) × AllByDevice steps
         × DriverAdvances k m steps later }
     ensures simulated_part { (k later : DriverState) (m : Machine)
-        → IsSimulatedBySteps DriverRelation k later (IsBacked k.device later.device)
+        → IsSimulatedBySteps DriverRelation k later (TapeBacksSteps k.device later.device)
         → IsReachable m → DriverRelation m k → (steps : List Step) × DriverAdvances k m steps later }
     ensures simulates_each { (k later : DriverState) → ((m : Machine) → IsReachable m → DriverRelation m k
         → (steps : List Step)
         × DriverAdvances k m steps later)
-        → IsSimulatedBySteps DriverRelation k later (IsBacked k.device later.device) }
+        → IsSimulatedBySteps DriverRelation k later (TapeBacksSteps k.device later.device) }
     ensures reached { (k later : DriverState) (m : Machine) (steps : List Step) → IsReachable m
         → DriverAdvances k m steps later
         → IsReachable (after m steps) }
@@ -171,13 +140,14 @@ pub fn law_revoking_agrees()
 /// A slot whose command is over is given up, and its request is decided on later.
 pub fn law_parking_agrees()
     ensures { (k : DriverState) (m : Machine) → DriverRelation m k → (port slot : ℕ) → IsOver (k.device.port port) slot
-        → (id : RequestId) → k.uses port slot ≡ Serves id → DriverRelation m (with_slot_parked k port slot id) }
+        → (id : RequestId) → k.slot_states port slot ≡ Serves id → DriverRelation m (with_slot_parked k port slot id) }
 {}
 
 /// A slot that is put to another use has it, and every other slot goes on as it was used. So a request that no slot
 /// serves has none then either, unless the slot is put to it.
-pub fn law_putting_is_of_one_slot()
-    ensures here { (uses : SlotStates) (port slot : ℕ) (u : SlotState) → set_slot_state uses port slot u port slot ≡ u }
+pub fn law_setting_changes_one_slot()
+    ensures slot_has_new_state { (uses : SlotStates) (port slot : ℕ) (u : SlotState)
+        → set_slot_state uses port slot u port slot ≡ u }
     ensures others { (uses : SlotStates) (port slot : ℕ) (u : SlotState) (other_port other_slot : ℕ)
         → (other_port ≡ port → other_slot ≡ slot → ⊥) → set_slot_state uses port slot u other_port other_slot
         ≡ uses other_port
@@ -189,22 +159,23 @@ pub fn law_putting_is_of_one_slot()
 /// Once the slot of a request is parked, no slot serves it, and it is among the parked; nor does a slot then serve a
 /// request that none served before.
 pub fn law_parking_frees()
-    ensures frees { (k : DriverState) (port slot : ℕ) (id : RequestId) → ServeApart k.uses
-        → k.uses port slot ≡ Serves id
-        → HasNoSlot (with_slot_parked k port slot id).uses id }
-    ensures leaves { (k : DriverState) (port slot : ℕ) (id other : RequestId) → HasNoSlot k.uses other
-        → HasNoSlot (with_slot_parked k port slot id).uses other }
+    ensures frees { (k : DriverState) (port slot : ℕ) (id : RequestId) → ServeDistinctRequests k.slot_states
+        → k.slot_states port slot ≡ Serves id
+        → HasNoSlot (with_slot_parked k port slot id).slot_states id }
+    ensures leaves { (k : DriverState) (port slot : ℕ) (id other : RequestId) → HasNoSlot k.slot_states other
+        → HasNoSlot (with_slot_parked k port slot id).slot_states other }
     ensures parks { (k : DriverState) (port slot : ℕ) (id : RequestId)
-        → Contains ((with_slot_parked k port slot id).parked port) id }
+        → Contains ((with_slot_parked k port slot id).awaiting_disposition port) id }
 {}
 
 /// A request that no slot serves may be answered: its frames are given back.
 pub fn law_answering_agrees()
     ensures { (k : DriverState) (m : Machine) (e : Pending) (outcome : Outcome) (later : ℕ → List RequestId)
         → IsReachable m
-        → DriverRelation m k → Contains m.book e → is_kept_at_answer e outcome ≡ false → HasNoSlot k.uses e.request.id
-        → ForgetsAtMost e.request.id k.parked later
-        → DriverRelation (after_step m (Answer e outcome)) (record k { parked = later }) }
+        → DriverRelation m k → Contains m.book e → is_kept_at_answer e outcome ≡ false
+        → HasNoSlot k.slot_states e.request.id
+        → ForgetsAtMost e.request.id k.awaiting_disposition later
+        → DriverRelation (after_step m (Answer e outcome)) (record k { awaiting_disposition = later }) }
 {}
 
 /// A request may be answered with its frames kept, in its slot or without one.
@@ -218,16 +189,18 @@ pub fn law_keeping_agrees()
 pub fn law_going_again_agrees()
     ensures { (k : DriverState) (m : Machine) (e : Pending) (later : ℕ → List RequestId) → IsReachable m
         → DriverRelation m k
-        → Contains m.book e → HasNoSlot k.uses e.request.id → ForgetsAtMost e.request.id k.parked later
-        → DriverRelation (after_step m (WaitAgain e)) (record k { parked = later }) }
+        → Contains m.book e → HasNoSlot k.slot_states e.request.id
+        → ForgetsAtMost e.request.id k.awaiting_disposition later
+        → DriverRelation (after_step m (WaitAgain e)) (record k { awaiting_disposition = later }) }
 {}
 
 /// The frames of kept requests may be given back where no slot serves one of them. Those that were parked needn't be so
 /// any more.
 pub fn law_releasing_agrees()
     ensures { (k : DriverState) (m : Machine) (later : ℕ → List RequestId) → IsReachable m → DriverRelation m k
-        → ((e : Pending) → Contains m.kept e → HasNoSlot k.uses e.request.id) → ForgetsAtMostKept m k.parked later
-        → DriverRelation (after_step m Release) (record k { parked = later }) }
+        → ((e : Pending) → Contains m.kept e → HasNoSlot k.slot_states e.request.id)
+        → ForgetsAtMostKept m k.awaiting_disposition later
+        → DriverRelation (after_step m Release) (record k { awaiting_disposition = later }) }
 {}
 
 /// No slot serves a request that waits.
@@ -242,14 +215,14 @@ pub fn law_waiting_has_no_slot()
 pub fn law_slots_are_counted()
     ensures no_more_serve { (uses : SlotStates) (m : Machine) (d : Device) → IsReachable m → StateRelation uses m d
         → (port : Port)
-        → NoneQuarantined m port → (n : ℕ) → serving_count uses port.0 n ≤ issued_count (map unanswered m.book) port }
+        → NoneKept m port → (n : ℕ) → serving_count uses port.0 n ≤ issued_count (map unanswered m.book) port }
     ensures issued { (uses : SlotStates) (m : Machine) (d : Device) → StateRelation uses m d → (port : Port)
-        → NoneQuarantined m port
+        → NoneKept m port
         → (slot : ℕ) (id : RequestId) → uses port.0 slot ≡ Serves id
         → (e : Pending) × Contains m.book e × (e.issued ≡ true) × (e.request.id ≡ id) × (e.request.port ≡ port) }
     ensures as_many_serve { (uses : SlotStates) (m : Machine) (d : Device) → IsReachable m → StateRelation uses m d
         → (port : Port)
-        → NoneQuarantined m port → (n : ℕ) → HaveSlots uses m port.0 []
+        → NoneKept m port → (n : ℕ) → HaveSlotsUnlessParked uses m port.0 []
         → ((slot : ℕ) (id : RequestId) → uses port.0 slot ≡ Serves id → slot < n)
         → serving_count uses port.0 n ≡ issued_count (map unanswered m.book) port }
 {}
@@ -266,28 +239,28 @@ pub fn law_due_finds_free_slot()
         → (mode : QueueMode) (e : Pending) → IsEnabled m (Issue mode e)
         → ((o : Operation) → uses e.request.port.0 0 ≡ Own o → ⊥)
         → ((slot : ℕ) → uses e.request.port.0 slot ≡ Armed → ⊥) → is_plain mode e.request.asked.op ≡ false
-        → (slot : ℕ) × (slot < mode.usable) × (uses e.request.port.0 slot ≡ Free) }
+        → (slot : ℕ) × (slot < mode.usable_slots) × (uses e.request.port.0 slot ≡ Free) }
 {}
 
 /// While no reset is pending the device leaves alone what no slot uses; so it is over readings, writes and loads. A
 /// store leaves of it what it would at once, had the device done nothing first.
-pub fn law_free_slots_are_left()
+pub fn law_free_slots_are_untouched()
     ensures steps { (uses : SlotStates) (m : Machine) (old new : Device) → IsReachable m → StateRelation uses m old
         → old.hr ≡ false
-        → Steps old new → KeepsTables uses old new }
+        → Steps old new → KeepsTablesAndScratch uses old new }
     ensures reads { (uses : SlotStates) (m : Machine) (old new : Device) → IsReachable m → StateRelation uses m old
         → old.hr ≡ false
-        → (r : Reg) (v : ℕ) → Reads r v old new → KeepsTables uses old new }
+        → (r : Reg) (v : ℕ) → Reads r v old new → KeepsTablesAndScratch uses old new }
     ensures loads { (uses : SlotStates) (m : Machine) (old new : Device) → IsReachable m → StateRelation uses m old
         → old.hr ≡ false
-        → (at : ℕ) (bytes : List ℕ) → Loads at bytes old new → KeepsTables uses old new }
+        → (at : ℕ) (bytes : List ℕ) → Loads at bytes old new → KeepsTablesAndScratch uses old new }
     ensures stores { (uses : SlotStates) (m : Machine) (old new : Device) → IsReachable m → StateRelation uses m old
         → old.hr ≡ false
         → (at : ℕ) (bytes : List ℕ) → Stores at bytes old new
-        → KeepsTables uses (record old { memory = patched old.memory at bytes }) new }
+        → KeepsTablesAndScratch uses (record old { memory = patched old.memory at bytes }) new }
     ensures writes { (uses : SlotStates) (m : Machine) (old new : Device) → IsReachable m → StateRelation uses m old
         → old.hr ≡ false
-        → (r : Reg) (v : ℕ) → Writes r v old new → KeepsTables uses old new }
+        → (r : Reg) (v : ℕ) → Writes r v old new → KeepsTablesAndScratch uses old new }
 {}
 
 /// A page comes only where slot 0 of its port has that command of the driver's own, which isn't over; and one at most
@@ -295,21 +268,24 @@ pub fn law_free_slots_are_left()
 pub fn law_pages_come_when_asked()
     ensures steps { (uses : SlotStates) (m : Machine) (old new : Device) (port : ℕ) (o : Operation)
         (gained : List Entry)
-        → IsReachable m → StateRelation uses m old → Steps old new → new.tape ≡ old.tape ++ gained → op_of o ≡ None
+        → IsReachable m → StateRelation uses m old → Steps old new → new.tape ≡ old.tape ++ gained
+        → client_operation_of o ≡ None
         → (uses port 0 ≡ Own o → IsOver (old.port port) 0) → All (λ e. IsMove port o e → ⊥) gained }
     ensures access { (uses : SlotStates) (m : Machine) (access : Access) (old new : Device) (port : ℕ) (o : Operation)
         (gained : List Entry) → IsReachable m → StateRelation uses m old → Does access old new
         → new.tape ≡ old.tape ++ gained
-        → op_of o ≡ None → (uses port 0 ≡ Own o → IsOver (old.port port) 0) → All (λ e. IsMove port o e → ⊥) gained }
+        → client_operation_of o ≡ None → (uses port 0 ≡ Own o → IsOver (old.port port) 0)
+        → All (λ e. IsMove port o e → ⊥) gained }
     ensures one_at_most { (uses : SlotStates) (m : Machine) (old new : Device) (port : ℕ) (o : Operation)
         (gained : List Entry)
-        → IsReachable m → StateRelation uses m old → Steps old new → new.tape ≡ old.tape ++ gained → op_of o ≡ None
+        → IsReachable m → StateRelation uses m old → Steps old new → new.tape ≡ old.tape ++ gained
+        → client_operation_of o ≡ None
         → OneAtMost (IsMove port o) gained }
     ensures one_at_most_by_access { (uses : SlotStates) (m : Machine) (access : Access) (old new : Device) (port : ℕ)
         (o : Operation)
         (gained : List Entry) → IsReachable m → StateRelation uses m old → Does access old new
         → new.tape ≡ old.tape ++ gained
-        → op_of o ≡ None → OneAtMost (IsMove port o) gained }
+        → client_operation_of o ≡ None → OneAtMost (IsMove port o) gained }
 {
     law_prerequisites();
 }
@@ -318,30 +294,35 @@ pub fn law_pages_come_when_asked()
 /// the driver's own. A store beside them leaves them, too; and one for a free slot is beside what belongs to a slot in
 /// use.
 pub fn law_stored_commands_stay()
-    ensures told { (uses : SlotStates) (old new : Device) → KeepsTables uses old new → (port slot : ℕ) (c : Meaning)
-        (places : List ℕ) → port < 4 → slot < 32 → SlotDecodesTo old.memory (list_of port) port slot c places
-        → SlotDecodesTo new.memory (list_of port) port slot c places }
-    ensures block { (uses : SlotStates) (old new : Device) → KeepsTables uses old new → (port : ℕ) (r : Accepted)
+    ensures told { (uses : SlotStates) (old new : Device) → KeepsTablesAndScratch uses old new
+        → (port slot : ℕ) (c : Meaning)
+        (places : List ℕ) → port < 4 → slot < 32
+        → SlotDecodesTo old.memory (command_list_address port) port slot c places
+        → SlotDecodesTo new.memory (command_list_address port) port slot c places }
+    ensures block { (uses : SlotStates) (old new : Device) → KeepsTablesAndScratch uses old new
+        → (port : ℕ) (r : Accepted)
         → port < 4
-        → ((o : Operation) → uses port 0 ≡ Own o → ⊥) → HasTrimBlock r.asked.op old.memory port r
-        → HasTrimBlock r.asked.op new.memory port r }
+        → ((o : Operation) → uses port 0 ≡ Own o → ⊥) → HasBlockIfTrim r.asked.op old.memory port r
+        → HasBlockIfTrim r.asked.op new.memory port r }
     ensures beside { (uses : SlotStates) (at : ℕ) (bytes : List ℕ) (old new : Device)
-        → KeepsTables uses (record old { memory = patched old.memory at bytes }) new → (port slot : ℕ) (c : Meaning)
-        (places : List ℕ) → port < 4 → slot < 32 → MissesTable port slot at (length bytes)
-        → SlotDecodesTo old.memory (list_of port) port slot c places
-        → SlotDecodesTo new.memory (list_of port) port slot c places }
+        → KeepsTablesAndScratch uses (record old { memory = patched old.memory at bytes }) new
+        → (port slot : ℕ) (c : Meaning)
+        (places : List ℕ) → port < 4 → slot < 32 → MissesHeaderAndTable port slot at (length bytes)
+        → SlotDecodesTo old.memory (command_list_address port) port slot c places
+        → SlotDecodesTo new.memory (command_list_address port) port slot c places }
     ensures misses { (uses : SlotStates) (port slot at n : ℕ) → uses port slot ≢ Free → port < 4 → slot < 32
-        → MayStore uses at n → MissesTable port slot at n }
+        → MayStore uses at n → MissesHeaderAndTable port slot at n }
     ensures block_beside { (uses : SlotStates) (at : ℕ) (bytes : List ℕ) (old new : Device)
-        → KeepsTables uses (record old { memory = patched old.memory at bytes }) new → (port : ℕ) (r : Accepted)
+        → KeepsTablesAndScratch uses (record old { memory = patched old.memory at bytes }) new
+        → (port : ℕ) (r : Accepted)
         → port < 4 → ((o : Operation) → uses port 0 ≡ Own o → ⊥) → MissesScratch port at (length bytes)
-        → HasTrimBlock r.asked.op old.memory port r → HasTrimBlock r.asked.op new.memory port r }
+        → HasBlockIfTrim r.asked.op old.memory port r → HasBlockIfTrim r.asked.op new.memory port r }
     ensures misses_scratch { (uses : SlotStates) (port at n : ℕ) → uses port 0 ≢ Free → port < 4 → MayStore uses at n
         → MissesScratch port at n }
 {}
 
 /// Requests that may be issued one after another may be so still, whatever the device does first.
-pub fn law_due_stays()
+pub fn law_enabled_issues_stay()
     ensures { (m : Machine) (steps : List Step) → IsReachable m → AllByDevice steps → AllEnabled m steps
         → (own : List Step) → All IsIssueStep own → AllEnabled m own → AllEnabled (after m steps) own }
 {}
@@ -351,9 +332,9 @@ pub fn law_due_stays()
 /// isn't lent to a request that the device may move keeps its bytes. And a port of which no request is kept has none
 /// kept after them.
 pub fn law_steps_spare_the_book()
-    ensures spares { (m : Machine) (steps : List Step) → AllByDevice steps → SparesBook m (after m steps) }
-    ensures reflexive { (m : Machine) → SparesBook m m }
-    ensures transitive { (a b c : Machine) → SparesBook a b → SparesBook b c → SparesBook a c }
+    ensures spares { (m : Machine) (steps : List Step) → AllByDevice steps → KeepsBookAndLoans m (after m steps) }
+    ensures reflexive { (m : Machine) → KeepsBookAndLoans m m }
+    ensures transitive { (a b c : Machine) → KeepsBookAndLoans a b → KeepsBookAndLoans b c → KeepsBookAndLoans a c }
     ensures due_is_the_same { (old new : List Pending) → AllFurther old new → map unanswered new ≡ map unanswered old }
     ensures is_found_later { (old new : List Pending) (e : Pending) → AllFurther old new → Contains old e
         → (x : Pending) × Contains new x × IsFurther e x }
@@ -365,8 +346,8 @@ pub fn law_steps_spare_the_book()
         → ((e : Pending) → MayStillMove m e → m.lent frame ≡ Some e.request.id → ⊥)
         → (b : ℕ) → (after m steps).memory frame b ≡ m.memory frame b }
     ensures none_quarantined_stays { (m : Machine) (steps : List Step) (port : Port) → AllByDevice steps
-        → NoneQuarantined m port
-        → NoneQuarantined (after m steps) port }
+        → NoneKept m port
+        → NoneKept (after m steps) port }
 {}
 
 /// Where entries of the tape tell of the device's steps among these, one of the entries is of a disk of the port that
@@ -404,7 +385,7 @@ pub fn law_histories_compose()
 
 /// A bit of PxSACT that is clear stays so whatever the device does, over readings, and over writes but for one of
 /// PxSACT that sets it.
-pub fn law_clear_bits_stay()
+pub fn law_clear_sact_bits_stay()
     ensures device { (port slot : ℕ) (old new : Device) → Steps old new → (old.port port).sact slot ≡ false
         → (new.port port).sact slot ≡ false }
     ensures reads { (port slot : ℕ) (r : Reg) (v : ℕ) (old new : Device) → Reads r v old new
@@ -421,16 +402,17 @@ pub fn law_clear_bits_stay()
 pub fn law_pages_may_be_loaded()
     ensures { (uses : SlotStates) (m : Machine) (d : Device) → IsReachable m → StateRelation uses m d → (port : ℕ)
         → port < 4
-        → scratch_of port + 512 ≤ d.size → IsOver (d.port port) 0 → IsStable (IsUnowned (scratch_of port) 512) d }
+        → scratch_frame_address port + 512 ≤ d.memory_size → IsOver (d.port port) 0
+        → IsStable (IsUnowned (scratch_frame_address port) 512) d }
 {
     law_prerequisites();
 }
 
 /// So may bytes of a client's frame that isn't lent, for its owner.
-pub fn law_client_bytes_are_free()
+pub fn law_client_bytes_are_accessible()
     ensures { (uses : SlotStates) (m : Machine) (d : Device) → IsReachable m → StateRelation uses m d
         → (client : ClientId)
-        (frame : Frame) (offset n : ℕ) → FRAME_BYTES * frame.0 + FRAME_BYTES ≤ d.size
+        (frame : Frame) (offset n : ℕ) → FRAME_BYTES * frame.0 + FRAME_BYTES ≤ d.memory_size
         → MayAccessFrame m.owner m.lent client frame offset n
         → IsStable (IsUnowned (FRAME_BYTES * frame.0 + offset) n) d }
 {
@@ -438,33 +420,33 @@ pub fn law_client_bytes_are_free()
 }
 
 /// Bytes that the driver may store are free for it, whatever the device does first.
-pub fn law_bytes_to_store_are_free()
+pub fn law_driver_stores_are_permitted()
     ensures { (uses : SlotStates) (m : Machine) (d : Device) → IsReachable m → StateRelation uses m d → (at n : ℕ)
-        → at + n ≤ d.size → MayStore uses at n → IsStable (IsUnowned at n) d }
+        → at + n ≤ d.memory_size → MayStore uses at n → IsStable (IsUnowned at n) d }
 {
     law_prerequisites();
 }
 
 /// A write that may be made now, of any register but PxCI, may be made whatever the device does first; and, while no
 /// reset is pending, one that leaves each slot to its use goes on to.
-pub fn law_writing_is_permitted()
+pub fn law_writing_stays_permitted()
     ensures rules { (r : Reg) (v : ℕ) (d : Device) → ((port : Port) → r ≢ Px port Ci) → MayWrite r v d
         → IsStable (MayWrite r v) d }
-    ensures uses { (uses : SlotStates) (r : Reg) (v : ℕ) (d : Device) → d.hr ≡ false → LeavesUses uses r v d
-        → IsStable (LeavesUses uses r v) d }
+    ensures uses { (uses : SlotStates) (r : Reg) (v : ℕ) (d : Device) → d.hr ≡ false → KeepsSlotStates uses r v d
+        → IsStable (KeepsSlotStates uses r v) d }
 {}
 
 /// Where a port's engine stands its command list may be put into its place; and where it receives no FISes, the
 /// received FIS area may.
 pub fn law_placing_areas_is_permitted()
     ensures list { (d : Device) (port : Port) → IsOn d → HasPort d port.0 → (d.port port.0).st ≡ false
-        → (d.port port.0).cr ≡ false → list_of port.0 + LIST_BYTES ≤ d.size
-        → IsStable (MayWrite (Px port Clb) (list_of port.0)) d }
+        → (d.port port.0).cr ≡ false → command_list_address port.0 + LIST_BYTES ≤ d.memory_size
+        → IsStable (MayWrite (Px port Clb) (command_list_address port.0)) d }
     ensures list_upper { (d : Device) (port : Port) → IsOn d → HasPort d port.0 → (d.port port.0).st ≡ false
         → (d.port port.0).cr ≡ false → IsStable (MayWrite (Px port Clbu) 0) d }
     ensures received { (d : Device) (port : Port) → IsOn d → HasPort d port.0 → (d.port port.0).fre ≡ false
-        → (d.port port.0).fr ≡ false → received_of port.0 + RECEIVED_FIS_BYTES ≤ d.size
-        → IsStable (MayWrite (Px port Fb) (received_of port.0)) d }
+        → (d.port port.0).fr ≡ false → received_fis_address port.0 + RECEIVED_FIS_BYTES ≤ d.memory_size
+        → IsStable (MayWrite (Px port Fb) (received_fis_address port.0)) d }
     ensures received_upper { (d : Device) (port : Port) → IsOn d → HasPort d port.0 → (d.port port.0).fre ≡ false
         → (d.port port.0).fr ≡ false → IsStable (MayWrite (Px port Fbu) 0) d }
 {}
@@ -509,10 +491,10 @@ pub fn law_own_issuing_is_permitted()
 /// client frames, and the machine has put aside what these disks may come back with.
 pub fn law_an_idle_device_agrees()
     ensures { (m : Machine) (d : Device) → IsInitial m → IsIdle d → ((port : ℕ) → IsDiskOf m (d.port port) port)
-        → SameMemory m d.memory
+        → SameClientFrames m d.memory
         → (d.telling ≡ true → (port : ℕ) → SameSectors m (d.port port).disk port)
         → (d.telling ≡ true → (port k : ℕ)
-        → m.blocks_since_flush (port_at port) k ≡ replug_candidates d.tape (d.port port).lasting port k)
+        → m.overwritten_since_flush (port_at port) k ≡ replug_candidates d.tape (d.port port).lasting port k)
         → DriverRelation m (idle_driver_state d) }
 {}
 

@@ -1,43 +1,14 @@
 // Laws of what a driver learns from the device, for the crates above: the clause is the theorem. Nothing that runs
 // calls these functions.
 ghost use Rattle.std.specs.Prelude.{ℕ, true, false, ◌≡◌, ◌≢◌, ◌≤◌, ◌+◌, ◌*◌, ◌/◌, ◌%◌, ◌++◌, List, length, drop, Some, None, Contains, All};
-ghost use Rattle.ata_types.specs.declared.Port.{Port};
-ghost use Rattle.ata_types.specs.declared.memory.TheConstants.{DRIVER_FRAMES, FRAME_BYTES};
-ghost use Rattle.ata_types.specs.declared.request.Frame.{Frame};
-ghost use Rattle.ata_types.specs.declared.request.RequestId.{RequestId};
-ghost use Rattle.hba_regs.specs.Bits.{bit};
-ghost use Rattle.hba_regs.specs.declared.reg.Reg.{Reg};
-ghost use Rattle.hba_regs.specs.declared.reg.Reg.TheVariants.{Ghc, Px};
-ghost use Rattle.hba_regs.specs.declared.reg.PortReg.TheVariants.{Is, Ie, Cmd, Tfd, Sig, Ssts, Sctl, Serr, Ci, Sact, Clb, Clbu, Fb, Fbu};
-ghost use Rattle.hba_regs.specs.declared.reg.PortReg.{PortReg};
-ghost use Rattle.adapter.specs.Access.{Reads, Writes, Loads, Stores, Access, Does, DoesAll, PortShows, note};
-ghost use Rattle.adapter.specs.Access.Access.{Writing};
-ghost use Rattle.adapter.specs.Device.{Device, DevicePort};
-ghost use Rattle.adapter.specs.Device.Halt.{HaltedPlain};
-ghost use Rattle.adapter.specs.FirstRead.{first_read_device};
-ghost use Rattle.adapter.specs.Idle.{IsIdle, IsIdlePort};
-ghost use Rattle.adapter.specs.Rules.{IsUnowned, IsOn, MayWrite, IsStable};
-ghost use Rattle.adapter.specs.Steps.{Steps};
-ghost use Rattle.adapter.specs.declared.command.Operation.{Operation};
-ghost use Rattle.adapter.specs.declared.tape.Entry.{Entry};
-ghost use Rattle.block_machine.specs.Events.{AllByDevice};
-ghost use Rattle.block_machine.specs.Histories.{IsReachable, IsSimulatedBySteps};
-ghost use Rattle.block_machine.specs.Expected.{after};
-ghost use Rattle.block_machine.specs.State.{Pending, Machine};
-ghost use Rattle.block_machine.specs.Steps.{Step, Release, MayStillMove, NoneQuarantined, after_step};
-ghost use Rattle.refinement.specs.Relation.{StateRelation};
-ghost use Rattle.refinement.specs.AwaitedPage.{AwaitsPage};
-ghost use Rattle.refinement.specs.BootWitness.{BootWitness};
-ghost use Rattle.refinement.specs.Fragments.{TapeGrows};
-ghost use Rattle.refinement.specs.Driver.{DriverState, DriverRelation, IsOwnPrepared};
-ghost use Rattle.refinement.specs.Errors.{KeepsErrors, NoDiskComes, ChangesByDisks, StaysClear, NoneFatal, NoneFails, ChangesByErrors, IsLeftByReset, ShowsResetState, IsCompositional, IsWork};
-ghost use Rattle.refinement.specs.PortFacts.{IsEngineStopped, IsQuiescentPort, FindsOwnPage, DeviceSparesFrame, CommandsAreOver, RunsWell, Undisturbed, ShowsNoTrouble, TellsNoTrouble, ClearsNoTrouble, IsFaulted, ShowsFault, RecordsFaults, FaultsOnRecord, ShowsDrqTillLink, StoppedTfesClear, IsCleanToStart, KeepsFaultRecord, EndedIn, IsSlotClear};
-ghost use Rattle.refinement.specs.Links.{DoesNotWrite, SameAdapter, LeavesControls, NoPlugEvents, LeavesDisk, LeavesLink, ShowsDiskIfIn};
-ghost use Rattle.refinement.specs.PortNotes.{LeavesNotes, NotesLast};
-ghost use Rattle.refinement.specs.MemoryLayout.{scratch_of};
-ghost use Rattle.refinement.specs.Slots.{SlotStates, Free, Own, Serves, IsOver, PageStandsInScratch, set_slot_state};
-ghost use Rattle.refinement.specs.SparedBook.{IsOfAnother};
-ghost use Rattle.refinement.specs.StartedPort.{IsUp, IsComingUp, IsStarted, SetsNoStart, ClearsNoStart};
+ghost use Rattle.ata_types.specs.{declared.Port.{Port}, declared.memory.TheConstants.{DRIVER_FRAMES, FRAME_BYTES}, declared.request.Frame.{Frame}, declared.request.RequestId.{RequestId}};
+ghost use Rattle.hba_regs.specs.{Bits.{bit}, declared.reg.Reg.{Reg}, declared.reg.Reg.TheVariants.{Ghc, Px}, declared.reg.PortReg.TheVariants.{Is, Ie, Cmd, Tfd, Sig, Ssts, Sctl, Serr, Ci, Sact, Clb, Clbu, Fb, Fbu}, declared.reg.PortReg.{PortReg}};
+ghost use Rattle.adapter.specs.{Access.{Reads, Writes, Loads, Stores, Access, Does, DoesAll, PortShows, notes_after_reading}, Access.Access.{Writing}, Device.{Device, DevicePort}, Device.Halt.{HaltedPlain}, FirstRead.{first_read_device}, Idle.{IsIdle, IsIdlePort}, Rules.{IsUnowned, IsOn, MayWrite, IsStable}, Steps.{Steps}, declared.command.Operation.{Operation}, declared.tape.Entry.{Entry}};
+ghost use Rattle.block_machine.specs.{Events.{AllByDevice}, Histories.{IsReachable, IsSimulatedBySteps}, Expected.{after}, State.{Pending, Machine}, Steps.{Step, Release, MayStillMove, NoneKept, after_step}};
+ghost use Rattle.refinement.specs.{Relation.{StateRelation}, AwaitedPage.{AwaitsOrHasPage}, BootWitness.{BootWitness}, Fragments.{TapeGrows}, Driver.{DriverState, DriverRelation, IsOwnPrepared}, Errors.{KeepsErrors, NoDiskComes, LinkErrorsRiseByDisks, ErrorBitsStayClear, NoFatalErrors, NoFaults, ErrorBitsRiseByErrors, IsLeftByReset, ShowsResetState, IsCompositional, IsEngineWork}};
+ghost use Rattle.refinement.specs.PortFacts.{IsEngineStopped, IsQuiescentPort, FindsOwnPage, DeviceSparesFrame, CommandsAreOver, RunsWell, Undisturbed, ShowsNoTrouble, PxisValueTellsNoTrouble, ClearsNoTrouble, IsFaulted, ShowsFault, RecordsFaults, RecordsFaultsIfSt, StoppedWithDrqTillLink, StoppedTfesClear, IsCleanToStart, KeepsFaultRecord, EndedIn, IsSlotClear};
+ghost use Rattle.refinement.specs.{PreservedParts.{DoesNotWrite, SameAdapter, LeavesControls, NoPlugEvents, KeepsDisk, LinkIsSameOrComesUp, ShowsDiskIfIn}, PortNotes.{LeavesNotes, NotesLast}, MemoryLayout.{scratch_frame_address}, Slots.{SlotStates, Free, Own, Serves, IsOver, PageStandsInScratch, set_slot_state}, SparedBook.{IsOfAnother}, Staying.{StaysOverReadings, StaysOverSteps, StaysOverWrites}};
+ghost use Rattle.refinement.specs.StartedPort.{IsUpForStart, IsComingUp, IsStarted, SetsNoStart, ClearsNoStart};
 
 use super::prerequisites::law_prerequisites;
 use adapter::laws::law_step_lists_keep_what_steps_keep;
@@ -45,21 +16,16 @@ use adapter::laws::law_step_lists_keep_what_steps_keep;
 /// A port that has halted stays so, whatever the device does, also over a reset of the adapter that ends, over
 /// readings, and over each write that may be made and doesn't set its ST; and an idle port has halted.
 pub fn law_stopped_engine_stays()
-    ensures steps { (port : ℕ) (old new : Device) → Steps old new → IsEngineStopped (old.port port)
-        → IsEngineStopped (new.port port) }
-    ensures reads { (port : ℕ) (r : Reg) (v : ℕ) (old new : Device) → Reads r v old new
-        → IsEngineStopped (old.port port)
-        → IsEngineStopped (new.port port) }
-    ensures writes { (port : Port) (r : Reg) (v : ℕ) (old new : Device) → IsStable (MayWrite r v) old
-        → (r ≡ Px port Cmd → bit v 0 ≡ false) → Writes r v old new → IsEngineStopped (old.port port.0)
-        → IsEngineStopped (new.port port.0) }
+    ensures steps { StaysOverSteps IsEngineStopped }
+    ensures reads { StaysOverReadings IsEngineStopped }
+    ensures writes { StaysOverWrites (λ v. bit v 0 ≡ false) IsEngineStopped }
     ensures idle { (p : DevicePort) → IsIdlePort p → IsEngineStopped p }
 {
     law_prerequisites();
 }
 
 /// ST is 0 and CR is read 0: the port has halted.
-pub fn law_stop_is_found()
+pub fn law_stopped_engine_is_read()
     ensures { (uses : SlotStates) (m : Machine) (port : Port) (v : ℕ) (old new : Device) → IsReachable m
         → StateRelation uses m old
         → (old.port port.0).st ≡ false → Reads (Px port Cmd) v old new → bit v 15 ≡ false
@@ -75,22 +41,18 @@ pub fn law_stop_is_found()
 /// idle.
 pub fn law_reset_is_found()
     ensures begins { (v : ℕ) (old new : Device) → bit v 0 ≡ true → Writes Ghc v old new → new.hr ≡ true }
-    ensures told { (v : ℕ) (old new : Device) → Reads Ghc v old new → (new.hr ≡ bit v 0) × (new.ae ≡ bit v 31) }
-    ensures reset { (v : ℕ) (old new : Device) → old.hr ≡ true → Reads Ghc v old new → bit v 0 ≡ false
+    ensures hr_and_ae_are_read { (v : ℕ) (old new : Device) → Reads Ghc v old new → (new.hr ≡ bit v 0)
+        × (new.ae ≡ bit v 31) }
+    ensures port_is_left_by_reset { (v : ℕ) (old new : Device) → old.hr ≡ true → Reads Ghc v old new → bit v 0 ≡ false
         → (port : ℕ) → IsQuiescentPort (new.port port) }
     ensures left { (v : ℕ) (old new : Device) → old.hr ≡ true → Reads Ghc v old new → bit v 0 ≡ false
         → (mid : Device) × (mid.hr ≡ false) × ((port : ℕ) → IsLeftByReset (mid.port port)) × Steps mid new
         × Steps old mid }
     ensures cleared { (v : ℕ) (old new : Device) → old.hr ≡ true → Reads Ghc v old new → bit v 0 ≡ false
         → (port : ℕ) → ShowsResetState (new.port port) }
-    ensures stays { (port : ℕ) (old new : Device) → Steps old new → IsQuiescentPort (old.port port)
-        → IsQuiescentPort (new.port port) }
-    ensures reads { (port : ℕ) (r : Reg) (v : ℕ) (old new : Device) → Reads r v old new
-        → IsQuiescentPort (old.port port)
-        → IsQuiescentPort (new.port port) }
-    ensures writes { (port : Port) (r : Reg) (v : ℕ) (old new : Device) → IsStable (MayWrite r v) old
-        → (r ≡ Px port Cmd → (bit v 0 ≡ false) × (bit v 4 ≡ false)) → Writes r v old new
-        → IsQuiescentPort (old.port port.0) → IsQuiescentPort (new.port port.0) }
+    ensures stays { StaysOverSteps IsQuiescentPort }
+    ensures reads { StaysOverReadings IsQuiescentPort }
+    ensures writes { StaysOverWrites (λ v. (bit v 0 ≡ false) × (bit v 4 ≡ false)) IsQuiescentPort }
     ensures idle { (p : DevicePort) → IsIdlePort p → IsQuiescentPort p }
     ensures is_idle { (p : DevicePort) → IsQuiescentPort p → IsIdlePort p }
 {
@@ -132,7 +94,7 @@ pub fn law_over_stays()
         → EndedIn m port id → EndedIn (after m steps) port id }
     ensures ended_beside { (m : Machine) (step : Step) (port : Port) (id : RequestId) → IsOfAnother id step
         → step ≢ Release → EndedIn m port id → EndedIn (after_step m step) port id }
-    ensures ended_released { (m : Machine) (port : Port) (id : RequestId) → NoneQuarantined m port → EndedIn m port id
+    ensures ended_released { (m : Machine) (port : Port) (id : RequestId) → NoneKept m port → EndedIn m port id
         → EndedIn (after_step m Release) port id }
 {
     law_prerequisites();
@@ -146,23 +108,24 @@ pub fn law_page_is_awaited()
     ensures issued { (uses : SlotStates) (m : Machine) (port : Port) (o : Operation) (v : ℕ) (old new : Device)
         → IsReachable m
         → StateRelation uses m old → old.hr ≡ false → IsOwnPrepared uses old port.0 o v → Writes (Px port Ci) v old new
-        → AwaitsPage (set_slot_state uses port.0 0 (Own o)) port.0 o (length new.tape) new }
+        → AwaitsOrHasPage (set_slot_state uses port.0 0 (Own o)) port.0 o (length new.tape) new }
     ensures steps { (uses : SlotStates) (m : Machine) (port : ℕ) (o : Operation) (since : ℕ) (old new : Device)
         → IsReachable m
-        → StateRelation uses m old → Steps old new → AwaitsPage uses port o since old
-        → AwaitsPage uses port o since new }
+        → StateRelation uses m old → Steps old new → AwaitsOrHasPage uses port o since old
+        → AwaitsOrHasPage uses port o since new }
     ensures access { (uses : SlotStates) (m : Machine) (port : Port) (o : Operation) (since : ℕ) (access : Access)
         (old new : Device)
         → IsReachable m → StateRelation uses m old → ClearsNoStart port access → new.hr ≡ false → Does access old new
-        → AwaitsPage uses port.0 o since old → AwaitsPage uses port.0 o since new }
+        → AwaitsOrHasPage uses port.0 o since old → AwaitsOrHasPage uses port.0 o since new }
     ensures found { (uses : SlotStates) (m : Machine) (port : Port) (o : Operation) (since v : ℕ) (old new : Device)
-        → IsReachable m → StateRelation uses m old → AwaitsPage uses port.0 o since old → Reads (Px port Ci) v old new
+        → IsReachable m → StateRelation uses m old → AwaitsOrHasPage uses port.0 o since old
+        → Reads (Px port Ci) v old new
         → bit v 0 ≡ false → FindsOwnPage uses m port.0 o old new
         × PageStandsInScratch new.memory new.tape port.0 o since }
     ensures loaded { (uses : SlotStates) (m : Machine) (port : ℕ) (o : Operation) (since : ℕ) (bytes : List ℕ)
         (old new : Device)
-        → IsReachable m → StateRelation uses m old → AwaitsPage uses port o since old → IsOver (old.port port) 0
-        → Loads (scratch_of port) bytes old new → length bytes ≡ 512
+        → IsReachable m → StateRelation uses m old → AwaitsOrHasPage uses port o since old → IsOver (old.port port) 0
+        → Loads (scratch_frame_address port) bytes old new → length bytes ≡ 512
         → (b : PageStandsInScratch new.memory new.tape port o since) × (bytes ≡ b.move.bytes.value) }
 {
     law_prerequisites();
@@ -183,13 +146,13 @@ pub fn law_device_spares_frames()
         → uses port slot ≡ Serves id → IsOver (d.port port) slot → CommandsAreOver uses d id }
     ensures idle { (d : Device) (frame : Frame) → IsIdle d → IsStable (DeviceSparesFrame frame) d }
     ensures free { (d : Device) (frame : Frame) (offset n : ℕ) → IsStable (DeviceSparesFrame frame) d
-        → FRAME_BYTES * frame.0 + FRAME_BYTES ≤ d.size → offset + n ≤ FRAME_BYTES
+        → FRAME_BYTES * frame.0 + FRAME_BYTES ≤ d.memory_size → offset + n ≤ FRAME_BYTES
         → IsStable (IsUnowned (FRAME_BYTES * frame.0 + offset) n) d }
 {}
 
 /// While no reset is pending, a healthy port on which nothing goes wrong stays healthy, whatever else the device does,
 /// over readings, and over writes that neither clear ST nor write SCTL. There is one.
-pub fn law_healthy_stays()
+pub fn law_running_well_stays()
     ensures steps { (port : ℕ) (old new : Device) → old.hr ≡ false → Steps old new → Undisturbed port old new
         → RunsWell (old.port port) → RunsWell (new.port port) }
     ensures reads { (port : ℕ) (r : Reg) (v : ℕ) (old new : Device) → old.hr ≡ false → Reads r v old new
@@ -218,14 +181,16 @@ pub fn law_trouble_is_shown()
         × Undisturbed port.0 old new }
     ensures none_told_none_shown { (port : Port) (v : ℕ) (old new : Device) → old.hr ≡ false
         → Reads (Px port Is) v old new
-        → TellsNoTrouble v → ShowsNoTrouble (new.port port.0) }
+        → PxisValueTellsNoTrouble v → ShowsNoTrouble (new.port port.0) }
     ensures tells_what_is_shown { (port : Port) (v : ℕ) (old new : Device) → old.hr ≡ false
         → Reads (Px port Is) v old new
-        → ShowsNoTrouble (new.port port.0) → TellsNoTrouble v }
-    ensures clears_no_trouble { (port : Port) (v : ℕ) → TellsNoTrouble v → ClearsNoTrouble port (Px port Is) v }
+        → ShowsNoTrouble (new.port port.0) → PxisValueTellsNoTrouble v }
+    ensures clears_no_trouble { (port : Port) (v : ℕ) → PxisValueTellsNoTrouble v
+        → ClearsNoTrouble port (Px port Is) v }
     ensures healthy { (p : DevicePort) → RunsWell p → ShowsNoTrouble p }
     ensures found { (port : Port) (v : ℕ) (old new : Device) → old.hr ≡ false → Reads (Px port Is) v old new
-        → TellsNoTrouble v → RunsWell (old.port port.0) → Undisturbed port.0 old new × RunsWell (new.port port.0) }
+        → PxisValueTellsNoTrouble v → RunsWell (old.port port.0) → Undisturbed port.0 old new
+        × RunsWell (new.port port.0) }
     ensures found_by_two_reads { (port : Port) (v errors : ℕ) (old mid new : Device) → old.hr ≡ false
         → Reads (Px port Is) v old mid
         → Reads (Px port Serr) errors mid new → ((place : ℕ) → 27 ≤ place → place ≤ 30 → bit v place ≡ false)
@@ -240,17 +205,17 @@ pub fn law_trouble_is_shown()
 /// came.
 pub fn law_errors_are_shown()
     ensures fault { (port : ℕ) (old new : Device) → old.hr ≡ false → Steps old new → (new.port port).is 30 ≡ false
-        → ((old.port port).is 30 ≡ false) × NoneFails port old new }
+        → ((old.port port).is 30 ≡ false) × NoFaults port old new }
     ensures fault_access { (port : Port) (access : Access) (old new : Device) → old.hr ≡ false
         → DoesNotWrite (Px port Is) access → Does access old new → (new.port port.0).is 30 ≡ false
-        → ((old.port port.0).is 30 ≡ false) × NoneFails port.0 old new }
+        → ((old.port port.0).is 30 ≡ false) × NoFaults port.0 old new }
     ensures fatal { (port : ℕ) (old new : Device) → old.hr ≡ false → Steps old new
         → ((place : ℕ) → 27 ≤ place → place ≤ 29 → (new.port port).is place ≡ false)
-        → ((place : ℕ) → 27 ≤ place → place ≤ 29 → (old.port port).is place ≡ false) × NoneFatal port old new }
+        → ((place : ℕ) → 27 ≤ place → place ≤ 29 → (old.port port).is place ≡ false) × NoFatalErrors port old new }
     ensures fatal_access { (port : Port) (access : Access) (old new : Device) → old.hr ≡ false
         → DoesNotWrite (Px port Is) access → Does access old new
         → ((place : ℕ) → 27 ≤ place → place ≤ 29 → (new.port port.0).is place ≡ false)
-        → ((place : ℕ) → 27 ≤ place → place ≤ 29 → (old.port port.0).is place ≡ false) × NoneFatal port.0 old new }
+        → ((place : ℕ) → 27 ≤ place → place ≤ 29 → (old.port port.0).is place ≡ false) × NoFatalErrors port.0 old new }
 {
     law_step_lists_keep_what_steps_keep();
 }
@@ -273,18 +238,19 @@ pub fn law_link_comes_up()
         → NoDiskComes port.0 old new → IsComingUp (old.port port.0) → IsComingUp (new.port port.0) }
     ensures found { (port : Port) (v : ℕ) (old new : Device) → NoDiskComes port.0 old new
         → Reads (Px port Ssts) v old new
-        → v % 16 ≡ 3 → IsComingUp (old.port port.0) → IsUp (new.port port.0) }
+        → v % 16 ≡ 3 → IsComingUp (old.port port.0) → IsUpForStart (new.port port.0) }
     ensures stays { (port : ℕ) (old new : Device) → old.hr ≡ false → (old.port port).cr ≡ false
         → NoPlugEvents port old new
-        → Steps old new → IsUp (old.port port) → IsUp (new.port port) }
+        → Steps old new → IsUpForStart (old.port port) → IsUpForStart (new.port port) }
     ensures stays_access { (port : Port) (access : Access) (old new : Device) → old.hr ≡ false
         → (old.port port.0).cr ≡ false → SetsNoStart port access → DoesNotWrite (Px port Sctl) access
-        → NoPlugEvents port.0 old new → Does access old new → IsUp (old.port port.0) → IsUp (new.port port.0) }
+        → NoPlugEvents port.0 old new → Does access old new → IsUpForStart (old.port port.0)
+        → IsUpForStart (new.port port.0) }
     ensures undisturbed { (port : ℕ) (old new : Device) → old.hr ≡ false → Undisturbed port old new → Steps old new
-        → IsUp (old.port port) → IsUp (new.port port) }
+        → IsUpForStart (old.port port) → IsUpForStart (new.port port) }
     ensures undisturbed_access { (port : Port) (access : Access) (old new : Device) → old.hr ≡ false
         → DoesNotWrite (Px port Sctl) access → Undisturbed port.0 old new → Does access old new
-        → IsUp (old.port port.0) → IsUp (new.port port.0) }
+        → IsUpForStart (old.port port.0) → IsUpForStart (new.port port.0) }
 {
     law_prerequisites();
 }
@@ -297,21 +263,24 @@ pub fn law_link_comes_up()
 /// unless COMRESET is being sent: so it may be stopped and started again.
 pub fn law_running_well_is_found()
     ensures starts { (port : Port) (v : ℕ) (old new : Device) → old.hr ≡ false → (old.port port.0).st ≡ false
-        → (old.port port.0).cr ≡ false → bit v 0 ≡ true → Writes (Px port Cmd) v old new → IsUp (old.port port.0)
+        → (old.port port.0).cr ≡ false → bit v 0 ≡ true → Writes (Px port Cmd) v old new
+        → IsUpForStart (old.port port.0)
         → NoPlugEvents port.0 old new → IsStarted (new.port port.0) }
     ensures steps { (port : ℕ) (old new : Device) → old.hr ≡ false → Undisturbed port old new → Steps old new
         → IsStarted (old.port port) → IsStarted (new.port port) }
     ensures access { (port : Port) (access : Access) (old new : Device) → old.hr ≡ false → ClearsNoStart port access
         → DoesNotWrite (Px port Sctl) access → Undisturbed port.0 old new → Does access old new
         → IsStarted (old.port port.0) → IsStarted (new.port port.0) }
-    ensures well { (p : DevicePort) → IsStarted p → ShowsNoTrouble p → RunsWell p }
+    ensures started_runs_well { (p : DevicePort) → IsStarted p → ShowsNoTrouble p → RunsWell p }
     ensures started { (p : DevicePort) → RunsWell p → IsStarted p }
-    ensures up { (p : DevicePort) → IsStarted p → p.sctl_det ≢ 1 → IsUp p }
-    ensures told { (port : Port) (v : ℕ) (old new : Device) → old.hr ≡ false → Reads (Px port Is) v old new
-        → TellsNoTrouble v → IsStarted (old.port port.0) → RunsWell (new.port port.0) }
+    ensures started_is_up_for_start { (p : DevicePort) → IsStarted p → p.sctl_det ≢ 1 → IsUpForStart p }
+    ensures pxis_read_clear_runs_well { (port : Port) (v : ℕ) (old new : Device) → old.hr ≡ false
+        → Reads (Px port Is) v old new
+        → PxisValueTellsNoTrouble v → IsStarted (old.port port.0) → RunsWell (new.port port.0) }
     ensures found { (port : Port) (v causes : ℕ) (old mid new : Device) → old.hr ≡ false → (old.port port.0).st ≡ false
-        → (old.port port.0).cr ≡ false → bit v 0 ≡ true → IsUp (old.port port.0) → Writes (Px port Cmd) v old mid
-        → Reads (Px port Is) causes mid new → TellsNoTrouble causes → RunsWell (new.port port.0) }
+        → (old.port port.0).cr ≡ false → bit v 0 ≡ true → IsUpForStart (old.port port.0)
+        → Writes (Px port Cmd) v old mid
+        → Reads (Px port Is) causes mid new → PxisValueTellsNoTrouble causes → RunsWell (new.port port.0) }
 {
     law_prerequisites();
 }
@@ -331,14 +300,14 @@ pub fn law_a_boot_runs_well()
 /// only where it tells of a fault of it.
 pub fn law_cleared_stays()
     ensures steps { (port : ℕ) (old new : Device) → old.hr ≡ false → (old.port port).link_due ≡ false
-        → Undisturbed port old new → Steps old new → StaysClear (old.port port) (new.port port) }
+        → Undisturbed port old new → Steps old new → ErrorBitsStayClear (old.port port) (new.port port) }
     ensures access { (port : Port) (access : Access) (old new : Device) → old.hr ≡ false
         → (old.port port.0).link_due ≡ false → Undisturbed port.0 old new → Does access old new
-        → StaysClear (old.port port.0) (new.port port.0) }
-    ensures none { (p new : DevicePort) → StaysClear p new → ShowsNoTrouble p → ShowsNoTrouble new }
-    ensures causes { (port : ℕ) (old new : Device) → Steps old new → ChangesByErrors port old new }
+        → ErrorBitsStayClear (old.port port.0) (new.port port.0) }
+    ensures no_trouble_stays { (p new : DevicePort) → ErrorBitsStayClear p new → ShowsNoTrouble p → ShowsNoTrouble new }
+    ensures causes { (port : ℕ) (old new : Device) → Steps old new → ErrorBitsRiseByErrors port old new }
     ensures causes_access { (port : Port) (access : Access) (old new : Device) → Does access old new
-        → ChangesByErrors port.0 old new }
+        → ErrorBitsRiseByErrors port.0 old new }
 {
     law_prerequisites();
 }
@@ -346,11 +315,11 @@ pub fn law_cleared_stays()
 /// What the tape tells nothing of in two parts of a call it tells nothing of in the whole, and the other way round: all
 /// that goes wrong with a port, its disks that go or come, its disks that come, its fatal errors, and its faults.
 pub fn law_tape_absence_composes()
-    ensures calm { IsCompositional Undisturbed }
+    ensures undisturbed { IsCompositional Undisturbed }
     ensures plugs { IsCompositional NoPlugEvents }
     ensures comes { IsCompositional NoDiskComes }
-    ensures fatal { IsCompositional NoneFatal }
-    ensures fails { IsCompositional NoneFails }
+    ensures fatal { IsCompositional NoFatalErrors }
+    ensures fails { IsCompositional NoFaults }
 {}
 
 /// Where nothing goes wrong with a port, the tape tells of no disk that goes or comes, of no fatal error and of no
@@ -358,15 +327,15 @@ pub fn law_tape_absence_composes()
 pub fn law_undisturbed_ports_tell_nothing()
     ensures plugs { (port : ℕ) (old new : Device) → Undisturbed port old new → NoPlugEvents port old new }
     ensures comes { (port : ℕ) (old new : Device) → NoPlugEvents port old new → NoDiskComes port old new }
-    ensures fatal { (port : ℕ) (old new : Device) → Undisturbed port old new → NoneFatal port old new }
-    ensures fails { (port : ℕ) (old new : Device) → Undisturbed port old new → NoneFails port old new }
+    ensures fatal { (port : ℕ) (old new : Device) → Undisturbed port old new → NoFatalErrors port old new }
+    ensures fails { (port : ℕ) (old new : Device) → Undisturbed port old new → NoFaults port old new }
 {}
 
 /// What the adapter is stays over each access: its memory's size, its capabilities and its ports; and so over one
 /// fragment after another. One that is switched on, with no reset pending, stays so over each access but a write of GHC
 /// that clears AE or sets HR, and over any that don't write it.
 pub fn law_adapter_stays()
-    ensures same { (access : Access) (old new : Device) → Does access old new → SameAdapter old new }
+    ensures access_keeps_adapter { (access : Access) (old new : Device) → Does access old new → SameAdapter old new }
     ensures adapter_reflexive { (d : Device) → SameAdapter d d }
     ensures adapter_transitive { (old mid new : Device) → SameAdapter old mid → SameAdapter mid new
         → SameAdapter old new }
@@ -431,7 +400,7 @@ pub fn law_controls_are_set()
 /// after the device's steps or an access, or is read 0, no disk of the port went or came, and it was 0 before. A disk
 /// that goes and comes between the link's coming up and the clearing of PxSERR sets N alone, which the link may have
 /// set, too: that is found only where N is read 0 before it is cleared.
-pub fn law_plugging_is_found()
+pub fn law_plug_events_are_found()
     ensures steps { (port : ℕ) (old new : Device) → old.hr ≡ false → Steps old new → (new.port port).serr_n ≡ false
         → ((old.port port).serr_n ≡ false) × NoPlugEvents port old new }
     ensures access { (port : Port) (access : Access) (old new : Device) → old.hr ≡ false
@@ -448,9 +417,9 @@ pub fn law_plugging_is_found()
 /// device does, also over a reset of the adapter that ends, and over each access.
 pub fn law_disk_stays()
     ensures steps { (port : ℕ) (old new : Device) → Steps old new → NoPlugEvents port old new
-        → LeavesDisk (old.port port) (new.port port) }
+        → KeepsDisk (old.port port) (new.port port) }
     ensures access { (port : ℕ) (access : Access) (old new : Device) → Does access old new → NoPlugEvents port old new
-        → LeavesDisk (old.port port) (new.port port) }
+        → KeepsDisk (old.port port) (new.port port) }
 {
     law_prerequisites();
 }
@@ -459,10 +428,10 @@ pub fn law_disk_stays()
 /// was, or one that was due has come up: whatever else the device does, and over each access but a write of PxSCTL.
 pub fn law_link_stays()
     ensures steps { (port : ℕ) (old new : Device) → old.hr ≡ false → Steps old new → NoPlugEvents port old new
-        → LeavesLink (old.port port) (new.port port) }
+        → LinkIsSameOrComesUp (old.port port) (new.port port) }
     ensures access { (port : Port) (access : Access) (old new : Device) → old.hr ≡ false
         → DoesNotWrite (Px port Sctl) access → Does access old new → NoPlugEvents port.0 old new
-        → LeavesLink (old.port port.0) (new.port port.0) }
+        → LinkIsSameOrComesUp (old.port port.0) (new.port port.0) }
 {
     law_prerequisites();
 }
@@ -485,21 +454,21 @@ pub fn law_disk_in_stays_shown()
 /// it of any access that writes neither PxCMD nor PxSCTL of the port. So it is while ST is 0, on a port that runs, and
 /// on one that has failed.
 pub fn law_faults_are_recorded()
-    ensures steps { (port : ℕ) (old new : Device) → Steps old new → FaultsOnRecord old.tape (old.port port) port
-        → FaultsOnRecord new.tape (new.port port) port }
+    ensures steps { (port : ℕ) (old new : Device) → Steps old new → RecordsFaultsIfSt old.tape (old.port port) port
+        → RecordsFaultsIfSt new.tape (new.port port) port }
     ensures reads { (port : ℕ) (r : Reg) (v : ℕ) (old new : Device) → Reads r v old new
-        → FaultsOnRecord old.tape (old.port port) port → FaultsOnRecord new.tape (new.port port) port }
+        → RecordsFaultsIfSt old.tape (old.port port) port → RecordsFaultsIfSt new.tape (new.port port) port }
     ensures writes { (port : ℕ) (r : Reg) (v : ℕ) (old new : Device) → IsStable (MayWrite r v) old
-        → IsStable (KeepsFaultRecord r v) old → Writes r v old new → FaultsOnRecord old.tape (old.port port) port
-        → FaultsOnRecord new.tape (new.port port) port }
+        → IsStable (KeepsFaultRecord r v) old → Writes r v old new → RecordsFaultsIfSt old.tape (old.port port) port
+        → RecordsFaultsIfSt new.tape (new.port port) port }
     ensures issues { (port : ℕ) (at : Port) (v : ℕ) (old new : Device) → Writes (Px at Ci) v old new
-        → FaultsOnRecord old.tape (old.port port) port → FaultsOnRecord new.tape (new.port port) port }
+        → RecordsFaultsIfSt old.tape (old.port port) port → RecordsFaultsIfSt new.tape (new.port port) port }
     ensures access { (port : Port) (access : Access) (old new : Device) → DoesNotWrite (Px port Cmd) access
-        → DoesNotWrite (Px port Sctl) access → Does access old new → FaultsOnRecord old.tape (old.port port.0) port.0
-        → FaultsOnRecord new.tape (new.port port.0) port.0 }
+        → DoesNotWrite (Px port Sctl) access → Does access old new → RecordsFaultsIfSt old.tape (old.port port.0) port.0
+        → RecordsFaultsIfSt new.tape (new.port port.0) port.0 }
     ensures asked { (r : Reg) (v : ℕ) (d : Device) → d.hr ≡ false → KeepsFaultRecord r v d
         → IsStable (KeepsFaultRecord r v) d }
-    ensures idle { (tape : List Entry) (p : DevicePort) (port : ℕ) → p.st ≡ false → FaultsOnRecord tape p port }
+    ensures idle { (tape : List Entry) (p : DevicePort) (port : ℕ) → p.st ≡ false → RecordsFaultsIfSt tape p port }
     ensures runs { RecordsFaults first_read_device.tape (first_read_device.port 0) 0 }
     ensures failed { (new : Device) × Steps first_read_device new × ((new.port 0).halt ≡ HaltedPlain)
         × RecordsFaults new.tape (new.port 0) 0 }
@@ -511,22 +480,19 @@ pub fn law_faults_are_recorded()
 /// where no link is due and PxSCTL.DET isn't 1, as on a port that runs.
 pub fn law_link_is_awaited()
     ensures begins { (port : Port) (v : ℕ) (old new : Device) → (old.port port.0).cr ≡ false → v % 16 ≡ 1
-        → Writes (Px port Sctl) v old new → ShowsDrqTillLink (new.port port.0) }
-    ensures steps { (port : ℕ) (old new : Device) → Steps old new → ShowsDrqTillLink (old.port port)
-        → ShowsDrqTillLink (new.port port) }
-    ensures reads { (port : ℕ) (r : Reg) (v : ℕ) (old new : Device) → Reads r v old new
-        → ShowsDrqTillLink (old.port port)
-        → ShowsDrqTillLink (new.port port) }
+        → Writes (Px port Sctl) v old new → StoppedWithDrqTillLink (new.port port.0) }
+    ensures steps { StaysOverSteps StoppedWithDrqTillLink }
+    ensures reads { StaysOverReadings StoppedWithDrqTillLink }
     ensures writes { (port : ℕ) (r : Reg) (v : ℕ) (old new : Device) → IsStable (MayWrite r v) old
-        → IsStable (KeepsFaultRecord r v) old → Writes r v old new → ShowsDrqTillLink (old.port port)
-        → ShowsDrqTillLink (new.port port) }
+        → IsStable (KeepsFaultRecord r v) old → Writes r v old new → StoppedWithDrqTillLink (old.port port)
+        → StoppedWithDrqTillLink (new.port port) }
     ensures access { (port : Port) (access : Access) (old new : Device) → DoesNotWrite (Px port Cmd) access
-        → DoesNotWrite (Px port Sctl) access → Does access old new → ShowsDrqTillLink (old.port port.0)
-        → ShowsDrqTillLink (new.port port.0) }
+        → DoesNotWrite (Px port Sctl) access → Does access old new → StoppedWithDrqTillLink (old.port port.0)
+        → StoppedWithDrqTillLink (new.port port.0) }
     ensures reset { (v : ℕ) (old new : Device) → old.hr ≡ true → Reads Ghc v old new → bit v 0 ≡ false
-        → (port : ℕ) → ShowsDrqTillLink (new.port port) }
-    ensures undue { (p : DevicePort) → p.link_due ≡ false → p.sctl_det ≢ 1 → ShowsDrqTillLink p }
-    ensures runs { ShowsDrqTillLink (first_read_device.port 0) }
+        → (port : ℕ) → StoppedWithDrqTillLink (new.port port) }
+    ensures undue { (p : DevicePort) → p.link_due ≡ false → p.sctl_det ≢ 1 → StoppedWithDrqTillLink p }
+    ensures runs { StoppedWithDrqTillLink (first_read_device.port 0) }
 {
     law_prerequisites();
 }
@@ -534,24 +500,18 @@ pub fn law_link_is_awaited()
 /// A port is quiet, so that ST may be set and faults go on to be recorded: PxIS is written with TFES while the engine
 /// stands, TFD is read without DRQ, and then it stays so, whatever the device does, over readings, and over writes that
 /// neither set its ST nor send COMRESET on it.
-pub fn law_quiet_is_found()
+pub fn law_clean_to_start_is_found()
     ensures cleared { (port : Port) (v : ℕ) (old new : Device) → (old.port port.0).cr ≡ false → bit v 30 ≡ true
         → Writes (Px port Is) v old new → StoppedTfesClear (new.port port.0) }
-    ensures steps { (port : ℕ) (old new : Device) → Steps old new → StoppedTfesClear (old.port port)
-        → StoppedTfesClear (new.port port) }
-    ensures reads { (port : ℕ) (r : Reg) (v : ℕ) (old new : Device) → Reads r v old new
-        → StoppedTfesClear (old.port port)
-        → StoppedTfesClear (new.port port) }
+    ensures steps { StaysOverSteps StoppedTfesClear }
+    ensures reads { StaysOverReadings StoppedTfesClear }
     ensures writes { (port : Port) (r : Reg) (v : ℕ) (old new : Device) → (r ≡ Px port Cmd → bit v 0 ≡ false)
         → Writes r v old new → StoppedTfesClear (old.port port.0) → StoppedTfesClear (new.port port.0) }
-    ensures found { (port : Port) (v : ℕ) (old new : Device) → ShowsDrqTillLink (old.port port.0)
+    ensures found { (port : Port) (v : ℕ) (old new : Device) → StoppedWithDrqTillLink (old.port port.0)
         → StoppedTfesClear (old.port port.0) → Reads (Px port Tfd) v old new → bit v 3 ≡ false
         → IsCleanToStart (new.port port.0) }
-    ensures stays { (port : ℕ) (old new : Device) → Steps old new → IsCleanToStart (old.port port)
-        → IsCleanToStart (new.port port) }
-    ensures stays_read { (port : ℕ) (r : Reg) (v : ℕ) (old new : Device) → Reads r v old new
-        → IsCleanToStart (old.port port)
-        → IsCleanToStart (new.port port) }
+    ensures stays { StaysOverSteps IsCleanToStart }
+    ensures stays_read { StaysOverReadings IsCleanToStart }
     ensures stays_written { (port : Port) (r : Reg) (v : ℕ) (old new : Device) → (r ≡ Px port Cmd → bit v 0 ≡ false)
         → (r ≡ Px port Sctl → v % 16 ≢ 1) → Writes r v old new → IsCleanToStart (old.port port.0)
         → IsCleanToStart (new.port port.0) }
@@ -566,19 +526,19 @@ pub fn law_quiet_is_found()
 /// in use, isn't a free one.
 pub fn law_fault_is_found()
     ensures told { (port : Port) (v : ℕ) (old new : Device) → old.hr ≡ false → (old.port port.0).st ≡ true
-        → FaultsOnRecord old.tape (old.port port.0) port.0 → Reads (Px port Is) v old new → bit v 30 ≡ true
+        → RecordsFaultsIfSt old.tape (old.port port.0) port.0 → Reads (Px port Is) v old new → bit v 30 ≡ true
         → IsFaulted (new.port port.0).halt }
     ensures steps { (port : ℕ) (old new : Device) → old.hr ≡ false → (old.port port).st ≡ true
-        → FaultsOnRecord old.tape (old.port port) port → IsFaulted (old.port port).halt → Steps old new
+        → RecordsFaultsIfSt old.tape (old.port port) port → IsFaulted (old.port port).halt → Steps old new
         → IsFaulted (new.port port).halt }
     ensures reads { (port : ℕ) (r : Reg) (v : ℕ) (old new : Device) → old.hr ≡ false → (old.port port).st ≡ true
-        → FaultsOnRecord old.tape (old.port port) port → IsFaulted (old.port port).halt → Reads r v old new
+        → RecordsFaultsIfSt old.tape (old.port port) port → IsFaulted (old.port port).halt → Reads r v old new
         → IsFaulted (new.port port).halt }
     ensures writes { (port : ℕ) (r : Reg) (v : ℕ) (old new : Device) → old.hr ≡ false → (old.port port).st ≡ true
-        → FaultsOnRecord old.tape (old.port port) port → IsFaulted (old.port port).halt → Writes r v old new
+        → RecordsFaultsIfSt old.tape (old.port port) port → IsFaulted (old.port port).halt → Writes r v old new
         → IsFaulted (new.port port).halt }
     ensures shown { (port : Port) (v : ℕ) (old new : Device) → old.hr ≡ false → (old.port port.0).st ≡ true
-        → FaultsOnRecord old.tape (old.port port.0) port.0 → IsFaulted (old.port port.0).halt
+        → RecordsFaultsIfSt old.tape (old.port port.0) port.0 → IsFaulted (old.port port.0).halt
         → Reads (Px port Tfd) v old new
         → (s : ShowsFault (drop (new.port port.0).notes.st_set_at new.tape) (new.port port.0) port.0)
         × (v % 256 ≡ s.fault.status) × (v / 256 % 256 ≡ s.fault.error) }
@@ -611,13 +571,13 @@ pub fn law_errors_are_kept()
 /// after a write of PxSCTL.
 pub fn law_errors_rise_by_disks()
     ensures steps { (port : ℕ) (old new : Device) → old.hr ≡ false → (old.port port).link_due ≡ false → Steps old new
-        → ChangesByDisks port old new }
+        → LinkErrorsRiseByDisks port old new }
     ensures access { (port : Port) (access : Access) (old new : Device) → old.hr ≡ false
-        → (old.port port.0).link_due ≡ false → Does access old new → ChangesByDisks port.0 old new }
-    ensures reflexive { (port : ℕ) (d : Device) → ChangesByDisks port d d }
+        → (old.port port.0).link_due ≡ false → Does access old new → LinkErrorsRiseByDisks port.0 old new }
+    ensures reflexive { (port : ℕ) (d : Device) → LinkErrorsRiseByDisks port d d }
     ensures transitive { (port : ℕ) (old mid new : Device) → TapeGrows old mid → TapeGrows mid new
-        → ChangesByDisks port old mid
-        → ChangesByDisks port mid new → ChangesByDisks port old new }
+        → LinkErrorsRiseByDisks port old mid
+        → LinkErrorsRiseByDisks port mid new → LinkErrorsRiseByDisks port old new }
     ensures due { (port : ℕ) (old new : Device) → old.hr ≡ false → (old.port port).link_due ≡ false → Steps old new
         → (new.port port).link_due ≡ false }
     ensures due_access { (port : Port) (access : Access) (old new : Device) → old.hr ≡ false
@@ -632,9 +592,9 @@ pub fn law_errors_rise_by_disks()
 /// over each access, also the write of ST itself.
 pub fn law_stopped_engine_is_silent()
     ensures steps { (port : ℕ) (old new : Device) (gained : List Entry) → (old.port port).cr ≡ false → Steps old new
-        → new.tape ≡ old.tape ++ gained → All (λ e. IsWork port e → ⊥) gained }
+        → new.tape ≡ old.tape ++ gained → All (λ e. IsEngineWork port e → ⊥) gained }
     ensures access { (port : ℕ) (access : Access) (old new : Device) (gained : List Entry) → (old.port port).cr ≡ false
-        → Does access old new → new.tape ≡ old.tape ++ gained → All (λ e. IsWork port e → ⊥) gained }
+        → Does access old new → new.tape ≡ old.tape ++ gained → All (λ e. IsEngineWork port e → ⊥) gained }
     ensures disk { (port : ℕ) (old new : Device) → (old.port port).cr ≡ false → Steps old new → NoDiskComes port old new
         → (new.port port).disk ≡ (old.port port).disk }
     ensures disk_access { (port : ℕ) (access : Access) (old new : Device) → (old.port port).cr ≡ false
@@ -670,12 +630,12 @@ pub fn law_errors_are_cleared()
 pub fn law_notes_are_set()
     ensures command { NotesLast Cmd (λ n. n.last_cmd) }
     ensures link { NotesLast Ssts (λ n. n.last_ssts) }
-    ensures file { NotesLast Tfd (λ n. n.last_tfd) }
+    ensures task_file { NotesLast Tfd (λ n. n.last_tfd) }
     ensures issued { NotesLast Ci (λ n. n.last_ci) }
     ensures active { NotesLast Sact (λ n. n.last_sact) }
     ensures signature { NotesLast Sig (λ n. n.last_sig) }
     ensures counts { (port : Port) (r : PortReg) (v : ℕ) (old new : Device) → old.hr ≡ false
-        → Reads (Px port r) v old new → (new.port port.0).notes ≡ note r v (old.port port.0) }
+        → Reads (Px port r) v old new → (new.port port.0).notes ≡ notes_after_reading r v (old.port port.0) }
     ensures shows { (port : Port) (r : PortReg) (v : ℕ) (old new : Device) → old.hr ≡ false
         → Reads (Px port r) v old new → PortShows r v (new.port port.0) }
 {

@@ -1,28 +1,11 @@
 // Laws of a slot that is made ready and issued: the clause is the theorem. Nothing that runs calls these functions.
 ghost use Rattle.std.specs.Prelude.{ℕ, true, false, ◌≡◌, ◌≢◌, ◌<◌, List, [], ◌∷◌, All, length, not};
 ghost use Rattle.ata_types.specs.declared.Port.{Port};
-ghost use Rattle.hba_regs.specs.Bits.{bit};
-ghost use Rattle.hba_regs.specs.declared.reg.Reg.TheVariants.{Px};
-ghost use Rattle.hba_regs.specs.declared.reg.PortReg.TheVariants.{Clb, Sact, Ci};
-ghost use Rattle.adapter.specs.Access.{Writes, Access, Does, written};
-ghost use Rattle.adapter.specs.Access.Access.{Storing, Writing};
-ghost use Rattle.adapter.specs.Commands.{Meaning, is_queued};
-ghost use Rattle.adapter.specs.Device.{Device};
-ghost use Rattle.adapter.specs.Rules.{IsOn, HasPort, MayWrite, IsStable};
-ghost use Rattle.adapter.specs.Steps.{Steps};
-ghost use Rattle.block_machine.specs.DueRequests.{is_plain};
-ghost use Rattle.block_machine.specs.Histories.{IsReachable};
-ghost use Rattle.block_machine.specs.State.{Pending, Machine};
-ghost use Rattle.block_machine.specs.Steps.{Issue, IsEnabled};
-ghost use Rattle.block_machine.specs.declared.due.QueueMode.{QueueMode};
-ghost use Rattle.refinement.specs.Acts.{Act, AreActsDone, accesses_of};
-ghost use Rattle.refinement.specs.Relation.{StateRelation};
-ghost use Rattle.refinement.specs.Fragments.{IsSoleBit};
-ghost use Rattle.refinement.specs.Driver.{IsPrepared, DriverState, DriverAdvances, DriverRelation, MissesTable, with_slot_serving};
-ghost use Rattle.refinement.specs.Links.{DoesNotWrite};
-ghost use Rattle.refinement.specs.Slots.{Free, Armed, SlotStates, set_slot_state, MeansRequest, HasTrimBlock};
-ghost use Rattle.refinement.specs.StartedPort.{ClearsNoStart};
-ghost use Rattle.refinement.specs.ReadySlots.{IsStored, IsReadied, IsReadyToIssue, LeavesStored};
+ghost use Rattle.hba_regs.specs.{Bits.{bit}, declared.reg.Reg.TheVariants.{Px}, declared.reg.PortReg.TheVariants.{Clb, Sact, Ci}};
+ghost use Rattle.adapter.specs.{Access.{Writes, Access, Does, device_after_write}, Access.Access.{Storing, Writing}, Commands.{Meaning, is_queued}, Device.{Device}, Rules.{IsOn, HasPort, MayWrite, IsStable}, Steps.{Steps}};
+ghost use Rattle.block_machine.specs.{DueRequests.{is_plain}, Histories.{IsReachable}, State.{Pending, Machine}, Steps.{Issue, IsEnabled}, declared.due.QueueMode.{QueueMode}};
+ghost use Rattle.refinement.specs.{Acts.{Act, AreActsDone, accesses_of}, Relation.{StateRelation}, Fragments.{IsSoleBit}, Driver.{IsPrepared, DriverState, DriverAdvances, DriverRelation, MissesHeaderAndTable, with_slot_serving}, PreservedParts.{DoesNotWrite}, Slots.{Free, Armed, SlotStates, set_slot_state, MeansRequest, HasBlockIfTrim}, StartedPort.{ClearsNoStart}};
+ghost use Rattle.refinement.specs.ReadySlots.{IsStored, IsReadied, IsReadyToIssue, KeepsStoredCommand};
 
 use super::prerequisites::law_prerequisites;
 
@@ -37,7 +20,7 @@ pub fn law_stored_stays()
         (access : Access)
         (old new : Device) → IsReachable m → StateRelation uses m old → old.hr ≡ false → ClearsNoStart port access
         → DoesNotWrite (Px port Clb) access
-        → ((at : ℕ) (bytes : List ℕ) → access ≡ Storing at bytes → MissesTable port.0 slot at (length bytes))
+        → ((at : ℕ) (bytes : List ℕ) → access ≡ Storing at bytes → MissesHeaderAndTable port.0 slot at (length bytes))
         → Does access old new → IsStored old port.0 slot c places → IsStored new port.0 slot c places }
 {
     law_prerequisites();
@@ -52,10 +35,10 @@ pub fn law_readied_is_issued()
     ensures prepared { (uses : SlotStates) (m : Machine) (d : Device) (port slot : ℕ) (c : Meaning) (places : List ℕ)
         (mode : QueueMode) (e : Pending)
         (v : ℕ) → IsReadied uses d port slot c places → IsEnabled m (Issue mode e) → e.request.port.0 ≡ port
-        → slot < mode.usable
+        → slot < mode.usable_slots
         → (is_plain mode e.request.asked.op ≡ true → slot ≡ 0) → MeansRequest port slot e.request c places
         → is_queued c.operation ≡ not (is_plain mode e.request.asked.op)
-        → HasTrimBlock e.request.asked.op d.memory port e.request → bit v slot ≡ true
+        → HasBlockIfTrim e.request.asked.op d.memory port e.request → bit v slot ≡ true
         → ((k : ℕ) → k ≢ slot → bit v k ≡ false) → IsPrepared uses m d port slot mode e v }
     ensures readied { (uses : SlotStates) (m : Machine) (d : Device) (port slot : ℕ) (mode : QueueMode) (e : Pending)
         (v : ℕ)
@@ -70,13 +53,17 @@ pub fn law_readied_is_issued()
 /// bits is followed so, one bit after another.
 pub fn law_bits_are_followed_in_turn()
     ensures arms { (k : DriverState) (m : Machine) (port : Port) (slot v : ℕ) → DriverRelation m k
-        → k.uses port.0 slot ≡ Free → (k.device.port port.0).st ≡ true → IsSoleBit slot v
+        → k.slot_states port.0 slot ≡ Free → (k.device.port port.0).st ≡ true → IsSoleBit slot v
         → DriverAdvances k m []
-        (record k { uses = set_slot_state k.uses port.0 slot Armed; device = written (Px port Sact) v k.device }) }
+        (record k {
+          slot_states = set_slot_state k.slot_states port.0 slot Armed;
+          device = device_after_write
+              (Px port Sact) v k.device;
+        }) }
     ensures issues { (k : DriverState) (m : Machine) (port : Port) (slot : ℕ) (mode : QueueMode) (e : Pending) (v : ℕ)
-        → IsReachable m → DriverRelation m k → IsPrepared k.uses m k.device port.0 slot mode e v
+        → IsReachable m → DriverRelation m k → IsPrepared k.slot_states m k.device port.0 slot mode e v
         → DriverAdvances k m (Issue mode e ∷ [])
-        (with_slot_serving k port.0 slot e.request.id (written (Px port Ci) v k.device)) }
+        (with_slot_serving k port.0 slot e.request.id (device_after_write (Px port Ci) v k.device)) }
 {}
 
 /// What is stored for a slot stays so over acts whose accesses leave it.
@@ -84,7 +71,7 @@ pub fn law_stored_stays_over_acts()
     ensures { (port : Port) (slot : ℕ) (c : Meaning) (places : List ℕ) (acts : List Act) (k later : DriverState)
         (m : Machine)
         → IsReachable m → DriverRelation m k → AreActsDone acts k m later
-        → All (LeavesStored port slot) (accesses_of acts)
+        → All (KeepsStoredCommand port slot) (accesses_of acts)
         → IsOn k.device → IsStored k.device port.0 slot c places → IsStored later.device port.0 slot c places }
 {
     law_prerequisites();

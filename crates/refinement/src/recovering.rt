@@ -2,26 +2,11 @@
 // functions.
 ghost use Rattle.std.specs.Prelude.{ℕ, List, All, true, false, ◌≡◌, ◌≢◌, ◌≤◌};
 ghost use Rattle.ata_types.specs.declared.Port.{Port};
-ghost use Rattle.hba_regs.specs.Bits.{bit};
-ghost use Rattle.hba_regs.specs.declared.reg.Reg.TheVariants.{Px};
-ghost use Rattle.hba_regs.specs.declared.reg.PortReg.TheVariants.{Is, Cmd, Sctl, Sact, Ci};
-ghost use Rattle.adapter.specs.Access.{Reads, Writes, Access, Does};
-ghost use Rattle.adapter.specs.Device.{DevicePort, Device};
-ghost use Rattle.adapter.specs.Device.Halt.{NotHalted};
-ghost use Rattle.adapter.specs.Steps.{Steps};
-ghost use Rattle.adapter.specs.declared.command.Operation.{Operation};
-ghost use Rattle.block_machine.specs.Histories.{IsReachable};
-ghost use Rattle.block_machine.specs.State.{Machine};
-ghost use Rattle.refinement.specs.Relation.{StateRelation};
-ghost use Rattle.refinement.specs.Acts.{Act, AreActsDone, accesses_of};
-ghost use Rattle.refinement.specs.Driver.{IsOwnPrepared, DriverState, DriverRelation};
-ghost use Rattle.refinement.specs.Errors.{NoneFatal};
-ghost use Rattle.refinement.specs.PortFacts.{RunsWell, TellsNoTrouble, IsCleanToStart};
-ghost use Rattle.refinement.specs.Links.{DoesNotWrite, NoPlugEvents};
-ghost use Rattle.refinement.specs.Slots.{SlotState, SlotStates, Free, Own, set_slot_state};
-ghost use Rattle.refinement.specs.StartedPort.{IsUp, IsStarted, ClearsNoStart};
-ghost use Rattle.refinement.specs.Halting.{HaltIsOfTaken, HaltOfTakenIfSt};
-ghost use Rattle.refinement.specs.HaltRecovery.{IsLinked, WorksPlainly, RunsLinked, EndsHalt, FaultLeavesIssued};
+ghost use Rattle.hba_regs.specs.{Bits.{bit}, declared.reg.Reg.TheVariants.{Px}, declared.reg.PortReg.TheVariants.{Is, Cmd, Sctl, Sact, Ci}};
+ghost use Rattle.adapter.specs.{Access.{Reads, Writes, Access, Does}, Device.{DevicePort, Device}, Device.Halt.{NotHalted}, Steps.{Steps}, declared.command.Operation.{Operation}};
+ghost use Rattle.block_machine.specs.{Histories.{IsReachable}, State.{Machine}};
+ghost use Rattle.refinement.specs.{Relation.{StateRelation}, Acts.{Act, AreActsDone, accesses_of}, Driver.{IsOwnPrepared, DriverState, DriverRelation}, Errors.{NoFatalErrors}, PortFacts.{RunsWell, PxisValueTellsNoTrouble, IsCleanToStart}, PreservedParts.{DoesNotWrite, NoPlugEvents}, Slots.{SlotState, SlotStates, Free, Own, set_slot_state}, Staying.{StaysInAgreement, StaysUnlessWritten}};
+ghost use Rattle.refinement.specs.{StartedPort.{IsUpForStart, IsStarted, ClearsNoStart}, Halting.{HaltIsOfTaken, HaltOfTakenIfSt}, HaltRecovery.{IsLinked, WorksPlainly, RunsLinked, OwnCommandEndsHalt, FaultLeavesIssued}};
 
 use super::prerequisites::law_prerequisites;
 
@@ -34,8 +19,8 @@ pub fn law_link_stays_online()
     ensures access { (port : Port) (access : Access) (old new : Device) → old.hr ≡ false
         → DoesNotWrite (Px port Sctl) access → NoPlugEvents port.0 old new → Does access old new
         → IsLinked (old.port port.0) → IsLinked (new.port port.0) }
-    ensures started { (p : DevicePort) → IsStarted p → p.sctl_det ≢ 1 → IsLinked p }
-    ensures up { (p : DevicePort) → IsUp p → IsLinked p }
+    ensures started_is_linked { (p : DevicePort) → IsStarted p → p.sctl_det ≢ 1 → IsLinked p }
+    ensures up { (p : DevicePort) → IsUpForStart p → IsLinked p }
 {
     law_prerequisites();
 }
@@ -45,20 +30,15 @@ pub fn law_link_stays_online()
 /// once ST is set. A port that runs without a halt does so exactly if no bit of PxSACT is set. And then the link is up
 /// for a start.
 pub fn law_plain_work_stays()
-    ensures steps { (uses : SlotStates) (m : Machine) (port : ℕ) (old new : Device) → IsReachable m
-        → StateRelation uses m old
-        → Steps old new → WorksPlainly (old.port port) → WorksPlainly (new.port port) }
-    ensures access { (uses : SlotStates) (m : Machine) (port : Port) (access : Access) (old new : Device)
-        → IsReachable m
-        → StateRelation uses m old → DoesNotWrite (Px port Sact) access → Does access old new
-        → WorksPlainly (old.port port.0) → WorksPlainly (new.port port.0) }
+    ensures steps { StaysInAgreement WorksPlainly }
+    ensures access { StaysUnlessWritten Sact WorksPlainly }
     ensures runs { (uses : SlotStates) (m : Machine) (port : ℕ) (d : Device) → StateRelation uses m d
         → (d.port port).st ≡ true
         → (d.port port).halt ≡ NotHalted → ((slot : ℕ) → (d.port port).sact slot ≡ false) → WorksPlainly (d.port port) }
-    ensures up { (p : DevicePort) → IsLinked p → WorksPlainly p → IsUp p }
+    ensures link_is_up_for_start { (p : DevicePort) → IsLinked p → WorksPlainly p → IsUpForStart p }
     ensures found { (port : Port) (v causes : ℕ) (old mid new : Device) → old.hr ≡ false → (old.port port.0).st ≡ false
         → (old.port port.0).cr ≡ false → bit v 0 ≡ true → IsLinked (old.port port.0) → WorksPlainly (old.port port.0)
-        → Writes (Px port Cmd) v old mid → Reads (Px port Is) causes mid new → TellsNoTrouble causes
+        → Writes (Px port Cmd) v old mid → Reads (Px port Is) causes mid new → PxisValueTellsNoTrouble causes
         → RunsWell (new.port port.0) }
 {
     law_prerequisites();
@@ -68,18 +48,13 @@ pub fn law_plain_work_stays()
 /// where the machine agrees with the device, whatever the device does, over each access but a write of PxCMD, and over
 /// acts without one. So it is without a halt, and of a port that works on plain commands alone.
 pub fn law_halts_are_of_taken_commands()
-    ensures steps { (uses : SlotStates) (m : Machine) (port : ℕ) (old new : Device) → IsReachable m
-        → StateRelation uses m old
-        → Steps old new → HaltOfTakenIfSt (old.port port) → HaltOfTakenIfSt (new.port port) }
-    ensures access { (uses : SlotStates) (m : Machine) (port : Port) (access : Access) (old new : Device)
-        → IsReachable m
-        → StateRelation uses m old → DoesNotWrite (Px port Cmd) access → Does access old new
-        → HaltOfTakenIfSt (old.port port.0) → HaltOfTakenIfSt (new.port port.0) }
+    ensures steps { StaysInAgreement HaltOfTakenIfSt }
+    ensures access { StaysUnlessWritten Cmd HaltOfTakenIfSt }
     ensures acts { (port : Port) (acts : List Act) (k later : DriverState) (m : Machine) → IsReachable m
         → DriverRelation m k
         → AreActsDone acts k m later → All (DoesNotWrite (Px port Cmd)) (accesses_of acts)
         → HaltOfTakenIfSt (k.device.port port.0) → HaltOfTakenIfSt (later.device.port port.0) }
-    ensures calm { (p : DevicePort) → p.halt ≡ NotHalted → HaltIsOfTaken p }
+    ensures without_halt { (p : DevicePort) → p.halt ≡ NotHalted → HaltIsOfTaken p }
     ensures plain { (p : DevicePort) → WorksPlainly p → HaltIsOfTaken p }
 {
     law_prerequisites();
@@ -92,10 +67,11 @@ pub fn law_running_goes_on()
     ensures starts { (port : Port) (v : ℕ) (old new : Device) → old.hr ≡ false → (old.port port.0).st ≡ false
         → (old.port port.0).cr ≡ false → bit v 0 ≡ true → NoPlugEvents port.0 old new → Writes (Px port Cmd) v old new
         → IsLinked (old.port port.0) → RunsLinked (new.port port.0) }
-    ensures steps { (port : ℕ) (old new : Device) → old.hr ≡ false → NoPlugEvents port old new → NoneFatal port old new
+    ensures steps { (port : ℕ) (old new : Device) → old.hr ≡ false → NoPlugEvents port old new
+        → NoFatalErrors port old new
         → Steps old new → RunsLinked (old.port port) → RunsLinked (new.port port) }
     ensures access { (port : Port) (access : Access) (old new : Device) → old.hr ≡ false → ClearsNoStart port access
-        → DoesNotWrite (Px port Sctl) access → NoPlugEvents port.0 old new → NoneFatal port.0 old new
+        → DoesNotWrite (Px port Sctl) access → NoPlugEvents port.0 old new → NoFatalErrors port.0 old new
         → Does access old new → RunsLinked (old.port port.0) → RunsLinked (new.port port.0) }
     ensures started { (p : DevicePort) → RunsLinked p → p.halt ≡ NotHalted → IsStarted p }
 {
@@ -111,22 +87,24 @@ pub fn law_halt_is_ended()
         → IsReachable m
         → StateRelation uses m old → old.hr ≡ false → ((slot : ℕ) → slot ≢ 0 → uses port.0 slot ≡ Free)
         → IsOwnPrepared uses old port.0 o v → Writes (Px port Ci) v old new
-        → EndsHalt (set_slot_state uses port.0 0 (Own o)) port.0 new }
+        → OwnCommandEndsHalt (set_slot_state uses port.0 0 (Own o)) port.0 new }
     ensures steps { (uses : SlotStates) (m : Machine) (port : ℕ) (old new : Device) → IsReachable m
         → StateRelation uses m old
-        → Steps old new → EndsHalt uses port old → EndsHalt uses port new }
+        → Steps old new → OwnCommandEndsHalt uses port old → OwnCommandEndsHalt uses port new }
     ensures access { (uses : SlotStates) (m : Machine) (port : Port) (access : Access) (old new : Device)
         → IsReachable m
         → StateRelation uses m old → ClearsNoStart port access → DoesNotWrite (Px port Sact) access → new.hr ≡ false
-        → Does access old new → EndsHalt uses port.0 old → EndsHalt uses port.0 new }
-    ensures read { (uses : SlotStates) (m : Machine) (port : Port) (v : ℕ) (old new : Device) → IsReachable m
-        → StateRelation uses m old → EndsHalt uses port.0 old → Reads (Px port Ci) v old new → bit v 0 ≡ false
+        → Does access old new → OwnCommandEndsHalt uses port.0 old → OwnCommandEndsHalt uses port.0 new }
+    ensures no_halt_once_over { (uses : SlotStates) (m : Machine) (port : Port) (v : ℕ) (old new : Device)
+        → IsReachable m
+        → StateRelation uses m old → OwnCommandEndsHalt uses port.0 old → Reads (Px port Ci) v old new → bit v 0 ≡ false
         → (new.port port.0).halt ≡ NotHalted }
     ensures found { (uses : SlotStates) (m : Machine) (port : Port) (v causes : ℕ) (old mid new : Device)
         → IsReachable m
-        → StateRelation uses m old → EndsHalt uses port.0 old → RunsLinked (old.port port.0)
+        → StateRelation uses m old → OwnCommandEndsHalt uses port.0 old → RunsLinked (old.port port.0)
         → Reads (Px port Ci) v old mid
-        → bit v 0 ≡ false → Reads (Px port Is) causes mid new → TellsNoTrouble causes → RunsWell (new.port port.0) }
+        → bit v 0 ≡ false → Reads (Px port Is) causes mid new → PxisValueTellsNoTrouble causes
+        → RunsWell (new.port port.0) }
 {
     law_prerequisites();
 }
@@ -140,7 +118,8 @@ pub fn law_faults_show_before_the_end()
     ensures starts { (uses : SlotStates) (port : Port) (v : ℕ) (old new : Device) → old.hr ≡ false → bit v 0 ≡ true
         → ((slot : ℕ) → uses port.0 slot ≡ Free) → (old.port port.0).sact 0 ≡ false → IsCleanToStart (old.port port.0)
         → (old.port port.0).st ≡ false → Writes (Px port Cmd) v old new → FaultLeavesIssued uses port.0 new }
-    ensures used { (uses : SlotStates) (port : ℕ) (u : SlotState) (d : Device) → FaultLeavesIssued uses port d
+    ensures slot_0_may_be_used { (uses : SlotStates) (port : ℕ) (u : SlotState) (d : Device)
+        → FaultLeavesIssued uses port d
         → FaultLeavesIssued (set_slot_state uses port 0 u) port d }
     ensures steps { (uses : SlotStates) (m : Machine) (port : ℕ) (old new : Device) → IsReachable m
         → StateRelation uses m old
@@ -151,10 +130,11 @@ pub fn law_faults_show_before_the_end()
         → DoesNotWrite (Px port Sctl) access → new.hr ≡ false → Does access old new
         → FaultLeavesIssued uses port.0 old
         → FaultLeavesIssued uses port.0 new }
-    ensures read { (uses : SlotStates) (m : Machine) (port : Port) (v : ℕ) (old new : Device) → IsReachable m
+    ensures tfes_is_clear_once_over { (uses : SlotStates) (m : Machine) (port : Port) (v : ℕ) (old new : Device)
+        → IsReachable m
         → StateRelation uses m old → FaultLeavesIssued uses port.0 old → Reads (Px port Ci) v old new → bit v 0 ≡ false
         → (new.port port.0).is 30 ≡ false }
-    ensures well { (p : DevicePort) → RunsLinked p → p.halt ≡ NotHalted → p.is 30 ≡ false → p.serr_n ≡ false
+    ensures runs_well { (p : DevicePort) → RunsLinked p → p.halt ≡ NotHalted → p.is 30 ≡ false → p.serr_n ≡ false
         → p.serr_x ≡ false → ((place : ℕ) → 27 ≤ place → place ≤ 29 → p.is place ≡ false) → RunsWell p }
 {
     law_prerequisites();

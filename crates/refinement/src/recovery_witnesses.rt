@@ -1,19 +1,9 @@
 // What the laws of plain work are about, and what they can't do without: the clause is the theorem. Nothing that runs
 // calls these functions.
 ghost use Rattle.std.specs.Prelude.{ℕ, true, false, ◌≡◌, Some};
-ghost use Rattle.adapter.specs.Commands.{is_queued};
-ghost use Rattle.adapter.specs.Device.{FetchedCommand, Device};
-ghost use Rattle.adapter.specs.Device.Halt.{NotHalted, HaltedPlain, HaltedQueued};
-ghost use Rattle.adapter.specs.FirstRead.{first_read_device};
-ghost use Rattle.adapter.specs.Steps.{Steps, halt_after_start};
-ghost use Rattle.block_machine.specs.Histories.{IsReachable};
-ghost use Rattle.block_machine.specs.State.{Machine};
-ghost use Rattle.refinement.specs.Relation.{StateRelation};
-ghost use Rattle.refinement.specs.Slots.{SlotStates};
-ghost use Rattle.refinement.specs.HaltRecovery.{WorksPlainly};
-ghost use Rattle.refinement.specs.LogWitness.{LogIsEnded};
-ghost use Rattle.refinement.specs.RecoveryWitness.{FaultIsSeen, RecoveredWitness};
-ghost use Rattle.refinement.specs.TwoReads.{two_issued};
+ghost use Rattle.adapter.specs.{Commands.{is_queued}, Device.{FetchedCommand, Device}, Device.Halt.{NotHalted, HaltedPlain, HaltedQueued}, FirstRead.{first_read_device}, Steps.{Steps, halt_after_start}};
+ghost use Rattle.block_machine.specs.{Histories.{IsReachable}, State.{Machine}};
+ghost use Rattle.refinement.specs.{Relation.{StateRelation}, Slots.{SlotStates}, HaltRecovery.{WorksPlainly}, LogWitness.{LogEndsHaltWitness}, RecoveryWitness.{FaultIsSeen, RecoveredWitness}, TwoReadsWitness.{two_issued}};
 
 use super::prerequisites::law_prerequisites;
 
@@ -34,7 +24,7 @@ pub fn law_a_fault_is_seen()
 /// There is a port that takes READ LOG EXT alone, as after a queued fault, with that command prepared: it is issued and
 /// comes to its end, and the port runs well.
 pub fn law_a_log_ends_a_halt()
-    ensures { LogIsEnded }
+    ensures { LogEndsHaltWitness }
 {
     law_prerequisites();
 }
@@ -42,7 +32,7 @@ pub fn law_a_log_ends_a_halt()
 /// None of the parts of plain work can be left out. Without the bits of PxSACT a queued command that waits is taken;
 /// without the taken commands one that was taken before ST was cleared may fail; and without a machine that agrees, the
 /// device may take a queued command from a slot whose bit of PxSACT is clear.
-pub fn law_plain_work_needs_each_part()
+pub fn law_plain_work_needs_its_premises()
     ensures unarmed { ((uses : SlotStates) (m : Machine) (port : ℕ) (old new : Device) → IsReachable m
         → StateRelation uses m old
         → Steps old new → halt_after_start (old.port port).halt ≡ NotHalted

@@ -30,36 +30,36 @@ no_more p q r (x ∷ xs) either =
 
 -- how many are of clients below this one
 abbrev below : List BookEntry → ℕ → ℕ
-below book n = count_by (λ e. nat_lt e.entry.client.0 n) book
+below book n = count_by (λ e. nat_lt e.request.client.0 n) book
 
 one_further : (book : List BookEntry) (n : ℕ) → below book (suc n) ≤ below book n + entry_count_of_client book n
-one_further book n = no_more (λ e. nat_lt e.entry.client.0 n) (λ e. e.entry.client.0 == n) (λ e. nat_lt e.entry.client.0 (suc n)) book (λ e less.
-    let lt = ltb-true e.entry.client.0 (suc n) less in
+one_further book n = no_more (λ e. nat_lt e.request.client.0 n) (λ e. e.request.client.0 == n) (λ e. nat_lt e.request.client.0 (suc n)) book (λ e less.
+    let lt = ltb-true e.request.client.0 (suc n) less in
     ⊎_elim
-    (λ same. inr (eq-eqb e.entry.client.0 n same))
-    (λ other. inl (lt-ltb e.entry.client.0 n (omega (arith, lt, other))))
-    (cases_eq e.entry.client.0 n))
+    (λ same. inr (eq-eqb e.request.client.0 n same))
+    (λ other. inl (lt-ltb e.request.client.0 n (omega (arith, lt, other))))
+    (cases_eq e.request.client.0 n))
 
-none_below : (book : List BookEntry) → All (λ e. 1 ≤ e.entry.client.0) book → below book 1 ≤ 0
+none_below : (book : List BookEntry) → All (λ e. 1 ≤ e.request.client.0) book → below book 1 ≤ 0
 none_below [] from = omega arith
 none_below (e ∷ es) from =
-    let rest = none_below es (All-tail (λ (x : BookEntry). 1 ≤ x.entry.client.0) e es from) in
-    let low = All-head (λ (x : BookEntry). 1 ≤ x.entry.client.0) e es from in
-    let head : cond {A = ℕ} (nat_lt e.entry.client.0 1) 1 0 ≤ 0 = by (nat_lt e.entry.client.0 1) (λ less. let lt = ltb-true e.entry.client.0 1 less in absurd (omega (arith, lt, low))) in
-    omega (arith, rest, head, count_cons (λ (x : BookEntry). nat_lt x.entry.client.0 1) e es)
+    let rest = none_below es (All-tail (λ (x : BookEntry). 1 ≤ x.request.client.0) e es from) in
+    let low = All-head (λ (x : BookEntry). 1 ≤ x.request.client.0) e es from in
+    let head : cond {A = ℕ} (nat_lt e.request.client.0 1) 1 0 ≤ 0 = by (nat_lt e.request.client.0 1) (λ less. let lt = ltb-true e.request.client.0 1 less in absurd (omega (arith, lt, low))) in
+    omega (arith, rest, head, count_cons (λ (x : BookEntry). nat_lt x.request.client.0 1) e es)
   where
     by : (b : Bool) → (b ≡ true → ⊥) → cond {A = ℕ} b 1 0 ≤ 0
     by true none = absurd (none refl)
     by false none = omega arith
 
-all_below : (book : List BookEntry) (n : ℕ) → All (λ e. e.entry.client.0 < n) book → length book ≤ below book n
+all_below : (book : List BookEntry) (n : ℕ) → All (λ e. e.request.client.0 < n) book → length book ≤ below book n
 all_below [] n to = omega arith
 all_below (e ∷ es) n to =
-    let rest = all_below es n (All-tail (λ (x : BookEntry). x.entry.client.0 < n) e es to) in
-    let head : cond {A = ℕ} (nat_lt e.entry.client.0 n) 1 0 ≡ 1 = ap (λ (b : Bool). cond {A = ℕ} b 1 0) (lt-ltb e.entry.client.0 n (All-head (λ (x : BookEntry). x.entry.client.0 < n) e es to)) in
-    omega (arith, rest, head, count_cons (λ (x : BookEntry). nat_lt x.entry.client.0 n) e es)
+    let rest = all_below es n (All-tail (λ (x : BookEntry). x.request.client.0 < n) e es to) in
+    let head : cond {A = ℕ} (nat_lt e.request.client.0 n) 1 0 ≡ 1 = ap (λ (b : Bool). cond {A = ℕ} b 1 0) (lt-ltb e.request.client.0 n (All-head (λ (x : BookEntry). x.request.client.0 < n) e es to)) in
+    omega (arith, rest, head, count_cons (λ (x : BookEntry). nat_lt x.request.client.0 n) e es)
 
-module _ (book : List BookEntry) (from : All (λ e. 1 ≤ e.entry.client.0) book) (few : (client : ℕ) → entry_count_of_client book client ≤ 16) where
+module _ (book : List BookEntry) (from : All (λ e. 1 ≤ e.request.client.0) book) (few : (client : ℕ) → entry_count_of_client book client ≤ 16) where
   at_most : (n : ℕ) → below book (suc n) ≤ 16 * n
   at_most zero = none_below book from
   at_most (suc n) = let rest = at_most n in let next = one_further book (suc n) in let f = few (suc n) in omega (arith, rest, next, f)
@@ -79,14 +79,14 @@ module _ (book : List BookEntry) (from : All (λ e. 1 ≤ e.entry.client.0) book
       omega (arith, rest, next, f))
       (cases_eq client (suc n))
 
-  pub fits : (client : ℕ) → All (λ e. e.entry.client.0 ≤ 8) book → 1 ≤ client → client ≤ 8 → entry_count_of_client book client < 16 → length book < MOST_UNANSWERED
+  pub fits : (client : ℕ) → All (λ e. e.request.client.0 ≤ 8) book → 1 ≤ client → client ≤ 8 → entry_count_of_client book client < 16 → length book < MOST_UNANSWERED
   fits client to low high has_room =
       let all = all_below book 9 (λ k d small. let t = to k d small in omega (arith, t)) in
       let l = less 8 client low high has_room in
       omega (arith, all, l)
 
 -- so there are 128 at most
-pub all_fit : (book : List BookEntry) → All (λ e. 1 ≤ e.entry.client.0) book → ((client : ℕ) → entry_count_of_client book client ≤ 16) → All (λ e. e.entry.client.0 ≤ 8) book → length book ≤ MOST_UNANSWERED
+pub all_fit : (book : List BookEntry) → All (λ e. 1 ≤ e.request.client.0) book → ((client : ℕ) → entry_count_of_client book client ≤ 16) → All (λ e. e.request.client.0 ≤ 8) book → length book ≤ MOST_UNANSWERED
 all_fit book from few to =
     let all = all_below book 9 (λ k d small. let t = to k d small in omega (arith, t)) in
     let most = at_most book from few 8 in
@@ -94,17 +94,17 @@ all_fit book from few to =
 
 -- ---- the counts that a book notes
 
-none_counted : (client : ℕ) (es : List BookEntry) → 9 ≤ client → All (λ e. e.entry.client.0 ≤ 8) es → entry_count_of_client es client ≡ 0
+none_counted : (client : ℕ) (es : List BookEntry) → 9 ≤ client → All (λ e. e.request.client.0 ≤ 8) es → entry_count_of_client es client ≡ 0
 none_counted client [] high to = refl
 none_counted client (e ∷ es) high to =
-    let rest = none_counted client es high (All-tail (λ (x : BookEntry). x.entry.client.0 ≤ 8) e es to) in
-    let low = All-head (λ (x : BookEntry). x.entry.client.0 ≤ 8) e es to in
-    let other : (e.entry.client.0 == client) ≡ false = ne_eqb e.entry.client.0 client (λ same. let f : ⊥ = omega (arith, same, low, high) in f) in
-    let none : ◌≡◌ {A = ℕ} (cond (e.entry.client.0 == client) 1 0) 0 = ap (λ (b : Bool). cond {A = ℕ} b 1 0) other in
-    omega (arith, rest, none, count_cons (λ (x : BookEntry). x.entry.client.0 == client) e es)
+    let rest = none_counted client es high (All-tail (λ (x : BookEntry). x.request.client.0 ≤ 8) e es to) in
+    let low = All-head (λ (x : BookEntry). x.request.client.0 ≤ 8) e es to in
+    let other : (e.request.client.0 == client) ≡ false = ne_eqb e.request.client.0 client (λ same. let f : ⊥ = omega (arith, same, low, high) in f) in
+    let none : ◌≡◌ {A = ℕ} (cond (e.request.client.0 == client) 1 0) 0 = ap (λ (b : Bool). cond {A = ℕ} b 1 0) other in
+    omega (arith, rest, none, count_cons (λ (x : BookEntry). x.request.client.0 == client) e es)
 
 -- one beyond the last number has none
-pub beyond : (client : ℕ) (es : List BookEntry) (counts : List ℕ) → AreClientCounts es counts → length counts ≤ client → All (λ e. e.entry.client.0 ≤ 8) es → entry_count_of_client es client ≡ 0
+pub beyond : (client : ℕ) (es : List BookEntry) (counts : List ℕ) → AreClientCounts es counts → length counts ≤ client → All (λ e. e.request.client.0 ≤ 8) es → entry_count_of_client es client ≡ 0
 beyond client es counts are high to = let n = are.nine_counts in none_counted client es (omega (arith, n, high)) to
 
 -- a client's count changes alone
@@ -118,22 +118,22 @@ set_counts old new counts client count are lt its others = record {
   ];
 }
 
-pub one_counted : (es : List BookEntry) (e : BookEntry) (counts : List ℕ) (count : ℕ) → AreClientCounts es counts → e.entry.client.0 < 9 → count ≡ entry_count_of_client es e.entry.client.0 + 1
-    → AreClientCounts (es ++ e ∷ []) (set counts e.entry.client.0 count)
-one_counted es e counts count are lt is = set_counts es (es ++ e ∷ []) counts e.entry.client.0 count are lt
-    (let m = more e.entry.client.0 in let one : ◌≡◌ {A = ℕ} (cond (e.entry.client.0 == e.entry.client.0) 1 0) 1 = ap (λ (b : Bool). cond {A = ℕ} b 1 0) (eq-eqb e.entry.client.0 e.entry.client.0 refl) in omega (arith, is, m, one))
-    (λ other ne. let m = more other in let none : ◌≡◌ {A = ℕ} (cond (e.entry.client.0 == other) 1 0) 0 = ap (λ (b : Bool). cond {A = ℕ} b 1 0) (ne_eqb e.entry.client.0 other (λ same. ne (sym same))) in omega (arith, m, none))
+pub one_counted : (es : List BookEntry) (e : BookEntry) (counts : List ℕ) (count : ℕ) → AreClientCounts es counts → e.request.client.0 < 9 → count ≡ entry_count_of_client es e.request.client.0 + 1
+    → AreClientCounts (es ++ e ∷ []) (set counts e.request.client.0 count)
+one_counted es e counts count are lt is = set_counts es (es ++ e ∷ []) counts e.request.client.0 count are lt
+    (let m = more e.request.client.0 in let one : ◌≡◌ {A = ℕ} (cond (e.request.client.0 == e.request.client.0) 1 0) 1 = ap (λ (b : Bool). cond {A = ℕ} b 1 0) (eq-eqb e.request.client.0 e.request.client.0 refl) in omega (arith, is, m, one))
+    (λ other ne. let m = more other in let none : ◌≡◌ {A = ℕ} (cond (e.request.client.0 == other) 1 0) 0 = ap (λ (b : Bool). cond {A = ℕ} b 1 0) (ne_eqb e.request.client.0 other (λ same. ne (sym same))) in omega (arith, m, none))
   where
-    more : (client : ℕ) → entry_count_of_client (es ++ e ∷ []) client ≡ entry_count_of_client es client + cond {A = ℕ} (e.entry.client.0 == client) 1 0
+    more : (client : ℕ) → entry_count_of_client (es ++ e ∷ []) client ≡ entry_count_of_client es client + cond {A = ℕ} (e.request.client.0 == client) 1 0
     more client =
-        let p : BookEntry → Bool = λ x. x.entry.client.0 == client in
+        let p : BookEntry → Bool = λ x. x.request.client.0 == client in
         let a = count_append p es (e ∷ []) in
         let b = count_cons p e [] in
         omega (arith, a, b)
 
-pub one_fewer : (es : List BookEntry) (e : BookEntry) (i : ℕ) → slice_get es i ≡ Some e → (client : ℕ) → entry_count_of_client es client ≡ entry_count_of_client (remove es i) client + cond {A = ℕ} (e.entry.client.0 == client) 1 0
+pub one_fewer : (es : List BookEntry) (e : BookEntry) (i : ℕ) → slice_get es i ≡ Some e → (client : ℕ) → entry_count_of_client es client ≡ entry_count_of_client (remove es i) client + cond {A = ℕ} (e.request.client.0 == client) 1 0
 one_fewer es e i update_if_id client =
-    let p : BookEntry → Bool = λ x. x.entry.client.0 == client in
+    let p : BookEntry → Bool = λ x. x.request.client.0 == client in
     let whole = ap (count_by p) (sym (take-append-drop i es)) in
     let front = count_append p (take i es) (drop i es) in
     let here = ap (count_by p) (drop-cons es i e (slice_get_within es i e update_if_id)) in
@@ -143,32 +143,32 @@ one_fewer es e i update_if_id client =
     omega (arith, whole, front, here, head, same, rest)
 
 -- a request of its client is counted
-pub is_counted : (es : List BookEntry) (e : BookEntry) (i : ℕ) → slice_get es i ≡ Some e → 1 ≤ entry_count_of_client es e.entry.client.0
+pub is_counted : (es : List BookEntry) (e : BookEntry) (i : ℕ) → slice_get es i ≡ Some e → 1 ≤ entry_count_of_client es e.request.client.0
 is_counted es e i update_if_id =
-    let m = one_fewer es e i update_if_id e.entry.client.0 in
-    let one : ◌≡◌ {A = ℕ} (cond (e.entry.client.0 == e.entry.client.0) 1 0) 1 = ap (λ (b : Bool). cond {A = ℕ} b 1 0) (eq-eqb e.entry.client.0 e.entry.client.0 refl) in
+    let m = one_fewer es e i update_if_id e.request.client.0 in
+    let one : ◌≡◌ {A = ℕ} (cond (e.request.client.0 == e.request.client.0) 1 0) 1 = ap (λ (b : Bool). cond {A = ℕ} b 1 0) (eq-eqb e.request.client.0 e.request.client.0 refl) in
     omega (arith, m, one)
 
-pub one_uncounted : (es : List BookEntry) (e : BookEntry) (i : ℕ) (counts : List ℕ) (count : ℕ) → AreClientCounts es counts → slice_get es i ≡ Some e → e.entry.client.0 < 9
-    → count + 1 ≡ entry_count_of_client es e.entry.client.0 → AreClientCounts (remove es i) (set counts e.entry.client.0 count)
-one_uncounted es e i counts count are update_if_id lt is = set_counts es (remove es i) counts e.entry.client.0 count are lt
-    (let m = one_fewer es e i update_if_id e.entry.client.0 in let one : ◌≡◌ {A = ℕ} (cond (e.entry.client.0 == e.entry.client.0) 1 0) 1 = ap (λ (b : Bool). cond {A = ℕ} b 1 0) (eq-eqb e.entry.client.0 e.entry.client.0 refl) in omega (arith, is, m, one))
-    (λ other ne. let m = one_fewer es e i update_if_id other in let none : ◌≡◌ {A = ℕ} (cond (e.entry.client.0 == other) 1 0) 0 = ap (λ (b : Bool). cond {A = ℕ} b 1 0) (ne_eqb e.entry.client.0 other (λ same. ne (sym same))) in omega (arith, m, none))
+pub one_uncounted : (es : List BookEntry) (e : BookEntry) (i : ℕ) (counts : List ℕ) (count : ℕ) → AreClientCounts es counts → slice_get es i ≡ Some e → e.request.client.0 < 9
+    → count + 1 ≡ entry_count_of_client es e.request.client.0 → AreClientCounts (remove es i) (set counts e.request.client.0 count)
+one_uncounted es e i counts count are update_if_id lt is = set_counts es (remove es i) counts e.request.client.0 count are lt
+    (let m = one_fewer es e i update_if_id e.request.client.0 in let one : ◌≡◌ {A = ℕ} (cond (e.request.client.0 == e.request.client.0) 1 0) 1 = ap (λ (b : Bool). cond {A = ℕ} b 1 0) (eq-eqb e.request.client.0 e.request.client.0 refl) in omega (arith, is, m, one))
+    (λ other ne. let m = one_fewer es e i update_if_id other in let none : ◌≡◌ {A = ℕ} (cond (e.request.client.0 == other) 1 0) 0 = ap (λ (b : Bool). cond {A = ℕ} b 1 0) (ne_eqb e.request.client.0 other (λ same. ne (sym same))) in omega (arith, m, none))
 
 -- a change that leaves each request's client leaves the counts
-changed_counts : (es : List BookEntry) (g : BookEntry → BookEntry) (counts : List ℕ) → ((e : BookEntry) → (g e).entry.client.0 ≡ e.entry.client.0) → AreClientCounts es counts → AreClientCounts (map g es) counts
+changed_counts : (es : List BookEntry) (g : BookEntry → BookEntry) (counts : List ℕ) → ((e : BookEntry) → (g e).request.client.0 ≡ e.request.client.0) → AreClientCounts es counts → AreClientCounts (map g es) counts
 changed_counts es g counts same are = record {
   nine_counts = are.nine_counts;
   count_of_each = λ client lt. are.count_of_each client lt
-      ∙ sym (count_map (λ (e : BookEntry). e.entry.client.0 == client) (λ (e : BookEntry). e.entry.client.0 == client) g es (λ y h. ap (λ (n : ℕ). n == client) (same y)));
+      ∙ sym (count_map (λ (e : BookEntry). e.request.client.0 == client) (λ (e : BookEntry). e.request.client.0 == client) g es (λ y h. ap (λ (n : ℕ). n == client) (same y)));
 }
 
-either : (b : Bool) (x y : BookEntry) → x.entry.client.0 ≡ y.entry.client.0 → (cond b x y).entry.client.0 ≡ y.entry.client.0
+either : (b : Bool) (x y : BookEntry) → x.request.client.0 ≡ y.request.client.0 → (cond b x y).request.client.0 ≡ y.request.client.0
 either true x y same = same
 either false x y same = refl
 
 pub counts_at : (es : List BookEntry) (id : RequestId) (f : PendingRequest → PendingRequest) (counts : List ℕ) → ((r : PendingRequest) → (f r).client.0 ≡ r.client.0) → AreClientCounts es counts → AreClientCounts (map (update_if_id id f) es) counts
-counts_at es id f counts same are = changed_counts es (update_if_id id f) counts (λ e. either (has_id id e) (record e { entry = f e.entry }) e (same e.entry)) are
+counts_at es id f counts same are = changed_counts es (update_if_id id f) counts (λ e. either (has_id id e) (record e { request = f e.request }) e (same e.request)) are
 
-pub counts_changed : (es : List BookEntry) (f : PendingRequest → PendingRequest) (counts : List ℕ) → ((r : PendingRequest) → (f r).client.0 ≡ r.client.0) → AreClientCounts es counts → AreClientCounts (map (λ (e : BookEntry). record e { entry = f e.entry }) es) counts
-counts_changed es f counts same are = changed_counts es (λ (e : BookEntry). record e { entry = f e.entry }) counts (λ e. same e.entry) are
+pub counts_changed : (es : List BookEntry) (f : PendingRequest → PendingRequest) (counts : List ℕ) → ((r : PendingRequest) → (f r).client.0 ≡ r.client.0) → AreClientCounts es counts → AreClientCounts (map (λ (e : BookEntry). record e { request = f e.request }) es) counts
+counts_changed es f counts same are = changed_counts es (λ (e : BookEntry). record e { request = f e.request }) counts (λ e. same e.request) are

@@ -5,13 +5,13 @@ use Rattle.std.specs.List.{list_any}
 use Rattle.std.proofs.lemmas.Bool.{cases_eq, cases_lt, and_parts, ltb-true, false_from_ne_true}
 use Rattle.std.proofs.lemmas.List.Folds.{list_any_none}
 use Rattle.block_machine.specs.DueRequests.{are_overlapping}
-use Rattle.request_queue.specs.declared.ranges.BookRange.{BookRange}
+use Rattle.request_queue.specs.declared.ranges.RequestRange.{RequestRange}
 use Rattle.request_queue.specs.declared.ranges.IndexEntry.{IndexEntry}
-use Rattle.request_queue.specs.RangeIndex.{EndFollows, items_of}
+use Rattle.request_queue.specs.RangeIndex.{GreatestEndPropagates, items_of}
 use Rattle.request_queue.specs.BookRanges.{StandsBefore, IsGreatestEnd, item_end, item_first, is_earlier_conflict}
 
 -- the greatest end goes on, with the next item's
-pub end_grows : (items : List BookRange) (k greatest_end end : ℕ) → IsGreatestEnd items k greatest_end → ((d : BookRange) → item_end (get_or items (k + 1) d) ≡ end) → greatest_end < end → IsGreatestEnd items (k + 1) end
+pub end_grows : (items : List RequestRange) (k greatest_end end : ℕ) → IsGreatestEnd items k greatest_end → ((d : RequestRange) → item_end (get_or items (k + 1) d) ≡ end) → greatest_end < end → IsGreatestEnd items (k + 1) end
 end_grows items k greatest_end end so is less = record {
   bounds_all_ends = λ j d le. elim (cases_eq j (k + 1)) [
     | inl e ↦ let same = ap (λ (i : ℕ). item_end (get_or items i d)) e in let h = is d in omega (arith, same, h)
@@ -23,7 +23,7 @@ end_grows items k greatest_end end so is less = record {
 }
 
 -- or stays as it is
-pub end_stays : (items : List BookRange) (k greatest_end end : ℕ) → IsGreatestEnd items k greatest_end → ((d : BookRange) → item_end (get_or items (k + 1) d) ≡ end) → end ≤ greatest_end → IsGreatestEnd items (k + 1) greatest_end
+pub end_stays : (items : List RequestRange) (k greatest_end end : ℕ) → IsGreatestEnd items k greatest_end → ((d : RequestRange) → item_end (get_or items (k + 1) d) ≡ end) → end ≤ greatest_end → IsGreatestEnd items (k + 1) greatest_end
 end_stays items k greatest_end end so is more = record {
   bounds_all_ends = λ j d le. elim (cases_eq j (k + 1)) [
     | inl e ↦ let same = ap (λ (i : ℕ). item_end (get_or items i d)) e in let h = is d in omega (arith, same, h, more)
@@ -35,7 +35,7 @@ end_stays items k greatest_end end so is more = record {
 }
 
 -- there is one
-one_end : (items : List BookRange) (k a b : ℕ) (d : BookRange) → IsGreatestEnd items k a → IsGreatestEnd items k b → a ≡ b
+one_end : (items : List RequestRange) (k a b : ℕ) (d : RequestRange) → IsGreatestEnd items k a → IsGreatestEnd items k b → a ≡ b
 one_end items k a b d is so =
     let p = is.bounds_all_ends so.greatest_place d so.place_is_in_range in
     let q = so.bounds_all_ends is.greatest_place d is.place_is_in_range in
@@ -44,7 +44,7 @@ one_end items k a b d is so =
     omega (arith, p, q, x, y)
 
 -- the next end follows wherever the same item stands behind the same end
-pub next_end : (old new : List BookRange) (i j a b : ℕ) (x : BookRange) → IsGreatestEnd old i a → IsGreatestEnd old (i + 1) b → ((d : BookRange) → get_or old (i + 1) d ≡ x) → ((d : BookRange) → get_or new (j + 1) d ≡ x)
+pub next_end : (old new : List RequestRange) (i j a b : ℕ) (x : RequestRange) → IsGreatestEnd old i a → IsGreatestEnd old (i + 1) b → ((d : RequestRange) → get_or old (i + 1) d ≡ x) → ((d : RequestRange) → get_or new (j + 1) d ≡ x)
     → IsGreatestEnd new j a → IsGreatestEnd new (j + 1) b
 next_end old new i j a b x is so in_old in_new here = elim (cases_lt a (item_end x)) [
   | inl less ↦
@@ -56,7 +56,7 @@ next_end old new i j a b x is so in_old in_new here = elim (cases_lt a (item_end
 ]
 
 -- so all behind a right one are right
-pub all_follow : (es : List IndexEntry) (place : ℕ) (d : IndexEntry) → ((k : ℕ) → place ≤ k → EndFollows es k d) → IsGreatestEnd (items_of es) place (get_or es place d).greatest_end
+pub all_follow : (es : List IndexEntry) (place : ℕ) (d : IndexEntry) → ((k : ℕ) → place ≤ k → GreatestEndPropagates es k d) → IsGreatestEnd (items_of es) place (get_or es place d).greatest_end
     → (k : ℕ) → place ≤ k → k < length es → IsGreatestEnd (items_of es) k (get_or es k d).greatest_end
 all_follow es place d follow here zero le lt = subst (λ (n : ℕ). IsGreatestEnd (items_of es) n (get_or es n d).greatest_end) (let e : place ≡ 0 = omega (arith, le) in e) here
 all_follow es place d follow here (suc k) le lt = by (cases_eq place (suc k)) (λ low. follow k low (let l : k + 1 < length es = omega (arith, lt) in l) (all_follow es place d follow here k low (omega (arith, lt))))
@@ -66,29 +66,29 @@ all_follow es place d follow here (suc k) le lt = by (cases_eq place (suc k)) (�
     by (inr ne) next = subst (λ (n : ℕ). IsGreatestEnd (items_of es) n (get_or es n d).greatest_end) (let e : k + 1 ≡ suc k = omega arith in e) (next (omega (arith, le, ne)))
 
 -- what two items that conflict have in common
-shared : (r x : BookRange) → is_earlier_conflict r x ≡ true → (item_first x < item_end r) × (item_first r < item_end x)
+shared : (r x : RequestRange) → is_earlier_conflict r x ≡ true → (item_first x < item_end r) × (item_first r < item_end x)
 shared r x is =
-    let after = and_parts (x.port.0 == r.port.0) (nat_lt x.id.0 r.id.0 && ((x.writes || r.writes) && are_overlapping x.range r.range)) is in
-    let both = and_parts (x.writes || r.writes) (are_overlapping x.range r.range) (and_parts (nat_lt x.id.0 r.id.0) ((x.writes || r.writes) && are_overlapping x.range r.range) after.1).1 in
+    let after = and_parts (x.port.0 == r.port.0) (nat_lt x.id.0 r.id.0 && ((x.changes_sectors || r.changes_sectors) && are_overlapping x.range r.range)) is in
+    let both = and_parts (x.changes_sectors || r.changes_sectors) (are_overlapping x.range r.range) (and_parts (nat_lt x.id.0 r.id.0) ((x.changes_sectors || r.changes_sectors) && are_overlapping x.range r.range) after.1).1 in
     let meet = and_parts (nat_lt (item_first x) (item_end r) && nat_lt (item_first r) (item_end x)) (nat_lt 0 x.range.count && nat_lt 0 r.range.count) both.1 in
     let sides = and_parts (nat_lt (item_first x) (item_end r)) (nat_lt (item_first r) (item_end x)) meet.0 in
     (ltb-true (item_first x) (item_end r) sides.0, ltb-true (item_first r) (item_end x) sides.1)
 
 -- one that begins where r ends, or later, doesn't conflict with it
-pub begins_late : (r x : BookRange) → (StandsBefore x (item_end r) 0 → ⊥) → is_earlier_conflict r x ≡ false
+pub begins_late : (r x : RequestRange) → (StandsBefore x (item_end r) 0 → ⊥) → is_earlier_conflict r x ≡ false
 begins_late r x not = false_from_ne_true (is_earlier_conflict r x) (λ is. not (inl (shared r x is).0))
 
 -- one that ends where r begins, or earlier, doesn't conflict with it
-pub ends_early : (r x : BookRange) (greatest_end : ℕ) → item_end x ≤ greatest_end → greatest_end ≤ item_first r → is_earlier_conflict r x ≡ false
+pub ends_early : (r x : RequestRange) (greatest_end : ℕ) → item_end x ≤ greatest_end → greatest_end ≤ item_first r → is_earlier_conflict r x ≡ false
 ends_early r x greatest_end h g = false_from_ne_true (is_earlier_conflict r x) (λ is. let s = (shared r x is).1 in omega (arith, s, h, g))
 
 -- nor do all up to a place whose greatest end is there
-pub none_conflicts : (r : BookRange) (items : List BookRange) (past greatest_end : ℕ) → IsGreatestEnd items past greatest_end → greatest_end ≤ item_first r
-    → ((k : ℕ) (d : BookRange) → past < k → k < length items → is_earlier_conflict r (get_or items k d) ≡ false) → list_any (is_earlier_conflict r) items ≡ false
+pub none_conflicts : (r : RequestRange) (items : List RequestRange) (past greatest_end : ℕ) → IsGreatestEnd items past greatest_end → greatest_end ≤ item_first r
+    → ((k : ℕ) (d : RequestRange) → past < k → k < length items → is_earlier_conflict r (get_or items k d) ≡ false) → list_any (is_earlier_conflict r) items ≡ false
 none_conflicts r items past greatest_end so early behind = list_any_none (is_earlier_conflict r) items (λ k d lt. elim (cases_lt past k) [
   | inl more ↦ behind k d more lt
   | inr up ↦ ends_early r (get_or items k d) greatest_end (so.bounds_all_ends k d up) early
 ])
 
-pub none_left : (r : BookRange) (items : List BookRange) → ((k : ℕ) (d : BookRange) → 0 ≤ k → k < length items → is_earlier_conflict r (get_or items k d) ≡ false) → list_any (is_earlier_conflict r) items ≡ false
+pub none_left : (r : RequestRange) (items : List RequestRange) → ((k : ℕ) (d : RequestRange) → 0 ≤ k → k < length items → is_earlier_conflict r (get_or items k d) ≡ false) → list_any (is_earlier_conflict r) items ≡ false
 none_left r items none = list_any_none (is_earlier_conflict r) items (λ k d lt. none k d (omega arith) lt)

@@ -11,13 +11,13 @@ use Rattle.std.proofs.lemmas.Option.{slice_get_within, slice_get-map, get_or_fro
 use Rattle.ata_types.specs.declared.request.RequestId.{RequestId}
 use Rattle.block_machine.specs.declared.due.Unanswered.{Unanswered}
 use Rattle.block_machine.specs.DueRequests.{IsInOrder, are_conflicting, is_earlier_on_port, is_flush, changes_sectors, are_overlapping}
-use Rattle.request_queue.specs.declared.ranges.BookRange.{BookRange}
+use Rattle.request_queue.specs.declared.ranges.RequestRange.{RequestRange}
 use Rattle.request_queue.specs.BookRanges.{is_earlier_conflict}
-use Rattle.request_queue.specs.BookEntries.{BookEntry, as_unanswered, unanswered_of, issued_entry, requeued_entry}
+use Rattle.request_queue.specs.BookEntries.{BookEntry, as_unanswered, unanswered_of, issued_request, requeued_request}
 use Rattle.request_queue.specs.Flushes.{listed_flush, flushes_among, is_earlier_flush}
 use Rattle.request_queue.specs.declared.flushes.Flush.{Flush}
-use Rattle.request_queue.specs.Blockers.{AreBlockers, AreBlockersBut, IsBlockerOf, has_blocker, is_blocked_by, may_be_blocked, may_block}
-use Rattle.request_queue.specs.Sectors.{AreIndexed, AreSectorsOf, item_of, index_of_port}
+use Rattle.request_queue.specs.Blockers.{AreBlockers, AreBlockersExceptOf, IsBlockerOf, has_blocker, is_blocked_by, may_be_blocked, may_block}
+use Rattle.request_queue.specs.Sectors.{AreIndexed, AreItemsOfList, item_of, list_number_of_port}
 use Rattle.request_queue.proofs.Flushing.{in_flushes, of_flushes}
 use Rattle.request_queue.proofs.Indexing.{asks_more, asks_newest, ids_apart, in_four, in_remove}
 use Rattle.request_queue.proofs.Members.{contains_none, contains_cases}
@@ -25,13 +25,13 @@ use Rattle.request_queue.proofs.Unheld.{found, one_found, no_flush}
 
 -- ---- found by its sectors, or among the flushes
 
-module _ (book : List Unanswered) (lists : List (List BookRange)) (is : AreIndexed book lists) (flushes : List Flush) (are_flushes : flushes ≡ flushes_among book) (r : Unanswered)
+module _ (book : List Unanswered) (lists : List (List RequestRange)) (is : AreIndexed book lists) (flushes : List Flush) (are_flushes : flushes ≡ flushes_among book) (r : Unanswered)
     (may : may_be_blocked r ≡ true) where
-  abbrev items : List BookRange
-  items = get_or lists (index_of_port r.port) []
+  abbrev items : List RequestRange
+  items = get_or lists (list_number_of_port r.port) []
 
-  sectors : AreSectorsOf (index_of_port r.port) book items
-  sectors = (is.each_is_list_of (index_of_port r.port) (in_four r.port)).has_their_sectors
+  sectors : AreItemsOfList (list_number_of_port r.port) book items
+  sectors = (is.each_is_list_of (list_number_of_port r.port) (in_four r.port)).has_their_sectors
 
   no_flush_itself : is_flush r.op ≡ false
   no_flush_itself = no_flush r.op (and_parts (not r.issued) _ may).1
@@ -58,11 +58,11 @@ module _ (book : List Unanswered) (lists : List (List BookRange)) (is : AreIndex
       by o there earlier meets false other =
           let early = and_parts (o.port.0 == r.port.0) _ earlier in
           let both = and_parts (o.port.0 == r.port.0) _ meets in
-          let list : index_of_port o.port ≡ index_of_port r.port = ap (λ (n : ℕ). n % 4) (eqb-true o.port.0 r.port.0 early.0) in
+          let list : list_number_of_port o.port ≡ list_number_of_port r.port = ap (λ (n : ℕ). n % 4) (eqb-true o.port.0 r.port.0 early.0) in
           both_ways _ none (found (is_earlier_conflict (item_of r)) items (item_of o) ((sectors (item_of o)).1 (o, there, list, other, refl))
           (and_from _ _ early.0 (and_from _ _ early.1 (by_sectors o other both.1))))
 
-  pub one_holds : (x : BookRange) → Contains items x → is_earlier_conflict (item_of r) x ≡ true → IsBlockerOf book r (Some x.id)
+  pub one_holds : (x : RequestRange) → Contains items x → is_earlier_conflict (item_of r) x ≡ true → IsBlockerOf book r (Some x.id)
   one_holds x there meets =
       let h = (sectors x).0 there in
       let o = h.0 in
@@ -70,7 +70,7 @@ module _ (book : List Unanswered) (lists : List (List BookRange)) (is : AreIndex
       let one = and_parts (o.port.0 == r.port.0) _ holds_it in
       let two = and_parts (nat_lt o.id.0 r.id.0) _ one.1 in (
         may,
-        (o, h.1, ap (λ (i : BookRange). i.id) h.4, and_from _ _ (and_from _ _ one.0 two.0) (and_from _ _ one.0 (or_right (is_flush o.op || is_flush r.op) _ two.1))),
+        (o, h.1, ap (λ (i : RequestRange). i.id) h.4, and_from _ _ (and_from _ _ one.0 two.0) (and_from _ _ one.0 (or_right (is_flush o.op || is_flush r.op) _ two.1))),
       )
 
   flush_holds : (f : Flush) → Contains flushes f → is_earlier_flush r f ≡ true → IsBlockerOf book r (Some f.id)
@@ -231,7 +231,7 @@ module _ (book : List Unanswered) (blockers : List (Option RequestId)) (i : ℕ)
             (stays (get_or book (k + 1) d) (get_or (remove blockers i) k None) other (subst (λ (h : Option RequestId). IsBlockerOf book (get_or book (k + 1) d) h) (sym g) (are.blocker_of_each (k + 1) d (omega (arith, lt, a)))))
       ]
 
-  pub removed_holders : AreBlockersBut r.id i (remove book i) (remove blockers i)
+  pub removed_holders : AreBlockersExceptOf r.id i (remove book i) (remove blockers i)
   removed_holders = record {
     lengths_are_same =
         let w = inside in
@@ -251,8 +251,8 @@ module _ (book : List Unanswered) (blockers : List (Option RequestId)) (i : ℕ)
   }
 
 -- one place further
-module _ (id : RequestId) (place : ℕ) (book : List Unanswered) (blockers : List (Option RequestId)) (are : AreBlockersBut id place book blockers) where
-  pub one_kept : is_blocked_by id (get_or blockers place None) ≡ false → AreBlockersBut id (place + 1) book blockers
+module _ (id : RequestId) (place : ℕ) (book : List Unanswered) (blockers : List (Option RequestId)) (are : AreBlockersExceptOf id place book blockers) where
+  pub one_kept : is_blocked_by id (get_or blockers place None) ≡ false → AreBlockersExceptOf id (place + 1) book blockers
   one_kept other = record {
     lengths_are_same = are.lengths_are_same;
     blockers_before_place = λ k d lt short. elim (cases_eq k place) [
@@ -262,7 +262,7 @@ module _ (id : RequestId) (place : ℕ) (book : List Unanswered) (blockers : Lis
     other_blockers = are.other_blockers;
   }
 
-  pub one_anew : (r : Unanswered) (h : Option RequestId) → slice_get book place ≡ Some r → IsBlockerOf book r h → AreBlockersBut id (place + 1) book (set blockers place h)
+  pub one_anew : (r : Unanswered) (h : Option RequestId) → slice_get book place ≡ Some r → IsBlockerOf book r h → AreBlockersExceptOf id (place + 1) book (set blockers place h)
   one_anew r h at its = record {
     lengths_are_same = length-set blockers place h ∙ are.lengths_are_same;
     blockers_before_place = λ k d lt short. elim (cases_eq k place) [
@@ -304,43 +304,43 @@ module _ (book : List Unanswered) (r : Unanswered) where
 
 -- ---- of the book's own requests
 
-asks_there : (es : List BookEntry) (i : ℕ) (e : BookEntry) → slice_get es i ≡ Some e → slice_get (unanswered_of es) i ≡ Some (as_unanswered e.entry)
-asks_there es i e at = slice_get-map (λ (x : BookEntry). as_unanswered x.entry) es i ∙ ap (option_map (λ (x : BookEntry). as_unanswered x.entry)) at
+asks_there : (es : List BookEntry) (i : ℕ) (e : BookEntry) → slice_get es i ≡ Some e → slice_get (unanswered_of es) i ≡ Some (as_unanswered e.request)
+asks_there es i e at = slice_get-map (λ (x : BookEntry). as_unanswered x.request) es i ∙ ap (option_map (λ (x : BookEntry). as_unanswered x.request)) at
 
-asks_set : (es : List BookEntry) (i : ℕ) (e : BookEntry) → unanswered_of (set es i e) ≡ set (unanswered_of es) i (as_unanswered e.entry)
-asks_set es i e = map-set (λ (x : BookEntry). as_unanswered x.entry) es i e
+asks_set : (es : List BookEntry) (i : ℕ) (e : BookEntry) → unanswered_of (set es i e) ≡ set (unanswered_of es) i (as_unanswered e.request)
+asks_set es i e = map-set (λ (x : BookEntry). as_unanswered x.request) es i e
 
 pub empty_blockers : AreBlockers [] []
 empty_blockers = record { lengths_are_same = refl; blocker_of_each = λ k d lt. absurd (omega (arith, lt)) }
 
-pub longer_holders : (es : List BookEntry) (e : BookEntry) (blockers : List (Option RequestId)) (r : Unanswered) (h : Option RequestId) → r ≡ as_unanswered e.entry → AreBlockers (unanswered_of es) blockers
-    → All (λ x. x.entry.id.0 < e.entry.id.0) es → IsBlockerOf (unanswered_of es) r h → AreBlockers (unanswered_of (es ++ e ∷ [])) (blockers ++ h ∷ [])
+pub longer_holders : (es : List BookEntry) (e : BookEntry) (blockers : List (Option RequestId)) (r : Unanswered) (h : Option RequestId) → r ≡ as_unanswered e.request → AreBlockers (unanswered_of es) blockers
+    → All (λ x. x.request.id.0 < e.request.id.0) es → IsBlockerOf (unanswered_of es) r h → AreBlockers (unanswered_of (es ++ e ∷ [])) (blockers ++ h ∷ [])
 longer_holders es e blockers r h same are newest its =
     subst (λ (book : List Unanswered). AreBlockers book (blockers ++ h ∷ [])) (sym (asks_more es e))
-    (accepted_holders (unanswered_of es) blockers (as_unanswered e.entry) h are (asks_newest es e.entry.id.0 newest) (subst (λ (x : Unanswered). IsBlockerOf (unanswered_of es) x h) same its))
+    (accepted_holders (unanswered_of es) blockers (as_unanswered e.request) h are (asks_newest es e.request.id.0 newest) (subst (λ (x : Unanswered). IsBlockerOf (unanswered_of es) x h) same its))
 
 pub issued_holders : (es : List BookEntry) (blockers : List (Option RequestId)) (i : ℕ) (e : BookEntry) → AreBlockers (unanswered_of es) blockers → slice_get es i ≡ Some e
-    → AreBlockers (unanswered_of (set es i (record e { entry = issued_entry e.entry }))) (set blockers i None)
+    → AreBlockers (unanswered_of (set es i (record e { request = issued_request e.request }))) (set blockers i None)
 issued_holders es blockers i e are at =
-    subst (λ (book : List Unanswered). AreBlockers book (set blockers i None)) (sym (asks_set es i (record e { entry = issued_entry e.entry })))
-    (marked_holders (unanswered_of es) blockers i (as_unanswered e.entry) true None are (asks_there es i e at) refl)
+    subst (λ (book : List Unanswered). AreBlockers book (set blockers i None)) (sym (asks_set es i (record e { request = issued_request e.request })))
+    (marked_holders (unanswered_of es) blockers i (as_unanswered e.request) true None are (asks_there es i e at) refl)
 
 pub requeued_holders : (es : List BookEntry) (blockers : List (Option RequestId)) (i : ℕ) (e : BookEntry) (r : Unanswered) (h : Option RequestId) → AreBlockers (unanswered_of es) blockers → slice_get es i ≡ Some e
-    → slice_get (unanswered_of (set es i (record e { entry = requeued_entry e.entry }))) i ≡ Some r → IsBlockerOf (unanswered_of (set es i (record e { entry = requeued_entry e.entry }))) r h
-    → AreBlockers (unanswered_of (set es i (record e { entry = requeued_entry e.entry }))) (set blockers i h)
+    → slice_get (unanswered_of (set es i (record e { request = requeued_request e.request }))) i ≡ Some r → IsBlockerOf (unanswered_of (set es i (record e { request = requeued_request e.request }))) r h
+    → AreBlockers (unanswered_of (set es i (record e { request = requeued_request e.request }))) (set blockers i h)
 requeued_holders es blockers i e r h are at its is =
     let there = asks_there es i e at in
-    let new = asks_set es i (record e { entry = requeued_entry e.entry }) in
-    let waiting : Unanswered = as_unanswered (requeued_entry e.entry) in
+    let new = asks_set es i (record e { request = requeued_request e.request }) in
+    let waiting : Unanswered = as_unanswered (requeued_request e.request) in
     let same : r ≡ waiting =
     sym (get_or_from_slice_get (set (unanswered_of es) i waiting) i r waiting (subst (λ (book : List Unanswered). slice_get book i ≡ Some r) new its))
-    ∙ get_or-set_same (unanswered_of es) i waiting waiting (slice_get_within (unanswered_of es) i (as_unanswered e.entry) there) in
+    ∙ get_or-set_same (unanswered_of es) i waiting waiting (slice_get_within (unanswered_of es) i (as_unanswered e.request) there) in
     subst (λ (book : List Unanswered). AreBlockers book (set blockers i h)) (sym new)
-    (marked_holders (unanswered_of es) blockers i (as_unanswered e.entry) false h are there
-    (subst (λ (book : List Unanswered). IsBlockerOf book waiting h) new (subst (λ (x : Unanswered). IsBlockerOf (unanswered_of (set es i (record e { entry = requeued_entry e.entry }))) x h) same is)))
+    (marked_holders (unanswered_of es) blockers i (as_unanswered e.request) false h are there
+    (subst (λ (book : List Unanswered). IsBlockerOf book waiting h) new (subst (λ (x : Unanswered). IsBlockerOf (unanswered_of (set es i (record e { request = requeued_request e.request }))) x h) same is)))
 
 pub fewer_holders : (es : List BookEntry) (blockers : List (Option RequestId)) (i : ℕ) (e : BookEntry) (id : RequestId) → AreBlockers (unanswered_of es) blockers → IsInOrder (unanswered_of es)
-    → slice_get es i ≡ Some e → e.entry.id ≡ id → AreBlockersBut id i (remove (unanswered_of es) i) (remove blockers i)
+    → slice_get es i ≡ Some e → e.request.id ≡ id → AreBlockersExceptOf id i (remove (unanswered_of es) i) (remove blockers i)
 fewer_holders es blockers i e id are ordered at named =
-    subst (λ (n : RequestId). AreBlockersBut n i (remove (unanswered_of es) i) (remove blockers i)) named
-    (removed_holders (unanswered_of es) blockers i (as_unanswered e.entry) are ordered (asks_there es i e at))
+    subst (λ (n : RequestId). AreBlockersExceptOf n i (remove (unanswered_of es) i) (remove blockers i)) named
+    (removed_holders (unanswered_of es) blockers i (as_unanswered e.request) are ordered (asks_there es i e at))

@@ -12,7 +12,7 @@ use Rattle.block_machine.specs.declared.due.Unanswered.{Unanswered}
 use Rattle.block_machine.specs.DueRequests.{are_conflicting, waits_for, is_unblocked, is_plain}
 use Rattle.request_queue.specs.Blockers.{may_be_blocked, may_block}
 use Rattle.request_queue.specs.DueWalk.{TalliesIssued, IsReachedInWalk, is_issued_plain}
-use Rattle.request_queue.specs.declared.due.Issued.{Issued}
+use Rattle.request_queue.specs.declared.due.IssuedTally.{IssuedTally}
 use Rattle.request_queue.proofs.Members.{count_cons, contains_none, contains_here, contains_there, contains_cases}
 use Rattle.request_queue.proofs.Unheld.{found, one_found, queued_is_read_or_write, same_bool}
 
@@ -134,7 +134,7 @@ module _ (mode : QueueMode) (requests : List Unanswered) (i : ℕ) (r : Unanswer
           (or_cases (is_plain mode o.op) _ less.1)))
           (or_cases (is_plain mode o.op && o.issued) _ parts.1)
 
-  module _ (issued : Issued) (are : TalliesIssued mode requests issued) where
+  module _ (issued : IssuedTally) (are : TalliesIssued mode requests issued) where
     pub issued_isnt_clear : r.issued ≡ true → false ≡ is_unblocked mode requests r
     issued_isnt_clear is = sym (ap (λ (b : Bool). not b && not (list_any (waits_for mode r) requests)) is)
 

@@ -16,12 +16,12 @@ use Rattle.ata_types.specs.declared.request.RequestId.{RequestId}
 use Rattle.ata_types.specs.declared.limits.TheConstants.{MOST_UNANSWERED}
 use Rattle.block_machine.specs.declared.due.Unanswered.{Unanswered}
 use Rattle.block_machine.specs.DueRequests.{IsInOrder, is_flush}
-use Rattle.request_queue.specs.declared.ranges.BookRange.{BookRange}
+use Rattle.request_queue.specs.declared.ranges.RequestRange.{RequestRange}
 use Rattle.block_machine.specs.DueRequests.{mark_issued, mark_waiting}
-use Rattle.request_queue.specs.BookEntries.{BookEntry, as_unanswered, unanswered_of, update_if_id, issued_entry, requeued_entry}
+use Rattle.request_queue.specs.BookEntries.{BookEntry, as_unanswered, unanswered_of, update_if_id, issued_request, requeued_request}
 use Rattle.request_queue.proofs.Working.{after_issue, after_requeue}
 use Rattle.request_queue.proofs.PermutedPairs.{permuted_pairs}
-use Rattle.request_queue.specs.Sectors.{AreIndexed, IsListOf, is_in_list, item_of, index_of_port}
+use Rattle.request_queue.specs.Sectors.{AreIndexed, IsSectorListOf, is_in_list, item_of, list_number_of_port}
 use Rattle.request_queue.proofs.Members.{contains_none, contains_here, contains_there, contains_cases, count_append, count_cons, count_map, into_map, map_in}
 
 -- ---- one more, and one less, of elements with ids
@@ -74,40 +74,40 @@ count_removed p xs i x update_if_id =
     let rest = count_append p (take i xs) (drop (suc i) xs) in
     omega (arith, whole, front, here, head, same, rest)
 
-in_list : (list : ℕ) (r : Unanswered) → index_of_port r.port ≡ list → is_flush r.op ≡ false → is_in_list list r ≡ true
-in_list list r here has = and_from (index_of_port r.port == list) (not (is_flush r.op)) (eq-eqb (index_of_port r.port) list here) (ap not has)
+in_list : (list : ℕ) (r : Unanswered) → list_number_of_port r.port ≡ list → is_flush r.op ≡ false → is_in_list list r ≡ true
+in_list list r here has = and_from (list_number_of_port r.port == list) (not (is_flush r.op)) (eq-eqb (list_number_of_port r.port) list here) (ap not has)
 
-out_of_list : (list : ℕ) (r : Unanswered) → (list ≡ index_of_port r.port → ⊥) → is_in_list list r ≡ false
-out_of_list list r other = false_from_ne_true (is_in_list list r) (λ is. other (sym (eqb-true (index_of_port r.port) list (and_parts (index_of_port r.port == list) (not (is_flush r.op)) is).0)))
+out_of_list : (list : ℕ) (r : Unanswered) → (list ≡ list_number_of_port r.port → ⊥) → is_in_list list r ≡ false
+out_of_list list r other = false_from_ne_true (is_in_list list r) (λ is. other (sym (eqb-true (list_number_of_port r.port) list (and_parts (list_number_of_port r.port == list) (not (is_flush r.op)) is).0)))
 
 flush_in_none : (list : ℕ) (r : Unanswered) → is_flush r.op ≡ true → is_in_list list r ≡ false
-flush_in_none list r flush = false_from_ne_true (is_in_list list r) (λ is. both_ways _ (not-true (is_flush r.op) (and_parts (index_of_port r.port == list) (not (is_flush r.op)) is).1) flush)
+flush_in_none list r flush = false_from_ne_true (is_in_list list r) (λ is. both_ways _ (not-true (is_flush r.op) (and_parts (list_number_of_port r.port == list) (not (is_flush r.op)) is).1) flush)
 
-set_indexed : (book : List Unanswered) (lists : List (List BookRange)) (i : ℕ) (items : List BookRange) → i < 4 → length lists ≡ 4 → IsListOf i book items
-    → ((list : ℕ) → list < 4 → (list ≡ i → ⊥) → IsListOf list book (get_or lists list [])) → AreIndexed book (set lists i items)
+set_indexed : (book : List Unanswered) (lists : List (List RequestRange)) (i : ℕ) (items : List RequestRange) → i < 4 → length lists ≡ 4 → IsSectorListOf i book items
+    → ((list : ℕ) → list < 4 → (list ≡ i → ⊥) → IsSectorListOf list book (get_or lists list [])) → AreIndexed book (set lists i items)
 set_indexed book lists i items lt four own others = record {
   four_lists = length-set lists i items ∙ four;
   each_is_list_of = λ list low. elim (cases_eq list i) [
-    | inl e ↦ subst (λ (n : ℕ). IsListOf n book (get_or (set lists i items) n [])) (sym e) (subst (IsListOf i book) (sym (get_or-set_same lists i items [] (omega (arith, four, lt)))) own)
-    | inr not ↦ subst (IsListOf list book) (sym (get_or-set_other lists i list items [] not)) (others list low not)
+    | inl e ↦ subst (λ (n : ℕ). IsSectorListOf n book (get_or (set lists i items) n [])) (sym e) (subst (IsSectorListOf i book) (sym (get_or-set_same lists i items [] (omega (arith, four, lt)))) own)
+    | inr not ↦ subst (IsSectorListOf list book) (sym (get_or-set_other lists i list items [] not)) (others list low not)
   ];
 }
 
 -- ---- accepted: a list that the request isn't in, and its own
 
-module _ (list : ℕ) (book : List Unanswered) (items : List BookRange) (is : IsListOf list book items) (r : Unanswered) where
-  pub other_accepted : is_in_list list r ≡ false → IsListOf list (book ++ r ∷ []) items
+module _ (list : ℕ) (book : List Unanswered) (items : List RequestRange) (is : IsSectorListOf list book items) (r : Unanswered) where
+  pub other_accepted : is_in_list list r ≡ false → IsSectorListOf list (book ++ r ∷ []) items
   other_accepted out = record {
     has_their_sectors = λ x. (
       λ there. let h = (is.has_their_sectors x).0 there in (h.0, Contains-append_left book (r ∷ []) h.0 h.1, h.2, h.3, h.4),
       λ h. (is.has_their_sectors x).1 (h.0, here h.0 h.1 h.2 h.3, h.2, h.3, h.4),
     );
-    length_is = let n = is.length_is in let c = count_append (is_in_list list) book (r ∷ []) in let one = count_cons (is_in_list list) r [] in
+    length_is_request_count = let n = is.length_is_request_count in let c = count_append (is_in_list list) book (r ∷ []) in let one = count_cons (is_in_list list) r [] in
         let none : ◌≡◌ {A = ℕ} (cond (is_in_list list r) 1 0) 0 = cond-false (is_in_list list r) 1 0 out in omega (arith, n, c, one, none);
     distinct = is.distinct;
   }
     where
-      here : (o : Unanswered) → Contains (book ++ r ∷ []) o → index_of_port o.port ≡ list → is_flush o.op ≡ false → Contains book o
+      here : (o : Unanswered) → Contains (book ++ r ∷ []) o → list_number_of_port o.port ≡ list → is_flush o.op ≡ false → Contains book o
       here o there update_if_id has = elim (Contains-append_cases book (r ∷ []) o there) [
         | inl h ↦ h
         | inr h ↦ elim (contains_cases r [] o h) [
@@ -121,19 +121,19 @@ module _ (list : ℕ) (book : List Unanswered) (items : List BookRange) (is : Is
       let x = get_or items k d in
       let h = (is.has_their_sectors x).0 (k, lt, get_or_default items k x d lt) in
       let less = subst (λ (o : Unanswered). o.id.0 < r.id.0) h.1.2 (newest h.1.0 h.0 h.1.1) in
-      let same = ap (λ (i : BookRange). i.id.0) h.4 in
+      let same = ap (λ (i : RequestRange). i.id.0) h.4 in
       let equal = ap (λ (i : RequestId). i.0) e in
       omega (arith, less, same, equal)
 
-  pub own_accepted : index_of_port r.port ≡ list → is_flush r.op ≡ false → All (λ o. o.id.0 < r.id.0) book → (place : ℕ) → place ≤ length items
-      → IsListOf list (book ++ r ∷ []) (insert items place (item_of r))
+  pub own_accepted : list_number_of_port r.port ≡ list → is_flush r.op ≡ false → All (λ o. o.id.0 < r.id.0) book → (place : ℕ) → place ≤ length items
+      → IsSectorListOf list (book ++ r ∷ []) (insert items place (item_of r))
   own_accepted update_if_id has newest place within = record {
     has_their_sectors = λ x. (
-      λ there. elim ((in_insert (λ (i : BookRange). i.id) items place (item_of r) x).0 there) [
+      λ there. elim ((in_insert (λ (i : RequestRange). i.id) items place (item_of r) x).0 there) [
         | inl e ↦ (r, Contains-append_right book (r ∷ []) r (contains_here r [] r refl), update_if_id, has, sym e)
         | inr old ↦ let h = (is.has_their_sectors x).0 old in (h.0, Contains-append_left book (r ∷ []) h.0 h.1, h.2, h.3, h.4)
       ],
-      λ h. (in_insert (λ (i : BookRange). i.id) items place (item_of r) x).1 (elim (Contains-append_cases book (r ∷ []) h.0 h.1) [
+      λ h. (in_insert (λ (i : RequestRange). i.id) items place (item_of r) x).1 (elim (Contains-append_cases book (r ∷ []) h.0 h.1) [
         | inl old ↦ inr ((is.has_their_sectors x).1 (h.0, old, h.2, h.3, h.4))
         | inr new ↦ elim (contains_cases r [] h.0 new) [
           | inl e ↦ inl (sym h.4 ∙ ap item_of e)
@@ -141,15 +141,15 @@ module _ (list : ℕ) (book : List Unanswered) (items : List BookRange) (is : Is
         ]
       ]),
     );
-    length_is = let n = is.length_is in let c = count_append (is_in_list list) book (r ∷ []) in let one = count_cons (is_in_list list) r [] in
+    length_is_request_count = let n = is.length_is_request_count in let c = count_append (is_in_list list) book (r ∷ []) in let one = count_cons (is_in_list list) r [] in
         let some : ◌≡◌ {A = ℕ} (cond (is_in_list list r) 1 0) 1 = cond-true (is_in_list list r) 1 0 (in_list list r update_if_id has) in let l = length-insert items place (item_of r) within in
         omega (arith, n, c, one, some, l);
-    distinct = distinct_insert (λ (i : BookRange). i.id) items place (item_of r) is.distinct (fresh_item newest);
+    distinct = distinct_insert (λ (i : RequestRange). i.id) items place (item_of r) is.distinct (fresh_item newest);
   }
 
 -- ---- answered
 
-module _ (list : ℕ) (book : List Unanswered) (items : List BookRange) (is : IsListOf list book items) (ordered : IsInOrder book) (i : ℕ) (r : Unanswered) (update_if_id : slice_get book i ≡ Some r) where
+module _ (list : ℕ) (book : List Unanswered) (items : List RequestRange) (is : IsSectorListOf list book items) (ordered : IsInOrder book) (i : ℕ) (r : Unanswered) (update_if_id : slice_get book i ≡ Some r) where
   left : (o : Unanswered) → Contains (remove book i) o ↔ (Contains book o × (o.id ≢ r.id))
   left o = in_remove (λ (u : Unanswered). u.id) book i r update_if_id (ids_apart book ordered) o
 
@@ -162,73 +162,73 @@ module _ (list : ℕ) (book : List Unanswered) (items : List BookRange) (is : Is
     ])
   ]
 
-  pub other_answered : is_in_list list r ≡ false → IsListOf list (remove book i) items
+  pub other_answered : is_in_list list r ≡ false → IsSectorListOf list (remove book i) items
   other_answered out = record {
     has_their_sectors = λ x. (
       λ there. let h = (is.has_their_sectors x).0 there in
           (h.0, (left h.0).1 (h.1, λ e. both_ways _ out (ap (is_in_list list) (sym (same_request h.0 h.1 e)) ∙ in_list list h.0 h.2 h.3)), h.2, h.3, h.4),
       λ h. (is.has_their_sectors x).1 (h.0, ((left h.0).0 h.1).0, h.2, h.3, h.4),
     );
-    length_is = let n = is.length_is in let c = count_removed (is_in_list list) book i r update_if_id in
+    length_is_request_count = let n = is.length_is_request_count in let c = count_removed (is_in_list list) book i r update_if_id in
         let none : ◌≡◌ {A = ℕ} (cond (is_in_list list r) 1 0) 0 = cond-false (is_in_list list r) 1 0 out in omega (arith, n, c, none);
     distinct = is.distinct;
   }
 
-  pub own_answered : index_of_port r.port ≡ list → is_flush r.op ≡ false → (place : ℕ) → slice_get items place ≡ Some (item_of r) → IsListOf list (remove book i) (remove items place)
+  pub own_answered : list_number_of_port r.port ≡ list → is_flush r.op ≡ false → (place : ℕ) → slice_get items place ≡ Some (item_of r) → IsSectorListOf list (remove book i) (remove items place)
   own_answered here has place found = record {
     has_their_sectors = λ x. (
-      λ there. let two = (in_remove (λ (y : BookRange). y.id) items place (item_of r) found is.distinct x).0 there in
+      λ there. let two = (in_remove (λ (y : RequestRange). y.id) items place (item_of r) found is.distinct x).0 there in
           let h = (is.has_their_sectors x).0 two.0 in
-          (h.0, (left h.0).1 (h.1, λ e. two.1 (ap (λ (y : BookRange). y.id) (sym h.4) ∙ e)), h.2, h.3, h.4),
+          (h.0, (left h.0).1 (h.1, λ e. two.1 (ap (λ (y : RequestRange). y.id) (sym h.4) ∙ e)), h.2, h.3, h.4),
       λ h. let two = (left h.0).0 h.1 in
-          (in_remove (λ (y : BookRange). y.id) items place (item_of r) found is.distinct x).1
-          ((is.has_their_sectors x).1 (h.0, two.0, h.2, h.3, h.4), λ e. two.1 (ap (λ (y : BookRange). y.id) h.4 ∙ e)),
+          (in_remove (λ (y : RequestRange). y.id) items place (item_of r) found is.distinct x).1
+          ((is.has_their_sectors x).1 (h.0, two.0, h.2, h.3, h.4), λ e. two.1 (ap (λ (y : RequestRange). y.id) h.4 ∙ e)),
     );
-    length_is = let n = is.length_is in let c = count_removed (is_in_list list) book i r update_if_id in
+    length_is_request_count = let n = is.length_is_request_count in let c = count_removed (is_in_list list) book i r update_if_id in
         let some : ◌≡◌ {A = ℕ} (cond (is_in_list list r) 1 0) 1 = cond-true (is_in_list list r) 1 0 (in_list list r here has) in
         let l = length-remove items place (slice_get_within items place (item_of r) found) in omega (arith, n, c, some, l);
     distinct = distinct_remove;
   }
     where
-      distinct_remove : AllPairs (λ (a : BookRange) (b : BookRange). a.id ≢ b.id) (remove items place)
-      distinct_remove = all_pairs_remove (λ (a : BookRange) (b : BookRange). a.id ≢ b.id) items place (slice_get_within items place (item_of r) found) is.distinct
+      distinct_remove : AllPairs (λ (a : RequestRange) (b : RequestRange). a.id ≢ b.id) (remove items place)
+      distinct_remove = all_pairs_remove (λ (a : RequestRange) (b : RequestRange). a.id ≢ b.id) items place (slice_get_within items place (item_of r) found) is.distinct
 
 -- ---- changed, but neither sectors nor port nor operation
 
-pub changed_list : (list : ℕ) (book : List Unanswered) (items : List BookRange) (g : Unanswered → Unanswered) → ((r : Unanswered) → item_of (g r) ≡ item_of r) → ((r : Unanswered) → (g r).op ≡ r.op)
-    → ((r : Unanswered) → (g r).port ≡ r.port) → IsListOf list book items → IsListOf list (map g book) items
+pub changed_list : (list : ℕ) (book : List Unanswered) (items : List RequestRange) (g : Unanswered → Unanswered) → ((r : Unanswered) → item_of (g r) ≡ item_of r) → ((r : Unanswered) → (g r).op ≡ r.op)
+    → ((r : Unanswered) → (g r).port ≡ r.port) → IsSectorListOf list book items → IsSectorListOf list (map g book) items
 changed_list list book items g same_item same_op same_port is = record {
   has_their_sectors = λ x. (
-    λ there. let h = (is.has_their_sectors x).0 there in (g h.0, into_map g book h.0 h.1, ap index_of_port (same_port h.0) ∙ h.2, ap is_flush (same_op h.0) ∙ h.3, same_item h.0 ∙ h.4),
+    λ there. let h = (is.has_their_sectors x).0 there in (g h.0, into_map g book h.0 h.1, ap list_number_of_port (same_port h.0) ∙ h.2, ap is_flush (same_op h.0) ∙ h.3, same_item h.0 ∙ h.4),
     λ h. let u = map_in g book h.0 h.1 in
-        (is.has_their_sectors x).1 (u.0, u.1, sym (ap index_of_port (ap (λ (o : Unanswered). o.port) u.2 ∙ same_port u.0)) ∙ h.2, sym (ap is_flush (ap (λ (o : Unanswered). o.op) u.2 ∙ same_op u.0)) ∙ h.3, sym (ap item_of u.2 ∙ same_item u.0) ∙ h.4),
+        (is.has_their_sectors x).1 (u.0, u.1, sym (ap list_number_of_port (ap (λ (o : Unanswered). o.port) u.2 ∙ same_port u.0)) ∙ h.2, sym (ap is_flush (ap (λ (o : Unanswered). o.op) u.2 ∙ same_op u.0)) ∙ h.3, sym (ap item_of u.2 ∙ same_item u.0) ∙ h.4),
   );
-  length_is = is.length_is ∙ sym (count_map (is_in_list list) (is_in_list list) g book
-      (λ y _. ap (λ (p : Port). (index_of_port p == list) && not (is_flush (g y).op)) (same_port y) ∙ ap (λ (o : Rattle.ata_types.specs.declared.request.Op.Op). (index_of_port y.port == list) && not (is_flush o)) (same_op y)));
+  length_is_request_count = is.length_is_request_count ∙ sym (count_map (is_in_list list) (is_in_list list) g book
+      (λ y _. ap (λ (p : Port). (list_number_of_port p == list) && not (is_flush (g y).op)) (same_port y) ∙ ap (λ (o : Rattle.ata_types.specs.declared.request.Op.Op). (list_number_of_port y.port == list) && not (is_flush o)) (same_op y)));
   distinct = is.distinct;
 }
 
 -- ---- the four lists
 
-pub in_four : (port : Port) → index_of_port port < 4
+pub in_four : (port : Port) → list_number_of_port port < 4
 in_four port = omega arith
 
-module _ (book : List Unanswered) (lists : List (List BookRange)) (is : AreIndexed book lists) (r : Unanswered) where
-  own_list : IsListOf (index_of_port r.port) book (get_or lists (index_of_port r.port) [])
-  own_list = is.each_is_list_of (index_of_port r.port) (in_four r.port)
+module _ (book : List Unanswered) (lists : List (List RequestRange)) (is : AreIndexed book lists) (r : Unanswered) where
+  own_list : IsSectorListOf (list_number_of_port r.port) book (get_or lists (list_number_of_port r.port) [])
+  own_list = is.each_is_list_of (list_number_of_port r.port) (in_four r.port)
 
   pub flush_accepted : is_flush r.op ≡ true → AreIndexed (book ++ r ∷ []) lists
   flush_accepted flush = record { four_lists = is.four_lists; each_is_list_of = λ list lt. other_accepted list book (get_or lists list []) (is.each_is_list_of list lt) r (flush_in_none list r flush) }
 
-  pub accepted : is_flush r.op ≡ false → All (λ o. o.id.0 < r.id.0) book → (place : ℕ) → place ≤ length (get_or lists (index_of_port r.port) [])
-      → AreIndexed (book ++ r ∷ []) (set lists (index_of_port r.port) (insert (get_or lists (index_of_port r.port) []) place (item_of r)))
+  pub accepted : is_flush r.op ≡ false → All (λ o. o.id.0 < r.id.0) book → (place : ℕ) → place ≤ length (get_or lists (list_number_of_port r.port) [])
+      → AreIndexed (book ++ r ∷ []) (set lists (list_number_of_port r.port) (insert (get_or lists (list_number_of_port r.port) []) place (item_of r)))
   accepted has newest place within =
-      set_indexed (book ++ r ∷ []) lists (index_of_port r.port) (insert (get_or lists (index_of_port r.port) []) place (item_of r)) (in_four r.port) is.four_lists
-      (own_accepted (index_of_port r.port) book (get_or lists (index_of_port r.port) []) own_list r refl has newest place within)
+      set_indexed (book ++ r ∷ []) lists (list_number_of_port r.port) (insert (get_or lists (list_number_of_port r.port) []) place (item_of r)) (in_four r.port) is.four_lists
+      (own_accepted (list_number_of_port r.port) book (get_or lists (list_number_of_port r.port) []) own_list r refl has newest place within)
       (λ list lt other. other_accepted list book (get_or lists list []) (is.each_is_list_of list lt) r (out_of_list list r other))
 
-  pub room_left : length book < MOST_UNANSWERED → length (get_or lists (index_of_port r.port) []) < MOST_UNANSWERED
-  room_left few = let n = own_list.length_is in let c = count_below (is_in_list (index_of_port r.port)) book in omega (arith, n, c, few)
+  pub room_left : length book < MOST_UNANSWERED → length (get_or lists (list_number_of_port r.port) []) < MOST_UNANSWERED
+  room_left few = let n = own_list.length_is_request_count in let c = count_below (is_in_list (list_number_of_port r.port)) book in omega (arith, n, c, few)
     where
       count_below : (p : Unanswered → Bool) (xs : List Unanswered) → count_by p xs ≤ length xs
       count_below p [] = omega arith
@@ -238,24 +238,24 @@ module _ (book : List Unanswered) (lists : List (List BookRange)) (is : AreIndex
           at_most true = omega arith
           at_most false = omega arith
 
-  pub items_fresh : All (λ o. o.id.0 < r.id.0) book → All (λ x. x.id ≢ (item_of r).id) (get_or lists (index_of_port r.port) [])
-  items_fresh newest = fresh_item (index_of_port r.port) book (get_or lists (index_of_port r.port) []) own_list r newest
+  pub items_fresh : All (λ o. o.id.0 < r.id.0) book → All (λ x. x.id ≢ (item_of r).id) (get_or lists (list_number_of_port r.port) [])
+  items_fresh newest = fresh_item (list_number_of_port r.port) book (get_or lists (list_number_of_port r.port) []) own_list r newest
 
   module _ (ordered : IsInOrder book) (i : ℕ) (update_if_id : slice_get book i ≡ Some r) where
     pub flush_answered : is_flush r.op ≡ true → AreIndexed (remove book i) lists
     flush_answered flush = record { four_lists = is.four_lists; each_is_list_of = λ list lt. other_answered list book (get_or lists list []) (is.each_is_list_of list lt) ordered i r update_if_id (flush_in_none list r flush) }
 
-    pub answered : is_flush r.op ≡ false → (place : ℕ) → slice_get (get_or lists (index_of_port r.port) []) place ≡ Some (item_of r)
-        → AreIndexed (remove book i) (set lists (index_of_port r.port) (remove (get_or lists (index_of_port r.port) []) place))
+    pub answered : is_flush r.op ≡ false → (place : ℕ) → slice_get (get_or lists (list_number_of_port r.port) []) place ≡ Some (item_of r)
+        → AreIndexed (remove book i) (set lists (list_number_of_port r.port) (remove (get_or lists (list_number_of_port r.port) []) place))
     answered has place found =
-        set_indexed (remove book i) lists (index_of_port r.port) (remove (get_or lists (index_of_port r.port) []) place) (in_four r.port) is.four_lists
-        (own_answered (index_of_port r.port) book (get_or lists (index_of_port r.port) []) own_list ordered i r update_if_id refl has place found)
+        set_indexed (remove book i) lists (list_number_of_port r.port) (remove (get_or lists (list_number_of_port r.port) []) place) (in_four r.port) is.four_lists
+        (own_answered (list_number_of_port r.port) book (get_or lists (list_number_of_port r.port) []) own_list ordered i r update_if_id refl has place found)
         (λ list lt other. other_answered list book (get_or lists list []) (is.each_is_list_of list lt) ordered i r update_if_id (out_of_list list r other))
 
-    pub its_item : is_flush r.op ≡ false → Contains (get_or lists (index_of_port r.port) []) (item_of r)
+    pub its_item : is_flush r.op ≡ false → Contains (get_or lists (list_number_of_port r.port) []) (item_of r)
     its_item has = (own_list.has_their_sectors (item_of r)).1 (r, (i, slice_get_within book i r update_if_id, get_or_from_slice_get book i r r update_if_id), refl, has, refl)
 
-pub changed_indexed : (book : List Unanswered) (lists : List (List BookRange)) (g : Unanswered → Unanswered) → ((r : Unanswered) → item_of (g r) ≡ item_of r) → ((r : Unanswered) → (g r).op ≡ r.op)
+pub changed_indexed : (book : List Unanswered) (lists : List (List RequestRange)) (g : Unanswered → Unanswered) → ((r : Unanswered) → item_of (g r) ≡ item_of r) → ((r : Unanswered) → (g r).op ≡ r.op)
     → ((r : Unanswered) → (g r).port ≡ r.port) → AreIndexed book lists → AreIndexed (map g book) lists
 changed_indexed book lists g same_item same_op same_port is = record {
   four_lists = is.four_lists;
@@ -263,35 +263,35 @@ changed_indexed book lists g same_item same_op same_port is = record {
 }
 
 -- the same place and list, by other words
-pub put_back : (book : List Unanswered) (lists : List (List BookRange)) (i j : ℕ) (x y : List BookRange) → i ≡ j → x ≡ y → AreIndexed book (set lists j y) → AreIndexed book (set lists i x)
-put_back book lists i j x y ei ex is = subst (λ (n : ℕ). AreIndexed book (set lists n x)) (sym ei) (subst (λ (z : List BookRange). AreIndexed book (set lists j z)) (sym ex) is)
+pub put_back : (book : List Unanswered) (lists : List (List RequestRange)) (i j : ℕ) (x y : List RequestRange) → i ≡ j → x ≡ y → AreIndexed book (set lists j y) → AreIndexed book (set lists i x)
+put_back book lists i j x y ei ex is = subst (λ (n : ℕ). AreIndexed book (set lists n x)) (sym ei) (subst (λ (z : List RequestRange). AreIndexed book (set lists j z)) (sym ex) is)
 
-pub by_default : (lists : List (List BookRange)) (i j : ℕ) (d : List BookRange) → i ≡ j → j < length lists → get_or lists i d ≡ get_or lists j []
+pub by_default : (lists : List (List RequestRange)) (i j : ℕ) (d : List RequestRange) → i ≡ j → j < length lists → get_or lists i d ≡ get_or lists j []
 by_default lists i j d e lt = ap (λ (n : ℕ). get_or lists n d) e ∙ get_or_default lists j d [] lt
 
 -- ---- of the book's own requests
 
-pub asks_more : (es : List BookEntry) (e : BookEntry) → unanswered_of (es ++ e ∷ []) ≡ unanswered_of es ++ as_unanswered e.entry ∷ []
-asks_more es e = map-append (λ (x : BookEntry). as_unanswered x.entry) es (e ∷ [])
+pub asks_more : (es : List BookEntry) (e : BookEntry) → unanswered_of (es ++ e ∷ []) ≡ unanswered_of es ++ as_unanswered e.request ∷ []
+asks_more es e = map-append (λ (x : BookEntry). as_unanswered x.request) es (e ∷ [])
 
 pub asks_less : (es : List BookEntry) (i : ℕ) → unanswered_of (remove es i) ≡ remove (unanswered_of es) i
 asks_less es i =
-    map-append (λ (x : BookEntry). as_unanswered x.entry) (take i es) (drop (suc i) es)
-    ∙ (ap (λ (xs : List Unanswered). xs ++ unanswered_of (drop (suc i) es)) (sym (take-map (λ (x : BookEntry). as_unanswered x.entry) i es))
-    ∙ ap (λ (xs : List Unanswered). take i (unanswered_of es) ++ xs) (sym (drop-map (λ (x : BookEntry). as_unanswered x.entry) (suc i) es)))
+    map-append (λ (x : BookEntry). as_unanswered x.request) (take i es) (drop (suc i) es)
+    ∙ (ap (λ (xs : List Unanswered). xs ++ unanswered_of (drop (suc i) es)) (sym (take-map (λ (x : BookEntry). as_unanswered x.request) i es))
+    ∙ ap (λ (xs : List Unanswered). take i (unanswered_of es) ++ xs) (sym (drop-map (λ (x : BookEntry). as_unanswered x.request) (suc i) es)))
 
 same_marked : (b : Bool) (r : Unanswered) (issued : Bool) → (item_of (cond b (record r { issued = issued }) r) ≡ item_of r)
     × ((cond b (record r { issued = issued }) r).op ≡ r.op) × ((cond b (record r { issued = issued }) r).port ≡ r.port)
 same_marked true r issued = (refl, refl, refl)
 same_marked false r issued = (refl, refl, refl)
 
-pub issued_indexed : (es : List BookEntry) (id : RequestId) (lists : List (List BookRange)) → AreIndexed (unanswered_of es) lists → AreIndexed (unanswered_of (map (update_if_id id issued_entry) es)) lists
+pub issued_indexed : (es : List BookEntry) (id : RequestId) (lists : List (List RequestRange)) → AreIndexed (unanswered_of es) lists → AreIndexed (unanswered_of (map (update_if_id id issued_request) es)) lists
 issued_indexed es id lists is = subst (λ (book : List Unanswered). AreIndexed book lists) (sym (after_issue es id))
     (changed_indexed (unanswered_of es) lists (mark_issued id) (λ r. (same_marked (r.id.0 == id.0) r true).0) (λ r. (same_marked (r.id.0 == id.0) r true).1) (λ r. (same_marked (r.id.0 == id.0) r true).2) is)
 
-pub requeued_indexed : (es : List BookEntry) (id : RequestId) (lists : List (List BookRange)) → AreIndexed (unanswered_of es) lists → AreIndexed (unanswered_of (map (update_if_id id requeued_entry) es)) lists
+pub requeued_indexed : (es : List BookEntry) (id : RequestId) (lists : List (List RequestRange)) → AreIndexed (unanswered_of es) lists → AreIndexed (unanswered_of (map (update_if_id id requeued_request) es)) lists
 requeued_indexed es id lists is = subst (λ (book : List Unanswered). AreIndexed book lists) (sym (after_requeue es id))
     (changed_indexed (unanswered_of es) lists (mark_waiting id) (λ r. (same_marked (r.id.0 == id.0) r false).0) (λ r. (same_marked (r.id.0 == id.0) r false).1) (λ r. (same_marked (r.id.0 == id.0) r false).2) is)
 
-pub asks_newest : (es : List BookEntry) (n : ℕ) → All (λ e. e.entry.id.0 < n) es → All (λ r. r.id.0 < n) (unanswered_of es)
-asks_newest es n newest = All-map (λ (r : Unanswered). r.id.0 < n) (λ (e : BookEntry). as_unanswered e.entry) es newest
+pub asks_newest : (es : List BookEntry) (n : ℕ) → All (λ e. e.request.id.0 < n) es → All (λ r. r.id.0 < n) (unanswered_of es)
+asks_newest es n newest = All-map (λ (r : Unanswered). r.id.0 < n) (λ (e : BookEntry). as_unanswered e.request) es newest

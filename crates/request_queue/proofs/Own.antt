@@ -16,7 +16,7 @@ use Rattle.block_machine.specs.DueRequests.{IsInOrder, is_plain, issued_count, f
 use Rattle.request_queue.specs.BookEntries.{BookEntry, as_unanswered, unanswered_of, due_ids}
 use Rattle.request_queue.specs.Blockers.{has_blocker, may_be_blocked, may_block, without_blocker}
 use Rattle.request_queue.specs.DueWalk.{IsReachedInWalk}
-use Rattle.request_queue.specs.RequestSlab.{unanswered_at, blank_entry}
+use Rattle.request_queue.specs.RequestSlab.{unanswered_at, blank_request}
 use Rattle.request_queue.proofs.Members.{count_append, count_cons, taken_more}
 use Rattle.request_queue.proofs.Unheld.{due_without, found, of_filter, one_found}
 
@@ -76,23 +76,23 @@ module _ (port : Port) (all book : List Unanswered) (is : book ≡ without_block
       → ((k : ℕ) (d : Unanswered) → k < i → is_plain mode (get_or book k d).op ≡ false) → IsReachedInWalk mode book i r
   reached order mode i r at queued = record { request_is_at_number = at; book_is_in_order = unheld_in_order order; all_are_of_its_port = of_port_of i r at; without_blocker = unheld_at i r at; earlier_are_queued = queued }
 
-  pub own_free : (mode : QueueMode) (free : ℕ) → free ≡ mode.usable - count_by (λ r. r.issued) book → free ≡ free_slots mode book port
-  own_free mode free counted = counted ∙ ap (λ (n : ℕ). mode.usable - n) (own_issued port book own)
+  pub own_free : (mode : QueueMode) (free : ℕ) → free ≡ mode.usable_slots - count_by (λ r. r.issued) book → free ≡ free_slots mode book port
+  own_free mode free counted = counted ∙ ap (λ (n : ℕ). mode.usable_slots - n) (own_issued port book own)
 
   pub own_due : (mode : QueueMode) (due : List RequestId) → due ≡ due_ids mode port book → due ≡ due_ids mode port all
   own_due mode due so_far = so_far ∙ ap (λ (rs : List Unanswered). map (λ (r : Unanswered). r.id) rs) (ap (due_of mode port) is ∙ due_without mode port all)
 
 -- as many as there are places
 pub as_long : (es : List BookEntry) (places : List ℕ) → length (unanswered_at es places) ≡ length places
-as_long es places = length-map places (λ (place : ℕ). get_or (unanswered_of es) place (as_unanswered blank_entry))
+as_long es places = length-map places (λ (place : ℕ). get_or (unanswered_of es) place (as_unanswered blank_request))
 
 -- the request at the place with a number
 pub at_number : (es : List BookEntry) (places read : List ℕ) (n : ℕ) (r : Unanswered) → n < length places → read ≡ places → slice_get (unanswered_of es) (get_or read n 0) ≡ Some r
     → slice_get (unanswered_at es places) n ≡ Some r
 at_number es places read n r lt same is =
-    slice_get-map (λ (place : ℕ). get_or (unanswered_of es) place (as_unanswered blank_entry)) places n
-    ∙ (ap (option_map (λ (place : ℕ). get_or (unanswered_of es) place (as_unanswered blank_entry))) (slice_get-get_or places n 0 lt)
-    ∙ ap Some (ap (λ (xs : List ℕ). get_or (unanswered_of es) (get_or xs n 0) (as_unanswered blank_entry)) (sym same) ∙ get_or_from_slice_get (unanswered_of es) (get_or read n 0) r (as_unanswered blank_entry) is))
+    slice_get-map (λ (place : ℕ). get_or (unanswered_of es) place (as_unanswered blank_request)) places n
+    ∙ (ap (option_map (λ (place : ℕ). get_or (unanswered_of es) place (as_unanswered blank_request))) (slice_get-get_or places n 0 lt)
+    ∙ ap Some (ap (λ (xs : List ℕ). get_or (unanswered_of es) (get_or xs n 0) (as_unanswered blank_request)) (sym same) ∙ get_or_from_slice_get (unanswered_of es) (get_or read n 0) r (as_unanswered blank_request) is))
 
 -- one place more
 module _ (p : Unanswered → Bool) (es : List BookEntry) (places : List ℕ) (i : ℕ) (r : Unanswered) (is : slice_get (unanswered_of es) i ≡ Some r)
@@ -102,9 +102,9 @@ module _ (p : Unanswered → Bool) (es : List BookEntry) (places : List ℕ) (i 
 
   pub one_in : p r ≡ true → unanswered_at es (places ++ i ∷ []) ≡ filter p (take (i + 1) (unanswered_of es))
   one_in passes =
-      map-append (λ (place : ℕ). get_or (unanswered_of es) place (as_unanswered blank_entry)) places (i ∷ [])
-      ∙ (ap (λ (xs : List Unanswered). xs ++ get_or (unanswered_of es) i (as_unanswered blank_entry) ∷ []) so_far
-      ∙ (ap (λ (x : Unanswered). filter p (take i (unanswered_of es)) ++ x ∷ []) (get_or_from_slice_get (unanswered_of es) i r (as_unanswered blank_entry) is)
+      map-append (λ (place : ℕ). get_or (unanswered_of es) place (as_unanswered blank_request)) places (i ∷ [])
+      ∙ (ap (λ (xs : List Unanswered). xs ++ get_or (unanswered_of es) i (as_unanswered blank_request) ∷ []) so_far
+      ∙ (ap (λ (x : Unanswered). filter p (take i (unanswered_of es)) ++ x ∷ []) (get_or_from_slice_get (unanswered_of es) i r (as_unanswered blank_request) is)
       ∙ sym (more ∙ ap (λ (xs : List Unanswered). filter p (take i (unanswered_of es)) ++ xs) (cond-true (p r) (r ∷ []) [] passes))))
 
   pub one_out : p r ≡ false → unanswered_at es places ≡ filter p (take (i + 1) (unanswered_of es))
@@ -115,8 +115,8 @@ module _ (p : Unanswered → Bool) (es : List BookEntry) (places : List ℕ) (i 
 module _ (es : List BookEntry) (places : List ℕ) (i : ℕ) (r : Unanswered) (is : slice_get (unanswered_of es) i ≡ Some r) (p : Unanswered → Bool) where
   pub asked_more : unanswered_at es (places ++ i ∷ []) ≡ unanswered_at es places ++ r ∷ []
   asked_more =
-      map-append (λ (place : ℕ). get_or (unanswered_of es) place (as_unanswered blank_entry)) places (i ∷ [])
-      ∙ ap (λ (x : Unanswered). unanswered_at es places ++ x ∷ []) (get_or_from_slice_get (unanswered_of es) i r (as_unanswered blank_entry) is)
+      map-append (λ (place : ℕ). get_or (unanswered_of es) place (as_unanswered blank_request)) places (i ∷ [])
+      ∙ ap (λ (x : Unanswered). unanswered_at es places ++ x ∷ []) (get_or_from_slice_get (unanswered_of es) i r (as_unanswered blank_request) is)
 
   pub counted_more : count_by p (unanswered_at es (places ++ i ∷ [])) ≡ count_by p (unanswered_at es places) + cond (p r) 1 0
   counted_more =

@@ -11,7 +11,7 @@ use Rattle.block_machine.specs.DueRequests.{IsDue, due_of}
 use Rattle.block_machine.specs.State.{unanswered, newly_unanswered}
 use Rattle.block_machine.specs.State as machine
 use Rattle.block_machine.specs.Steps as steps
-use Rattle.request_queue.specs.BookEntries.{BookEntry, as_unanswered, unanswered_of, has_id, update_if_id, without_entry, issued_entry, requeued_entry, aged_entry, aged_entries, marked_under, all_marked_under, entry_count_of_client, due_ids}
+use Rattle.request_queue.specs.BookEntries.{BookEntry, as_unanswered, unanswered_of, has_id, update_if_id, without_entry, issued_request, requeued_request, aged_request, aged_entries, revoked_under_grant, all_revoked_under_grant, entry_count_of_client, due_ids}
 use Rattle.request_queue.specs.BookRelation.{EntryRelation, BookRelation}
 use Rattle.request_queue.specs.declared.PendingRequest.{PendingRequest}
 use Rattle.request_queue.proofs.Members.{contains_none, contains_here, contains_there, contains_cases, count_cons, map_in, into_map}
@@ -79,17 +79,17 @@ like_left R (a ∷ xs) (b ∷ ys) all y here = ⊎_elim
 same_asks : (a b : Unanswered) → a.id ≡ b.id → a.port ≡ b.port → a.op ≡ b.op → a.range ≡ b.range → a.issued ≡ b.issued → a ≡ b
 same_asks a b p q r s t = λ i. record { id = p i; port = q i; op = r i; range = s i; issued = t i }
 
-pub asked_alike : (e : BookEntry) (p : machine.Pending) → EntryRelation e p → unanswered p ≡ as_unanswered e.entry
-asked_alike e p s = same_asks (unanswered p) (as_unanswered e.entry) s.id s.port s.op s.range s.issued
+pub asked_alike : (e : BookEntry) (p : machine.Pending) → EntryRelation e p → unanswered p ≡ as_unanswered e.request
+asked_alike e p s = same_asks (unanswered p) (as_unanswered e.request) s.id s.port s.op s.range s.issued
 
 -- the machine's due requests are the book's
 pub same_book : (es : List BookEntry) (ps : List machine.Pending) → BookRelation es ps → map unanswered ps ≡ unanswered_of es
 same_book [] [] all = refl
 same_book [] (p ∷ ps) all = absurd all
 same_book (e ∷ es) [] all = absurd all
-same_book (e ∷ es) (p ∷ ps) all = ap (λ (u : Unanswered). u ∷ map unanswered ps) (asked_alike e p all.0) ∙ ap (λ (us : List Unanswered). as_unanswered e.entry ∷ us) (same_book es ps all.1)
+same_book (e ∷ es) (p ∷ ps) all = ap (λ (u : Unanswered). u ∷ map unanswered ps) (asked_alike e p all.0) ∙ ap (λ (us : List Unanswered). as_unanswered e.request ∷ us) (same_book es ps all.1)
 
-at_both : (id : RequestId) (f : PendingRequest → PendingRequest) (g : machine.Pending → machine.Pending) → ((e : BookEntry) (p : machine.Pending) → EntryRelation e p → EntryRelation (record e { entry = f e.entry }) (g p))
+at_both : (id : RequestId) (f : PendingRequest → PendingRequest) (g : machine.Pending → machine.Pending) → ((e : BookEntry) (p : machine.Pending) → EntryRelation e p → EntryRelation (record e { request = f e.request }) (g p))
     → (e : BookEntry) (p : machine.Pending) → EntryRelation e p → EntryRelation (update_if_id id f e) (steps.update_pending id g p)
 at_both id f g step e p s = go (has_id id e) refl
   where
@@ -98,16 +98,16 @@ at_both id f g step e p s = go (has_id id e) refl
 
     go : (b : Bool) → has_id id e ≡ b → EntryRelation (update_if_id id f e) (steps.update_pending id g p)
     go true here =
-        subst (λ (x : BookEntry). EntryRelation x (steps.update_pending id g p)) (sym (cond-true (has_id id e) (record e { entry = f e.entry }) e here))
-        (subst (λ (y : machine.Pending). EntryRelation (record e { entry = f e.entry }) y) (sym (cond-true (p.request.id.0 == id.0) (g p) p (same ∙ here))) (step e p s))
+        subst (λ (x : BookEntry). EntryRelation x (steps.update_pending id g p)) (sym (cond-true (has_id id e) (record e { request = f e.request }) e here))
+        (subst (λ (y : machine.Pending). EntryRelation (record e { request = f e.request }) y) (sym (cond-true (p.request.id.0 == id.0) (g p) p (same ∙ here))) (step e p s))
     go false here =
-        subst (λ (x : BookEntry). EntryRelation x (steps.update_pending id g p)) (sym (cond-false (has_id id e) (record e { entry = f e.entry }) e here))
+        subst (λ (x : BookEntry). EntryRelation x (steps.update_pending id g p)) (sym (cond-false (has_id id e) (record e { request = f e.request }) e here))
         (subst (λ (y : machine.Pending). EntryRelation e y) (sym (cond-false (p.request.id.0 == id.0) (g p) p (same ∙ here))) s)
 
-one_issued : (e : BookEntry) (p : machine.Pending) → EntryRelation e p → EntryRelation (record e { entry = issued_entry e.entry }) (steps.newly_issued p)
+one_issued : (e : BookEntry) (p : machine.Pending) → EntryRelation e p → EntryRelation (record e { request = issued_request e.request }) (steps.newly_issued p)
 one_issued e p s = record { id = s.id; client = s.client; grant = s.grant; port = s.port; op = s.op; range = s.range; frames = s.frames; issued = refl; issues = ap suc s.issues; age = refl }
 
-one_waits : (e : BookEntry) (p : machine.Pending) → EntryRelation e p → EntryRelation (record e { entry = requeued_entry e.entry }) (steps.requeued p)
+one_waits : (e : BookEntry) (p : machine.Pending) → EntryRelation e p → EntryRelation (record e { request = requeued_request e.request }) (steps.requeued p)
 one_waits e p s = record { id = s.id; client = s.client; grant = s.grant; port = s.port; op = s.op; range = s.range; frames = s.frames; issued = refl; issues = s.issues; age = s.age }
 
 one_touched : (i : ℕ) (e : BookEntry) (p : machine.Pending) → EntryRelation e p → EntryRelation e (steps.touch i p)
@@ -124,23 +124,23 @@ at_right id g step e p s = go (p.request.id.0 == id.0) refl
     go true here = subst (λ (y : machine.Pending). EntryRelation e y) (sym (cond-true (p.request.id.0 == id.0) (g p) p here)) (step e p s)
     go false here = subst (λ (y : machine.Pending). EntryRelation e y) (sym (cond-false (p.request.id.0 == id.0) (g p) p here)) s
 
-one_revoked : (client : ClientId) (grant : ℕ) (e : BookEntry) (p : machine.Pending) → EntryRelation e p → EntryRelation (record e { entry = marked_under client grant e.entry }) p
-one_revoked client grant e p s = either_way (λ (r : PendingRequest). EntryRelation (record e { entry = r }) p) (is_same_grant_name client grant e.entry.client e.entry.grant) (record (e.entry) { revoked = true }) e.entry
+one_revoked : (client : ClientId) (grant : ℕ) (e : BookEntry) (p : machine.Pending) → EntryRelation e p → EntryRelation (record e { request = revoked_under_grant client grant e.request }) p
+one_revoked client grant e p s = either_way (λ (r : PendingRequest). EntryRelation (record e { request = r }) p) (is_same_grant_name client grant e.request.client e.request.grant) (record (e.request) { revoked = true }) e.request
     (record { id = s.id; client = s.client; grant = s.grant; port = s.port; op = s.op; range = s.range; frames = s.frames; issued = s.issued; issues = s.issues; age = s.age }) s
 
-one_older : (ports : Port → Bool) (e : BookEntry) (p : machine.Pending) → EntryRelation e p → EntryRelation (record e { entry = aged_entry ports e.entry }) (steps.aged_pending ports p)
-one_older ports e p s = go (e.entry.issued && ports e.entry.port) refl
+one_older : (ports : Port → Bool) (e : BookEntry) (p : machine.Pending) → EntryRelation e p → EntryRelation (record e { request = aged_request ports e.request }) (steps.aged_pending ports p)
+one_older ports e p s = go (e.request.issued && ports e.request.port) refl
   where
-    same : (p.issued && ports p.request.port) ≡ (e.entry.issued && ports e.entry.port)
-    same = ap (λ (b : Bool). b && ports p.request.port) s.issued ∙ ap (λ (q : Port). e.entry.issued && ports q) s.port
+    same : (p.issued && ports p.request.port) ≡ (e.request.issued && ports e.request.port)
+    same = ap (λ (b : Bool). b && ports p.request.port) s.issued ∙ ap (λ (q : Port). e.request.issued && ports q) s.port
 
-    go : (b : Bool) → (e.entry.issued && ports e.entry.port) ≡ b → EntryRelation (record e { entry = aged_entry ports e.entry }) (steps.aged_pending ports p)
+    go : (b : Bool) → (e.request.issued && ports e.request.port) ≡ b → EntryRelation (record e { request = aged_request ports e.request }) (steps.aged_pending ports p)
     go true here =
-        subst (λ (r : PendingRequest). EntryRelation (record e { entry = r }) (steps.aged_pending ports p)) (sym (cond-true (e.entry.issued && ports e.entry.port) (record (e.entry) { age = min (suc e.entry.age) 3 }) e.entry here))
-        (subst (λ (y : machine.Pending). EntryRelation (record e { entry = record (e.entry) { age = min (suc e.entry.age) 3 } }) y) (sym (cond-true (p.issued && ports p.request.port) (record p { age = suc p.age }) p (same ∙ here)))
+        subst (λ (r : PendingRequest). EntryRelation (record e { request = r }) (steps.aged_pending ports p)) (sym (cond-true (e.request.issued && ports e.request.port) (record (e.request) { age = min (suc e.request.age) 3 }) e.request here))
+        (subst (λ (y : machine.Pending). EntryRelation (record e { request = record (e.request) { age = min (suc e.request.age) 3 } }) y) (sym (cond-true (p.issued && ports p.request.port) (record p { age = suc p.age }) p (same ∙ here)))
         (record { id = s.id; client = s.client; grant = s.grant; port = s.port; op = s.op; range = s.range; frames = s.frames; issued = s.issued; issues = s.issues; age = (let a = s.age in omega (arith, a)) }))
     go false here =
-        subst (λ (r : PendingRequest). EntryRelation (record e { entry = r }) (steps.aged_pending ports p)) (sym (cond-false (e.entry.issued && ports e.entry.port) (record (e.entry) { age = min (suc e.entry.age) 3 }) e.entry here))
+        subst (λ (r : PendingRequest). EntryRelation (record e { request = r }) (steps.aged_pending ports p)) (sym (cond-false (e.request.issued && ports e.request.port) (record (e.request) { age = min (suc e.request.age) 3 }) e.request here))
         (subst (λ (y : machine.Pending). EntryRelation e y) (sym (cond-false (p.issued && ports p.request.port) (record p { age = suc p.age }) p (same ∙ here))) s)
 
 -- ---- a step of each
@@ -148,20 +148,20 @@ one_older ports e p s = go (e.entry.issued && ports e.entry.port) refl
 pub goes_last : (es : List BookEntry) (ps : List machine.Pending) (e : BookEntry) (p : machine.Pending) → BookRelation es ps → EntryRelation e p → BookRelation (es ++ e ∷ []) (ps ++ p ∷ [])
 goes_last es ps e p is last = zip_push EntryRelation es ps e p is last
 
-pub is_issued : (es : List BookEntry) (ps : List machine.Pending) (id : RequestId) → BookRelation es ps → BookRelation (map (update_if_id id issued_entry) es) (map (steps.update_pending id steps.newly_issued) ps)
-is_issued es ps id is = zip_both EntryRelation (update_if_id id issued_entry) (steps.update_pending id steps.newly_issued) (at_both id issued_entry steps.newly_issued one_issued) es ps is
+pub is_issued : (es : List BookEntry) (ps : List machine.Pending) (id : RequestId) → BookRelation es ps → BookRelation (map (update_if_id id issued_request) es) (map (steps.update_pending id steps.newly_issued) ps)
+is_issued es ps id is = zip_both EntryRelation (update_if_id id issued_request) (steps.update_pending id steps.newly_issued) (at_both id issued_request steps.newly_issued one_issued) es ps is
 
-pub waits_again : (es : List BookEntry) (ps : List machine.Pending) (id : RequestId) → BookRelation es ps → BookRelation (map (update_if_id id requeued_entry) es) (map (steps.update_pending id steps.requeued) ps)
-waits_again es ps id is = zip_both EntryRelation (update_if_id id requeued_entry) (steps.update_pending id steps.requeued) (at_both id requeued_entry steps.requeued one_waits) es ps is
+pub waits_again : (es : List BookEntry) (ps : List machine.Pending) (id : RequestId) → BookRelation es ps → BookRelation (map (update_if_id id requeued_request) es) (map (steps.update_pending id steps.requeued) ps)
+waits_again es ps id is = zip_both EntryRelation (update_if_id id requeued_request) (steps.update_pending id steps.requeued) (at_both id requeued_request steps.requeued one_waits) es ps is
 
 pub is_answered : (es : List BookEntry) (ps : List machine.Pending) (id : RequestId) → BookRelation es ps → BookRelation (without_entry id es) (steps.without_pending id ps)
 is_answered es ps id is = zip_filter EntryRelation (λ e. not (has_id id e)) (λ p. not (p.request.id.0 == id.0)) (λ e p s. ap (λ (i : RequestId). not (i.0 == id.0)) (sym s.id)) es ps is
 
 pub is_older : (es : List BookEntry) (ps : List machine.Pending) (ports : Port → Bool) → BookRelation es ps → BookRelation (aged_entries ports es) (map (steps.aged_pending ports) ps)
-is_older es ps ports is = zip_both EntryRelation (λ (e : BookEntry). record e { entry = aged_entry ports e.entry }) (steps.aged_pending ports) (one_older ports) es ps is
+is_older es ps ports is = zip_both EntryRelation (λ (e : BookEntry). record e { request = aged_request ports e.request }) (steps.aged_pending ports) (one_older ports) es ps is
 
-pub is_revoked : (es : List BookEntry) (ps : List machine.Pending) (client : ClientId) (grant : ℕ) → BookRelation es ps → BookRelation (all_marked_under client grant es) ps
-is_revoked es ps client grant is = zip_left EntryRelation (λ (e : BookEntry). record e { entry = marked_under client grant e.entry }) (one_revoked client grant) es ps is
+pub is_revoked : (es : List BookEntry) (ps : List machine.Pending) (client : ClientId) (grant : ℕ) → BookRelation es ps → BookRelation (all_revoked_under_grant client grant es) ps
+is_revoked es ps client grant is = zip_left EntryRelation (λ (e : BookEntry). record e { request = revoked_under_grant client grant e.request }) (one_revoked client grant) es ps is
 
 pub is_touched : (es : List BookEntry) (ps : List machine.Pending) (id : RequestId) (i : ℕ) → BookRelation es ps → BookRelation es (map (steps.update_pending id (steps.touch i)) ps)
 is_touched es ps id i is = zip_right EntryRelation (steps.update_pending id (steps.touch i)) (at_right id (steps.touch i) (one_touched i)) es ps is
@@ -213,5 +213,5 @@ as_many [] (p ∷ ps) client all = absurd all
 as_many (e ∷ es) [] client all = absurd all
 as_many (e ∷ es) (p ∷ ps) client all =
     let rest = as_many es ps client all.1 in
-    let first : ◌≡◌ {A = ℕ} (cond (p.request.asked.client.0 == client.0) 1 0) (cond (e.entry.client.0 == client.0) 1 0) = ap (λ (c : ClientId). cond {A = ℕ} (c.0 == client.0) 1 0) all.0.client in
-    omega (arith, rest, first, count_cons (λ (x : machine.Pending). x.request.asked.client.0 == client.0) p ps, count_cons (λ (x : BookEntry). x.entry.client.0 == client.0) e es)
+    let first : ◌≡◌ {A = ℕ} (cond (p.request.asked.client.0 == client.0) 1 0) (cond (e.request.client.0 == client.0) 1 0) = ap (λ (c : ClientId). cond {A = ℕ} (c.0 == client.0) 1 0) all.0.client in
+    omega (arith, rest, first, count_cons (λ (x : machine.Pending). x.request.asked.client.0 == client.0) p ps, count_cons (λ (x : BookEntry). x.request.client.0 == client.0) e es)

@@ -6,14 +6,14 @@ use Rattle.std.proofs.lemmas.List.Elements.{All-contains}
 use Rattle.slab.specs.Slab.{Slab, get, slab_len, Updates}
 use Rattle.ata_types.specs.declared.request.RequestId.{RequestId}
 use Rattle.dma_frames.specs.Loan.{Lending}
-use Rattle.dma_frames.specs.FrameTables.{FrameOwnership, lent_to}
+use Rattle.dma_frames.specs.FrameTables.{OwnersAndLoans, lent_to}
 use Rattle.request_queue.specs.BookEntries.{BookEntry, HasItsFrames}
-use Rattle.request_queue.specs.RequestSlab.{entries, entry_at_key, KeyHasLoan, SlabIsSound}
+use Rattle.request_queue.specs.RequestSlab.{slab_entries, entry_at_key, KeyHasRequestAndLoan, SlabIsSound}
 use Rattle.request_queue.specs.declared.PendingRequest.{PendingRequest}
 use Rattle.request_queue.proofs.Changing.{there}
 use Rattle.request_queue.proofs.Keeping.{entries_less, sound_less, entry_there, loan_of_request, key_in_place}
 
-module _ (s s' : Slab PendingRequest) (loans : List (Option Lending)) (order : List ℕ) (es : List BookEntry) (view : entries s loans order ≡ es) (sound : SlabIsSound s loans order)
+module _ (s s' : Slab PendingRequest) (loans : List (Option Lending)) (order : List ℕ) (es : List BookEntry) (view : slab_entries s loans order ≡ es) (sound : SlabIsSound s loans order)
     (place key : ℕ) (inside : place < length es) (its : key ≡ get_or order place key) (updates : Updates s s' key None) where
   within : place < length order
   within =
@@ -23,7 +23,7 @@ module _ (s s' : Slab PendingRequest) (loans : List (Option Lending)) (order : L
   is_key : (d : ℕ) → get_or order place d ≡ key
   is_key d = get_or_default order place d key within ∙ sym its
 
-  pub rest_is : entries s' (set loans key None) (remove order place) ≡ remove es place
+  pub rest_is : slab_entries s' (set loans key None) (remove order place) ≡ remove es place
   rest_is = entries_less s s' loans order key sound place within is_key updates ∙ ap (λ (xs : List BookEntry). remove xs place) view
 
   pub still_sound : slab_len s' + 1 ≡ slab_len s → s'.capacity ≡ s.capacity → SlabIsSound s' (set loans key None) (remove order place)
@@ -32,23 +32,23 @@ module _ (s s' : Slab PendingRequest) (loans : List (Option Lending)) (order : L
   -- a loan is held for it
   pub its_place : (slot : Option Lending) → slot ≡ get_or loans key slot → (loan : Lending) × (slot ≡ Some loan)
   its_place slot at =
-      let k = subst (KeyHasLoan s loans) (is_key 0) (sound.keys_have_loans place 0 within) in
-      (k.loan, at ∙ (get_or_default loans key slot None k.in_place ∙ k.has_loan))
+      let k = subst (KeyHasRequestAndLoan s loans) (is_key 0) (sound.keys_have_loans place 0 within) in
+      (k.loan, at ∙ (get_or_default loans key slot None k.key_is_in_range ∙ k.has_loan))
 
   module _ (slot : Option Lending) (at : slot ≡ get_or loans key slot) (request : PendingRequest) (loan : Lending) (has_request : get s key ≡ Some request) (is : slot ≡ Some loan) where
     has_loan : get_or loans key None ≡ Some loan
     has_loan = get_or_default loans key None slot (key_in_place s s' loans order key sound place within is_key updates) ∙ (sym at ∙ is)
 
-    pub taken_is : slice_get es place ≡ Some (record { entry = request; frames = loan.frames })
-    taken_is = subst (λ (xs : List BookEntry). slice_get xs place ≡ Some (record { entry = request; frames = loan.frames })) view
+    pub taken_is : slice_get es place ≡ Some (record { request = request; frames = loan.frames })
+    taken_is = subst (λ (xs : List BookEntry). slice_get xs place ≡ Some (record { request = request; frames = loan.frames })) view
         (entry_there s s' loans order key sound place within is_key updates request loan has_request has_loan)
 
     pub its_loan : loan.request ≡ request.id
     its_loan = loan_of_request s s' loans order key sound place within is_key updates request loan has_request has_loan
 
     -- what was lent to it may be given back
-    pub may_go_back : (table : FrameOwnership) → All (HasItsFrames table) es → All (λ f. lent_to table f ≡ Some loan.request) loan.frames
+    pub may_go_back : (table : OwnersAndLoans) → All (HasItsFrames table) es → All (λ f. lent_to table f ≡ Some loan.request) loan.frames
     may_go_back table stands =
-        let e : BookEntry = record { entry = request; frames = loan.frames } in
+        let e : BookEntry = record { request = request; frames = loan.frames } in
         subst (λ (id : RequestId). All (λ f. lent_to table f ≡ Some id) loan.frames) (sym its_loan)
         (All-contains (HasItsFrames table) es e stands (there es place e taken_is))

@@ -255,7 +255,7 @@ module _ (mode : QueueMode) (port : Port) (book : List Unanswered) where
       let own = (and_parts (r.port.0 == port.0) _ passes).0 in
       let its : r.port ≡ port = ap (λ (n : ℕ). record { 0 = n }) (eqb-true r.port.0 port.0 own) in
       let slots : free_slots mode (without_blocker port book) r.port ≡ free_slots mode book r.port =
-      subst (λ (x : Port). free_slots mode (without_blocker port book) x ≡ free_slots mode book x) (sym its) (ap (λ (n : ℕ). mode.usable - n) same_issued) in
+      subst (λ (x : Port). free_slots mode (without_blocker port book) x ≡ free_slots mode book x) (sym its) (ap (λ (n : ℕ). mode.usable_slots - n) same_issued) in
       ap (λ (b : Bool). b && (is_plain mode r.op || nat_lt (unblocked_ahead_count mode (without_blocker port book) r) (free_slots mode (without_blocker port book) r.port))) (same_clear r passes)
       ∙ (ap (λ (n : ℕ). is_unblocked mode book r && (is_plain mode r.op || nat_lt n (free_slots mode (without_blocker port book) r.port))) (same_ahead r own)
       ∙ ap (λ (n : ℕ). is_unblocked mode book r && (is_plain mode r.op || nat_lt (unblocked_ahead_count mode book r) n)) slots)

@@ -182,11 +182,11 @@ has_all before by_due mode port book ordered i r at mine due so_far given free c
     many = counted ∙ (ap length so_far ∙ (length-map (filter (due_test mode port book) (take (i + 1) book)) (λ (x : Unanswered). x.id) ∙ length-filter (due_test mode port book) (take (i + 1) book)))
 
 -- a walk that goes on has room for one more
-pub has_room : (mode : QueueMode) (port : Port) (book : List Unanswered) (r : Unanswered) (given free : ℕ) → free ≡ free_slots mode book port → mode.usable ≤ 32
+pub has_room : (mode : QueueMode) (port : Port) (book : List Unanswered) (r : Unanswered) (given free : ℕ) → free ≡ free_slots mode book port → mode.usable_slots ≤ 32
     → end_test mode r given free ≡ false → given < 32
 has_room mode port book r given free slots small goes_on =
     by (nat_lt given free) refl
   where
     by : (b : Bool) → nat_lt given free ≡ b → given < 32
-    by true lt = let l = ltb-true given free lt in let f : free_slots mode book port ≤ mode.usable = omega arith in omega (arith, l, f, small, slots)
+    by true lt = let l = ltb-true given free lt in let f : free_slots mode book port ≤ mode.usable_slots = omega arith in omega (arith, l, f, small, slots)
     by false ge = absurd (both_ways _ goes_on (or_right (is_plain mode r.op) _ (ap not ge)))

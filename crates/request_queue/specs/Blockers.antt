@@ -52,7 +52,8 @@ is_blocked_by id None = false
 is_blocked_by id (Some blocker) = blocker.0 == id.0
 
 -- The same, but for those from a place on whose blocker has left the book: the one with this id.
-pub record AreBlockersBut (id : RequestId) (place : ℕ) (book : List Unanswered) (blockers : List (Option RequestId))
+pub record AreBlockersExceptOf (id : RequestId) (place : ℕ) (book : List Unanswered)
+    (blockers : List (Option RequestId))
     : Type 0 where
   pub lengths_are_same : length blockers ≡ length book
   pub blockers_before_place : (k : ℕ) (d : Unanswered) → k < place → k < length book

@@ -10,8 +10,8 @@ use Rattle.request_queue.specs.BookEntries.{BookEntry, as_unanswered, unanswered
 use Rattle.request_queue.specs.declared.PendingRequest.{PendingRequest}
 
 -- what an empty key would show; `SlabIsSound` says that none is shown
-abbrev pub blank_entry : PendingRequest
-blank_entry = record {
+abbrev pub blank_request : PendingRequest
+blank_request = record {
   id = record { 0 = 0 };
   client = record { 0 = 0 };
   grant = 0;
@@ -19,7 +19,7 @@ blank_entry = record {
   op = Read;
   range = record { first = record { 0 = 0 }; count = 0 };
   issued = false;
-  issues = 0;
+  issue_count = 0;
   age = 0;
   revoked = false;
 }
@@ -32,22 +32,23 @@ frames_of (Some loan) = loan.frames
 -- what stands at a key
 abbrev pub entry_at_key : Slab PendingRequest → List (Option Lending) → ℕ → BookEntry
 entry_at_key requests loans key = record {
-  entry = unwrap_or (get requests key) blank_entry;
+  request = unwrap_or (get requests key) blank_request;
   frames = frames_of (slice_index_or loans key None);
 }
 
 -- the requests in order of acceptance: what contracts see of a store
-abbrev pub entries : Slab PendingRequest → List (Option Lending) → List ℕ → List BookEntry
-entries requests loans order = map (entry_at_key requests loans) order
+abbrev pub slab_entries : Slab PendingRequest → List (Option Lending) → List ℕ → List BookEntry
+slab_entries requests loans order = map (entry_at_key requests loans) order
 
 -- the key has a request, and beside it the loan of that request
-pub record KeyHasLoan (requests : Slab PendingRequest) (loans : List (Option Lending)) (key : ℕ) : Type 0 where
-  pub request : PendingRequest
-  pub loan : Lending
-  pub has_request : get requests key ≡ Some request
-  pub has_loan : slice_index_or loans key None ≡ Some loan
-  pub same_id : loan.request ≡ request.id
-  pub in_place : key < length loans
+pub record KeyHasRequestAndLoan (requests : Slab PendingRequest) (loans : List (Option Lending)) (key : ℕ) : Type 0
+  where
+    pub request : PendingRequest
+    pub loan : Lending
+    pub has_request : get requests key ≡ Some request
+    pub has_loan : slice_index_or loans key None ≡ Some loan
+    pub same_id : loan.request ≡ request.id
+    pub key_is_in_range : key < length loans
 
 -- each key in the order has its request and loan, and no other key has one
 pub record SlabIsSound (requests : Slab PendingRequest) (loans : List (Option Lending)) (order : List ℕ) : Type 0 where
@@ -55,10 +56,11 @@ pub record SlabIsSound (requests : Slab PendingRequest) (loans : List (Option Le
   pub one_loan_place_a_key : length loans ≡ requests.capacity
   pub store_lengths_agree : slab_len requests ≡ length order
   pub distinct : AllPairs (λ (a : ℕ) (b : ℕ). a ≢ b) order
-  pub keys_have_loans : All (KeyHasLoan requests loans) order
+  pub keys_have_loans : All (KeyHasRequestAndLoan requests loans) order
   pub other_keys_are_vacant : (key : ℕ) → (Contains order key → ⊥) → (get requests key ≡ None)
       × (slice_index_or loans key None ≡ None)
 
 -- what of the requests at these places says whether they are due
 abbrev pub unanswered_at : List BookEntry → List ℕ → List Unanswered
-unanswered_at held places = map (λ place. slice_index_or (unanswered_of held) place (as_unanswered blank_entry)) places
+unanswered_at held places = map (λ place. slice_index_or (unanswered_of held) place (as_unanswered blank_request))
+    places

@@ -1,19 +1,14 @@
 // An earlier request that each waiting read or write conflicts with, so that no walk has to search for it anew.
-ghost use Rattle.std.specs.Prelude.{◌≡◌, ◌<◌, ◌≤◌, ◌&&◌, [], length, false, true, Contains, List, IfNone, IfOk, IfSome, not, remove, vec_capacity};
-ghost use Rattle.std.specs.List.{list_any};
+ghost use Rattle.std.specs.{Prelude.{◌≡◌, ◌<◌, ◌≤◌, ◌&&◌, [], length, false, true, Contains, List, IfNone, IfOk, IfSome, not, remove, vec_capacity}, List.{list_any}};
 ghost use Rattle.block_machine.specs.declared.due.Unanswered.{Unanswered};
-ghost use Rattle.request_queue.specs.Conflicts.{AreConflictLists};
-ghost use Rattle.request_queue.specs.BookEntries.{unanswered_of};
-ghost use Rattle.request_queue.specs.Flushes.{flushes_among, is_earlier_flush};
-ghost use Rattle.request_queue.specs.Blockers.{AreBlockers, AreBlockersBut, IsBlockerOf, is_read_or_write, may_be_blocked};
-ghost use Rattle.request_queue.specs.Sectors.{AreIndexed};
+ghost use Rattle.request_queue.specs.{Conflicts.{AreConflictLists}, BookEntries.{unanswered_of}, Flushes.{flushes_among, is_earlier_flush}, Blockers.{AreBlockers, AreBlockersExceptOf, IsBlockerOf, is_read_or_write, may_be_blocked}, Sectors.{AreIndexed}};
 
 use crate::blocker::Blocker;
 use crate::conflicts::Conflicts;
 use crate::flushes::{Flush, earlier_flush};
-use crate::ranges::Ranges;
+use crate::ranges::RangeIndex;
 use crate::request_slab::RequestSlab;
-use crate::sectors::{index_of_port, item_of};
+use crate::sectors::{item_of, list_number_of_port};
 use ata_types::{MOST_UNANSWERED, Op, PORTS, RequestId};
 use block_machine::Unanswered;
 use std::alloc::{AllocError, Global};
@@ -28,14 +23,14 @@ pub fn empty_blockers(alloc: Global) -> Result<Vec<Blocker>, AllocError>
 
 /// The blocker of a request: an earlier one that conflicts with it, if there is one, by its sectors or as a flush. None
 /// but a read or a write that waits has one.
-pub fn blocker_of(sectors: &[Ranges; PORTS], flushes: &[Flush], request: &Unanswered) -> Blocker
+pub fn blocker_of(sectors: &[RangeIndex; PORTS], flushes: &[Flush], request: &Unanswered) -> Blocker
     ensures { (book : List Unanswered) → AreIndexed book sectors.now → flushes.now ≡ flushes_among book
         → IsBlockerOf book request.now result }
 {
     if !may_be_blocked(request) {
         return Blocker::nobody();
     }
-    match sectors[index_of_port(request.port)].earlier_conflict(&item_of(request)) {
+    match sectors[list_number_of_port(request.port)].earlier_conflict(&item_of(request)) {
         Some(blocker) => Blocker::of(request.id, blocker.id),
         None => blocking_flush(flushes, request),
     }
@@ -50,11 +45,12 @@ pub fn update_blockers(
     place: usize,
     answered: RequestId,
 )
-    requires place { place < length store.now }
+    requires place_is_in_range { place < length store.now }
     requires lists { AreConflictLists (remove (unanswered_of store.now) place) conflicts.now }
-    requires but { AreBlockersBut answered place (remove (unanswered_of store.now) place) blockers.old.items }
+    requires answered_blocks_excepted { AreBlockersExceptOf answered place (remove (unanswered_of store.now) place)
+        blockers.old.items }
     ensures blockers { AreBlockers (remove (unanswered_of store.now) place) blockers.new.items }
-    ensures room { vec_capacity blockers.new ≡ vec_capacity blockers.old }
+    ensures capacity_is_same { vec_capacity blockers.new ≡ vec_capacity blockers.old }
 {
     for later in place..blockers.len() {
         if blockers[later].is_request(answered) {

@@ -1,19 +1,16 @@
 // The book.
 ghost use Rattle.std.specs.Prelude.{◌≡◌, ◌&&◌, ◌==◌, ◌↔◌, ◌<◌, ◌≤◌, ◌++◌, ◌∷◌, [], length, map, remove, All, AllPairs, Contains, IfOk, IfSome, IsTrue, Some, slice_get, vec_capacity};
-ghost use Rattle.block_machine.specs.DueRequests.{is_due};
-ghost use Rattle.block_machine.specs.Rules.{HasNoFault, is_same_grant_name};
-ghost use Rattle.dma_frames.specs.FrameTables.{LendsOnly, lent_to, owner_of};
-ghost use Rattle.request_queue.specs.BookIndexes.{IndexesMatch};
-ghost use Rattle.request_queue.specs.Blockers.{AreBlockers};
-ghost use Rattle.request_queue.specs.BookEntries.{due_ids};
-ghost use Rattle.request_queue.specs.BookEntries.{BookEntry, GivesBack, IsEarlier, IsNewlyAccepted, BookIsInOrder, IsUnanswered, IsWaiting, MayGoAgain, HasItsFrames, IsAnyOverdue, IsOverdue, IsOverdueOn, aged_entries, unanswered_of, update_if_id, ids_where, is_among, is_of_port, issued_entry, lone_due, aged_entry, requeued_entry, all_marked_under, marked_under, entry_count_of_client, waits_under, without_entry};
+ghost use Rattle.block_machine.specs.{DueRequests.{is_due}, Rules.{HasNoFault, is_same_grant_name}};
+ghost use Rattle.dma_frames.specs.FrameTables.{SetsLoanOnly, lent_to, owner_of};
+ghost use Rattle.request_queue.specs.{BookIndexes.{IndexesMatch}, Blockers.{AreBlockers}};
+ghost use Rattle.request_queue.specs.BookEntries.{due_ids, BookEntry, GivesBack, IsEarlier, IsNewlyAccepted, BookIsWellFormed, IsUnanswered, IsWaiting, IsIssuedBelowLimit, HasItsFrames, HasAnyOverdue, HasOverdueOn, IsOverdueOn, aged_entries, unanswered_of, update_if_id, ids_where, is_among, is_of_port, issued_request, lone_due_id, aged_request, requeued_request, all_revoked_under_grant, revoked_under_grant, entry_count_of_client, waits_under, without_entry};
 
 use crate::PendingRequest;
 use crate::blocker::Blocker;
 use crate::blockers::{empty_blockers, update_blockers};
 use crate::conflicts::Conflicts;
 use crate::due::{DueIds, list_due};
-use crate::request_slab::{RequestSlab, unanswered_of};
+use crate::request_slab::{RequestSlab, as_unanswered};
 use arrayvec::ArrayVec;
 use ata_types::{ClientId, Frame, MOST_REQUEST_FRAMES, MOST_UNANSWERED, Port, RequestId};
 use block_machine::{QueueMode, Unanswered, is_plain};
@@ -46,17 +43,13 @@ pub struct Book {
 impl Model for Book {
     ghost use Rattle.std.specs.Prelude.{List, ◌≡◌, ◌≤◌, vec_capacity};
     ghost use Rattle.ata_types.specs.declared.limits.TheConstants.{MOST_UNANSWERED};
-    ghost use Rattle.request_queue.specs.ClientCounts.{AreClientCounts};
-    ghost use Rattle.request_queue.specs.BookEntries.{BookEntry, BookIsInOrder, unanswered_of};
-    ghost use Rattle.request_queue.specs.BookIndexes.{IndexesMatch};
-    ghost use Rattle.request_queue.specs.Conflicts.{AreConflictLists};
-    ghost use Rattle.request_queue.specs.Blockers.{AreBlockers};
+    ghost use Rattle.request_queue.specs.{ClientCounts.{AreClientCounts}, BookEntries.{BookEntry, BookIsWellFormed, unanswered_of}, BookIndexes.{IndexesMatch}, Conflicts.{AreConflictLists}, Blockers.{AreBlockers}};
 
     ghost Value = { List BookEntry };
 
     ghost view = { λ b. b.store };
 
-    ghost invariant = { λ b. BookIsInOrder b.store × AreConflictLists (unanswered_of b.store) b.conflicts
+    ghost invariant = { λ b. BookIsWellFormed b.store × AreConflictLists (unanswered_of b.store) b.conflicts
         × AreBlockers (unanswered_of b.store) b.blockers.items × (MOST_UNANSWERED ≤ vec_capacity b.blockers)
         × AreClientCounts b.store b.counts };
 }
@@ -103,17 +96,17 @@ impl Book {
 
     /// Puts a request last, and lends it these frames of the table.
     pub fn accept(&mut self, request: PendingRequest, frames: &[Frame], table: &mut FrameTable)
-        requires newest { All (λ e. e.entry.id.0 < request.id.0) self.old }
-        requires fresh { IsNewlyAccepted request }
-        requires client { (1 ≤ request.client.0) × (request.client.0 ≤ 8) }
-        requires few { entry_count_of_client self.old request.client.0 < 16 }
-        requires frames { HasNoFault (owner_of table.old) (lent_to table.old) request.client frames.now
+        requires id_is_newest { All (λ e. e.request.id.0 < request.id.0) self.old }
+        requires is_newly_accepted { IsNewlyAccepted request }
+        requires client_is_valid { (1 ≤ request.client.0) × (request.client.0 ≤ 8) }
+        requires client_has_room { entry_count_of_client self.old request.client.0 < 16 }
+        requires frames_have_no_fault { HasNoFault (owner_of table.old) (lent_to table.old) request.client frames.now
             × (length frames.now ≤ MOST_REQUEST_FRAMES) }
-        ensures last { self.new ≡ self.old ++ record { entry = request; frames = frames.now } ∷ [] }
-        ensures lent { LendsOnly table.old table.new frames.now (Some request.id) }
+        ensures request_is_appended { self.new ≡ self.old ++ record { request = request; frames = frames.now } ∷ [] }
+        ensures frames_are_lent_to_request { SetsLoanOnly table.old table.new frames.now (Some request.id) }
     {
         self.counts[usize::from(request.client.0)] += 1;
-        let blocker = self.conflicts.add(&self.store, &unanswered_of(request));
+        let blocker = self.conflicts.add(&self.store, &as_unanswered(request));
         self.blockers.push_reserved(blocker);
         self.store.push(request, frames, table);
     }
@@ -122,7 +115,7 @@ impl Book {
     /// acceptance: of their ids. A request that was answered and whose frames stay lent takes none of the slots that
     /// are counted: its port is dead.
     pub fn issuable(&self, mode: QueueMode, port: Port, due: &mut DueIds)
-        requires { mode.usable ≤ 32 }
+        requires { mode.usable_slots ≤ 32 }
         ensures { due.new.items ≡ due_ids mode port (unanswered_of self.now) }
     {
         due.clear();
@@ -130,9 +123,9 @@ impl Book {
     }
 
     /// The id of the only request of the book, where it is due on the port. Where there are others, `issuable` tells.
-    pub fn lone_due(&self, mode: QueueMode, port: Port) -> Option<RequestId>
-        ensures value { result ≡ lone_due mode port (unanswered_of self.now) }
-        ensures due { IfSome result (λ id. due_ids mode port (unanswered_of self.now) ≡ id ∷ []) }
+    pub fn lone_due_id(&self, mode: QueueMode, port: Port) -> Option<RequestId>
+        ensures result_is_lone_due { result ≡ lone_due_id mode port (unanswered_of self.now) }
+        ensures is_the_only_due { IfSome result (λ id. due_ids mode port (unanswered_of self.now) ≡ id ∷ []) }
     {
         if self.store.len() != 1 {
             return None;
@@ -148,7 +141,7 @@ impl Book {
     /// An unanswered request, and how far it is.
     pub fn request(&self, id: RequestId) -> PendingRequest
         requires { IsUnanswered id self.now }
-        ensures { (e : BookEntry) × Contains self.now e × (e.entry ≡ result) × (result.id ≡ id) }
+        ensures { (e : BookEntry) × Contains self.now e × (e.request ≡ result) × (result.id ≡ id) }
     {
         self.store.request(place_of(&self.store, id))
     }
@@ -156,7 +149,7 @@ impl Book {
     /// An unanswered request, how far it is, and what is lent to it.
     pub fn entry(&self, id: RequestId) -> (&PendingRequest, &Loan)
         requires { IsUnanswered id self.now }
-        ensures held { Contains self.now (record { entry = result.0.now; frames = result.1.now.frames }) }
+        ensures is_in_book { Contains self.now (record { request = result.0.now; frames = result.1.now.frames }) }
         ensures id { (result.0.now.id ≡ id) × (result.1.now.request ≡ id) }
     {
         self.store.entry(place_of(&self.store, id))
@@ -184,7 +177,7 @@ impl Book {
     /// Notes that a waiting request is issued.
     pub fn issue(&mut self, id: RequestId)
         requires { IsWaiting id self.old }
-        ensures { self.new ≡ map (update_if_id id issued_entry) self.old }
+        ensures { self.new ≡ map (update_if_id id issued_request) self.old }
     {
         let place = place_of(&self.store, id);
         let old = self.store.request(place);
@@ -192,7 +185,7 @@ impl Book {
             place,
             PendingRequest {
                 issued: true,
-                issues: old.issues + 1,
+                issue_count: old.issue_count + 1,
                 age: 0,
                 ..old
             },
@@ -202,8 +195,8 @@ impl Book {
 
     /// Notes that a request which was issued fewer than four times waits again, in its old place and with its loan.
     pub fn requeue(&mut self, id: RequestId)
-        requires { MayGoAgain id self.old }
-        ensures { self.new ≡ map (update_if_id id requeued_entry) self.old }
+        requires { IsIssuedBelowLimit id self.old }
+        ensures { self.new ≡ map (update_if_id id requeued_request) self.old }
     {
         let place = place_of(&self.store, id);
         let old = self.store.request(place);
@@ -221,22 +214,22 @@ impl Book {
     /// Notes a tick: the issued requests of these ports, by number, are a tick older. An age counts to three and no
     /// further. It tells whether an issued request is overdue then, of whichever port.
     pub fn tick(&mut self, ports: &[bool]) -> bool
-        ensures aged_entry { self.new ≡ aged_entries (is_among ports.now) self.old }
-        ensures overdue { IsTrue result ↔ IsAnyOverdue self.new }
+        ensures book_is_aged { self.new ≡ aged_entries (is_among ports.now) self.old }
+        ensures overdue { IsTrue result ↔ HasAnyOverdue self.new }
     {
         age(&mut self.store, self.blockers.as_slice(), ports)
     }
 
     /// Notes that a client's grant was revoked: the requests that were accepted under it are marked.
-    pub fn revoke(&mut self, client: ClientId, grant: u8)
-        ensures { self.new ≡ all_marked_under client grant self.old }
+    pub fn mark_revoked(&mut self, client: ClientId, grant: u8)
+        ensures { self.new ≡ all_revoked_under_grant client grant self.old }
     {
         mark(&mut self.store, client, grant);
     }
 
     /// Whether an issued request of the port is overdue: it was issued three ticks of its port ago, and isn't answered.
     pub fn has_overdue(&self, port: Port) -> bool
-        ensures { IsTrue result ↔ IsOverdue port self.now }
+        ensures { IsTrue result ↔ HasOverdueOn port self.now }
     {
         for place in 0..self.store.len() {
             if is_overdue(self.store.request(place), port) {
@@ -251,9 +244,9 @@ impl Book {
     #[inline(always)]
     pub fn answer(&mut self, id: RequestId) -> (PendingRequest, Loan)
         requires { IsUnanswered id self.old }
-        ensures entry { Contains self.old (record { entry = result.0; frames = result.1.frames }) }
+        ensures entry { Contains self.old (record { request = result.0; frames = result.1.frames }) }
         ensures id { (result.0.id ≡ id) × (result.1.request ≡ id) }
-        ensures rest { self.new ≡ without_entry id self.old }
+        ensures request_left_book { self.new ≡ without_entry id self.old }
     {
         let place = place_of(&self.store, id);
         remove_from_indexes(
@@ -267,12 +260,12 @@ impl Book {
     }
 
     /// Takes a request out, and gives back what was lent to it; the others stay in their order. So no loan is moved.
-    pub fn release(&mut self, id: RequestId, table: &mut FrameTable) -> PendingRequest
+    pub fn remove_and_give_back(&mut self, id: RequestId, table: &mut FrameTable) -> PendingRequest
         requires unanswered { IsUnanswered id self.old }
-        requires stands { All (HasItsFrames table.old) self.old }
-        ensures entry { (e : BookEntry) × Contains self.old e × (e.entry ≡ result) × (result.id ≡ id)
-            × LendsOnly table.old table.new e.frames None }
-        ensures rest { self.new ≡ without_entry id self.old }
+        requires frames_are_lent { All (HasItsFrames table.old) self.old }
+        ensures entry_is_given_back { (e : BookEntry) × Contains self.old e × (e.request ≡ result) × (result.id ≡ id)
+            × SetsLoanOnly table.old table.new e.frames None }
+        ensures request_left_book { self.new ≡ without_entry id self.old }
     {
         let place = place_of(&self.store, id);
         remove_from_indexes(
@@ -282,7 +275,7 @@ impl Book {
             &self.store,
             place,
         );
-        self.store.release(place, table)
+        self.store.remove_and_give_back(place, table)
     }
 
     /// Ends the book: what it has lent is given back.
@@ -304,7 +297,7 @@ impl Book {
 fn is_due_alone(mode: QueueMode, port: Port, asks: &Unanswered) -> bool
     ensures { result ≡ (asks.now.port.0 == port.0 && is_due mode (asks.now ∷ []) asks.now) }
 {
-    asks.port.0 == port.0 && !asks.issued && (is_plain(mode, asks.op) || 0 < mode.usable)
+    asks.port.0 == port.0 && !asks.issued && (is_plain(mode, asks.op) || 0 < mode.usable_slots)
 }
 
 /// The place of a request. The last one is looked at first, as it was just accepted mostly. Ids rise from place to
@@ -312,7 +305,7 @@ fn is_due_alone(mode: QueueMode, port: Port, asks: &Unanswered) -> bool
 fn place_of(store: &RequestSlab, id: RequestId) -> usize
     requires ordered { AllPairs IsEarlier store.now }
     requires unanswered { IsUnanswered id store.now }
-    ensures { (e : BookEntry) × (slice_get store.now result ≡ Some e) × (e.entry.id ≡ id) }
+    ensures { (e : BookEntry) × (slice_get store.now result ≡ Some e) × (e.request.id ≡ id) }
 {
     let last = store.len() - 1;
     if store.request(last).id.0 <= id.0 {
@@ -340,7 +333,7 @@ fn remove_from_indexes(
     place: usize,
 )
     requires place { place < length store.now }
-    requires ordered { BookIsInOrder store.now }
+    requires ordered { BookIsWellFormed store.now }
     requires beside { IndexesMatch store.now conflicts.old blockers.old.items counts.old }
     ensures beside { IndexesMatch (remove store.now place) conflicts.new blockers.new.items counts.new }
     ensures blockers { vec_capacity blockers.new ≡ vec_capacity blockers.old }
@@ -401,15 +394,15 @@ fn is_same_grant_name(request: PendingRequest, client: ClientId, grant: u8) -> b
 /// blocker wait, and aren't looked at.
 fn age(store: &mut RequestSlab, blockers: &[Blocker], ports: &[bool]) -> bool
     requires blockers { AreBlockers (unanswered_of store.old) blockers.now }
-    ensures aged_entry { store.new ≡ aged_entries (is_among ports.now) store.old }
-    ensures overdue { IsTrue result ↔ IsAnyOverdue store.new }
+    ensures aged_request { store.new ≡ aged_entries (is_among ports.now) store.old }
+    ensures overdue { IsTrue result ↔ HasAnyOverdue store.new }
 {
     let mut overdue = false;
     for place in 0..blockers.len() {
         if blockers[place].is_none() {
             let request = store.request(place);
             if request.issued {
-                let grown = aged_entry(request, ports);
+                let grown = aged_request(request, ports);
                 store.replace(place, grown);
                 overdue |= grown.age >= OVERDUE;
             }
@@ -420,7 +413,7 @@ fn age(store: &mut RequestSlab, blockers: &[Blocker], ports: &[bool]) -> bool
 
 /// Marks the requests that were accepted under this grant of the client.
 fn mark(store: &mut RequestSlab, client: ClientId, grant: u8)
-    ensures { store.new ≡ all_marked_under client grant store.old }
+    ensures { store.new ≡ all_revoked_under_grant client grant store.old }
 {
     for place in 0..store.len() {
         let request = store.request(place);
@@ -430,7 +423,7 @@ fn mark(store: &mut RequestSlab, client: ClientId, grant: u8)
 
 /// The request, marked if it was accepted under this grant of the client.
 fn revoked(request: PendingRequest, client: ClientId, grant: u8) -> PendingRequest
-    ensures { result ≡ marked_under client grant request }
+    ensures { result ≡ revoked_under_grant client grant request }
 {
     if is_same_grant_name(request, client, grant) {
         PendingRequest {
@@ -443,8 +436,8 @@ fn revoked(request: PendingRequest, client: ClientId, grant: u8) -> PendingReque
 }
 
 /// The request a tick older, if it is issued on one of these ports.
-fn aged_entry(request: PendingRequest, ports: &[bool]) -> PendingRequest
-    ensures { result ≡ aged_entry (is_among ports.now) request }
+fn aged_request(request: PendingRequest, ports: &[bool]) -> PendingRequest
+    ensures { result ≡ aged_request (is_among ports.now) request }
 {
     if request.issued && is_among(ports, request.port) {
         PendingRequest {

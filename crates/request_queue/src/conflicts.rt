@@ -1,16 +1,12 @@
 // What tells which of the unanswered requests conflict: their sectors, and their flushes.
 ghost use Rattle.std.specs.Prelude.{◌≡◌, ◌<◌, ◌≤◌, ◌++◌, ◌∷◌, [], length, remove, false, true, All, Contains, IfOk, List, vec_capacity};
 ghost use Rattle.block_machine.specs.declared.due.Unanswered.{Unanswered};
-ghost use Rattle.request_queue.specs.Conflicts.{AreConflictLists};
-ghost use Rattle.request_queue.specs.BookEntries.{BookIsInOrder, unanswered_of};
-ghost use Rattle.request_queue.specs.Flushes.{flushes_among};
-ghost use Rattle.request_queue.specs.Blockers.{IsBlockerOf};
-ghost use Rattle.request_queue.specs.Sectors.{AreIndexed};
+ghost use Rattle.request_queue.specs.{Conflicts.{AreConflictLists}, BookEntries.{BookIsWellFormed, unanswered_of}, Flushes.{flushes_among}, Blockers.{IsBlockerOf}, Sectors.{AreIndexed}};
 
 use crate::blocker::Blocker;
 use crate::blockers::blocker_of;
 use crate::flushes::{Flush, add_flush, empty_flushes, remove_flush};
-use crate::ranges::Ranges;
+use crate::ranges::RangeIndex;
 use crate::request_slab::RequestSlab;
 use crate::sectors::{add_sectors, empty_sectors, remove_sectors};
 use ata_types::{MOST_UNANSWERED, PORTS};
@@ -23,7 +19,7 @@ use std::marker::Model;
 #[derive(Drop)]
 pub struct Conflicts {
     /// The sectors of the requests, port by port.
-    sectors: [Ranges; PORTS],
+    sectors: [RangeIndex; PORTS],
     /// The flushes of all ports, in order of acceptance. A flush has no sectors, and conflicts all the same.
     flushes: Vec<Flush>,
     /// Whether there is one request, which isn't listed.
@@ -37,7 +33,7 @@ impl Model for Conflicts {
 
     ghost Value = { ConflictLists };
 
-    ghost view = { λ c. record { sectors = c.sectors; flushes = c.flushes.items; unlisted = c.unlisted } };
+    ghost view = { λ c. record { sectors = c.sectors; flushes = c.flushes.items; has_unlisted_request = c.unlisted } };
 
     ghost invariant = { λ c. MOST_UNANSWERED ≤ vec_capacity c.flushes };
 }
@@ -70,7 +66,7 @@ impl Conflicts {
     /// Lists a request, before it is put into the store, and tells its blocker. None holds one that comes into an empty
     /// book, and that isn't listed yet.
     pub fn add(&mut self, store: &RequestSlab, request: &Unanswered) -> Blocker
-        requires lists { AreConflictLists (unanswered_of store.now) self.old }
+        requires lists_match_book { AreConflictLists (unanswered_of store.now) self.old }
         requires room { length store.now < MOST_UNANSWERED }
         requires newest { All (λ r. r.id.0 < request.now.id.0) (unanswered_of store.now) }
         ensures lists { AreConflictLists (unanswered_of store.now ++ request.now ∷ []) self.new }
@@ -90,7 +86,7 @@ impl Conflicts {
     fn list_unlisted(&mut self, store: &RequestSlab)
         requires { AreConflictLists (unanswered_of store.now) self.old }
         ensures lists { AreConflictLists (unanswered_of store.now) self.new }
-        ensures listed { self.new.unlisted ≡ false }
+        ensures listed { self.new.has_unlisted_request ≡ false }
     {
         if self.unlisted {
             self.unlisted = false;
@@ -101,7 +97,7 @@ impl Conflicts {
     /// Takes the request at a place out of the lists, before it is taken out of the store.
     pub fn remove(&mut self, store: &RequestSlab, place: usize)
         requires lists { AreConflictLists (unanswered_of store.now) self.old }
-        requires ordered { BookIsInOrder store.now }
+        requires book_is_well_formed { BookIsWellFormed store.now }
         requires place { place < length store.now }
         ensures { AreConflictLists (remove (unanswered_of store.now) place) self.new }
     {
@@ -116,7 +112,7 @@ impl Conflicts {
 }
 
 /// Puts a request last into the lists.
-fn list_last(sectors: &mut [Ranges; PORTS], flushes: &mut Vec<Flush>, request: &Unanswered)
+fn list_last(sectors: &mut [RangeIndex; PORTS], flushes: &mut Vec<Flush>, request: &Unanswered)
     requires fits { (book : List Unanswered) × AreIndexed book sectors.old × (flushes.old.items ≡ flushes_among book)
         × (length book < MOST_UNANSWERED) × All (λ r. r.id.0 < request.now.id.0) book }
     requires room { MOST_UNANSWERED ≤ vec_capacity flushes.old }

@@ -64,7 +64,7 @@ impl PendingRequest {
             Revalidation::Dead => Disposition::Complete(Outcome::PortDead),
             Revalidation::SameDisk if !self.issued => Disposition::Wait,
             Revalidation::SameDisk if self.revoked => Disposition::Complete(Outcome::Revoked),
-            Revalidation::SameDisk if self.issues == MOST_ISSUES => Disposition::Complete(
+            Revalidation::SameDisk if self.issue_count == MOST_ISSUES => Disposition::Complete(
                 Outcome::Aborted,
             ),
             Revalidation::SameDisk => Disposition::Requeue,

@@ -1,11 +1,8 @@
 // The walk that gives the due requests of a port.
 ghost use Rattle.std.specs.Prelude.{◌≡◌, ◌<◌, ◌≤◌, ◌-◌, ◌&&◌, ◌||◌, ◌==◌, suc, if◌then◌else◌, [], not, nat_lt, length, All, List, Some, slice_get};
-ghost use Rattle.block_machine.specs.DueRequests as machine;
 ghost use Rattle.block_machine.specs.declared.due.Unanswered.{Unanswered};
-ghost use Rattle.request_queue.specs.BookEntries.{unanswered_of, due_ids};
-ghost use Rattle.request_queue.specs.Blockers.{AreBlockers, without_blocker};
-ghost use Rattle.request_queue.specs.DueWalk.{AreIssuedAhead, TalliesIssued, IsReachedInWalk, is_issued_plain};
-ghost use Rattle.request_queue.specs.RequestSlab.{unanswered_at};
+ghost use Rattle.request_queue.specs.{BookEntries.{unanswered_of, due_ids}, Blockers.{AreBlockers, without_blocker}, DueWalk.{AreQueuedIssuedAhead, TalliesIssued, IsReachedInWalk, is_issued_plain}, RequestSlab.{unanswered_at}};
+ghost use Rattle.block_machine.specs.DueRequests as machine;
 
 use crate::blocker::Blocker;
 use crate::request_slab::RequestSlab;
@@ -22,7 +19,7 @@ type Places = ArrayVec<u8, MOST_UNANSWERED>;
 
 /// What is issued of a port: how many requests, and whether one of them is plain, and so was issued alone.
 #[derive(Clone, Copy, Debug)]
-struct Issued {
+struct IssuedTally {
     count: usize,
     has_plain: bool,
     /// How many are issued before the first that waits, or that is plain.
@@ -40,10 +37,10 @@ pub fn list_due(
     due: &mut DueIds,
 )
     requires ordered { machine.IsInOrder (unanswered_of store.now) }
-    requires few { length store.now ≤ MOST_UNANSWERED }
-    requires usable { mode.usable ≤ 32 }
+    requires store_is_within_limit { length store.now ≤ MOST_UNANSWERED }
+    requires usable_slots_are_at_most_32 { mode.usable_slots ≤ 32 }
     requires blockers { AreBlockers (unanswered_of store.now) blockers.now }
-    requires empty { due.old.items ≡ [] }
+    requires due_is_empty { due.old.items ≡ [] }
     ensures { due.new.items ≡ due_ids mode port (unanswered_of store.now) }
 {
     law_earlier_ones_stand_before();
@@ -70,7 +67,7 @@ fn find_unblocked(
     mode: QueueMode,
     port: Port,
     places: &mut Places,
-) -> Issued
+) -> IssuedTally
     requires few { length store.now ≤ MOST_UNANSWERED }
     requires blockers { AreBlockers (unanswered_of store.now) blockers.now }
     requires empty { places.old.items ≡ [] }
@@ -78,7 +75,7 @@ fn find_unblocked(
         ≡ without_blocker port (unanswered_of store.now) }
     ensures within { All (λ place. place < length store.now) places.new.items }
     ensures issued { TalliesIssued mode (unanswered_at store.now places.new.items) result }
-    ensures leading { AreIssuedAhead mode (unanswered_at store.now places.new.items) result.leading }
+    ensures leading { AreQueuedIssuedAhead mode (unanswered_at store.now places.new.items) result.leading }
 {
     let mut count = 0usize;
     let mut has_plain = false;
@@ -96,7 +93,7 @@ fn find_unblocked(
             }
         }
     }
-    Issued {
+    IssuedTally {
         count,
         has_plain,
         leading,
@@ -155,15 +152,15 @@ fn is_issued_plain(mode: QueueMode, asks: &Unanswered) -> bool
 
 /// How many usable slots are free, where so many are taken.
 fn free_slots(mode: QueueMode, issued: usize) -> usize
-    ensures { result ≡ mode.usable - issued }
+    ensures { result ≡ mode.usable_slots - issued }
 {
-    (mode.usable as usize).saturating_sub(issued)
+    (mode.usable_slots as usize).saturating_sub(issued)
 }
 
 /// Whether the request waits, and nothing stands in its way. It has this number among those of its port without a
 /// blocker, all before it are queued, and this is issued of them. A plain one waits for all that are issued and all
 /// before it, a queued one for what is issued alone.
-fn is_unblocked(mode: QueueMode, asks: &Unanswered, number: usize, issued: Issued) -> bool
+fn is_unblocked(mode: QueueMode, asks: &Unanswered, number: usize, issued: IssuedTally) -> bool
     ensures { (requests : List Unanswered) → IsReachedInWalk mode requests number asks.now
         → TalliesIssued mode requests issued → result ≡ machine.is_unblocked mode requests asks.now }
 {

@@ -1,8 +1,7 @@
 // The unanswered flushes of all ports. A flush has no sectors, so no index finds it: it stands in a list of its own.
-ghost use Rattle.std.specs.Prelude.{◌≡◌, ◌<◌, ◌≤◌, ◌++◌, ◌∷◌, ◌==◌, [], length, filter, not, false, true, Contains, IfNone, IfOk, IfSome, vec_capacity};
-ghost use Rattle.std.specs.List.{list_any};
-ghost use Rattle.block_machine.specs.DueRequests as machine;
+ghost use Rattle.std.specs.{Prelude.{◌≡◌, ◌<◌, ◌≤◌, ◌++◌, ◌∷◌, ◌==◌, [], length, filter, not, false, true, Contains, IfNone, IfOk, IfSome, vec_capacity}, List.{list_any}};
 ghost use Rattle.request_queue.specs.Flushes.{flushes_among, is_earlier_flush};
+ghost use Rattle.block_machine.specs.DueRequests as machine;
 
 use ata_types::{MOST_UNANSWERED, Op, Port, RequestId};
 use block_machine::Unanswered;
@@ -26,7 +25,7 @@ pub fn empty_flushes(alloc: Global) -> Result<Vec<Flush>, AllocError>
 /// Puts a request last in the list, if it is a flush.
 pub fn add_flush(flushes: &mut Vec<Flush>, request: &Unanswered)
     requires room { length flushes.old.items < vec_capacity flushes.old }
-    ensures list { flushes.new.items ≡ flushes.old.items ++ flushes_among (request.now ∷ []) }
+    ensures flush_is_appended { flushes.new.items ≡ flushes.old.items ++ flushes_among (request.now ∷ []) }
     ensures room { vec_capacity flushes.new ≡ vec_capacity flushes.old }
 {
     if !is_flush(request.op) {
@@ -40,15 +39,15 @@ pub fn add_flush(flushes: &mut Vec<Flush>, request: &Unanswered)
 
 /// Takes the flush with this id out of the list, if there is one.
 pub fn remove_flush(flushes: &mut Vec<Flush>, id: RequestId)
-    ensures list { flushes.new.items ≡ filter (λ flush. not (flush.id.0 == id.0)) flushes.old.items }
-    ensures room { vec_capacity flushes.new ≡ vec_capacity flushes.old }
+    ensures flush_is_removed { flushes.new.items ≡ filter (λ flush. not (flush.id.0 == id.0)) flushes.old.items }
+    ensures capacity_is_same { vec_capacity flushes.new ≡ vec_capacity flushes.old }
 {
     flushes.retain(|flush| flush.id.0 != id.0);
 }
 
 /// A flush that was accepted before the request, on the same port, if there is one.
 pub fn earlier_flush(flushes: &[Flush], request: &Unanswered) -> Option<RequestId>
-    ensures none { IfNone result (list_any (is_earlier_flush request.now) flushes.now ≡ false) }
+    ensures none_is_earlier { IfNone result (list_any (is_earlier_flush request.now) flushes.now ≡ false) }
     ensures found { IfSome result (λ id. (flush : Flush) × Contains flushes.now flush × (flush.id ≡ id)
         × (is_earlier_flush request.now flush ≡ true)) }
 {

@@ -1,23 +1,12 @@
 //! Laws of the definitions, for callers: the clause is the theorem. These functions do nothing.
 ghost use Rattle.std.specs.Prelude.{◌≡◌, ◌≢◌, ◌↔◌, ◌++◌, ◌∷◌, ◌<◌, ◌≤◌, [], ℕ, Bool, false, List, Option, None, Some, All, Contains, filter, length, map};
-ghost use Rattle.ata_types.specs.declared.Port.{Port};
-ghost use Rattle.ata_types.specs.declared.request.ClientId.{ClientId};
-ghost use Rattle.ata_types.specs.declared.request.Frame.{Frame};
-ghost use Rattle.ata_types.specs.declared.request.Outcome.{Outcome};
-ghost use Rattle.ata_types.specs.declared.request.Reply.{Reply};
-ghost use Rattle.ata_types.specs.declared.request.RequestId.{RequestId};
-ghost use Rattle.block_machine.specs.DueRequests.{AreAllDueInOrder, IsDue, IsInOrder, with_issued, without_request, with_waiting};
-ghost use Rattle.block_machine.specs.State.{Machine, unanswered};
+ghost use Rattle.ata_types.specs.{declared.Port.{Port}, declared.request.ClientId.{ClientId}, declared.request.Frame.{Frame}, declared.request.Outcome.{Outcome}, declared.request.Reply.{Reply}, declared.request.RequestId.{RequestId}};
+ghost use Rattle.block_machine.specs.{DueRequests.{AreAllDueInOrder, IsDue, IsInOrder, with_issued, without_request, with_waiting}, State.{Machine, unanswered}, declared.due.QueueMode.{QueueMode}, declared.due.Unanswered.{Unanswered}};
+ghost use Rattle.dma_frames.specs.FrameTables.{OwnersAndLoans, SetsLoanOnly, lent_to};
+ghost use Rattle.request_queue.specs.{BookEntries.{BookEntry, IsWellFormedEntry, IsEarlier, IsNewlyAccepted, BookIsWellFormed, IsUnanswered, IsWaiting, IsIssuedBelowLimit, HasItsFrames, aged_entries, unanswered_of, update_if_id, due_ids, entry_with_id, issued_request, requeued_request, all_revoked_under_grant, entry_count_of_client, without_entry}, Dispositions.{CompletesAllWith, BookAndLoans, AreResolved, keeps_loan}};
+ghost use Rattle.request_queue.specs.{BookRelation.{BookRelation, EntryRelation}, declared.PendingRequest.{PendingRequest}, declared.disposition.Disposition.TheVariants.{Complete}};
 ghost use Rattle.block_machine.specs.State as machine;
 ghost use Rattle.block_machine.specs.Steps as steps;
-ghost use Rattle.block_machine.specs.declared.due.QueueMode.{QueueMode};
-ghost use Rattle.block_machine.specs.declared.due.Unanswered.{Unanswered};
-ghost use Rattle.dma_frames.specs.FrameTables.{FrameOwnership, LendsOnly, lent_to};
-ghost use Rattle.request_queue.specs.BookEntries.{BookEntry, IsAccepted, IsEarlier, IsNewlyAccepted, BookIsInOrder, IsUnanswered, IsWaiting, MayGoAgain, HasItsFrames, aged_entries, unanswered_of, update_if_id, due_ids, entry_with_id, issued_entry, requeued_entry, all_marked_under, entry_count_of_client, without_entry};
-ghost use Rattle.request_queue.specs.Dispositions.{CompletesAllWith, BookAndLoans, AreResolved, keeps_loan};
-ghost use Rattle.request_queue.specs.BookRelation.{BookRelation, EntryRelation};
-ghost use Rattle.request_queue.specs.declared.PendingRequest.{PendingRequest};
-ghost use Rattle.request_queue.specs.declared.disposition.Disposition.TheVariants.{Complete};
 
 use ata_types::MOST_UNANSWERED;
 use block_machine::laws::{law_due_in_turn, law_due_is_exact};
@@ -47,10 +36,10 @@ pub fn law_steps_change_the_book()
         → BookRelation (entries ++ e ∷ []) (steps.after_step m (steps.Accept r)).book }
     ensures issue { (entries : List BookEntry) (m : Machine) (mode : QueueMode) (p : machine.Pending)
         → BookRelation entries m.book
-        → BookRelation (map (update_if_id p.request.id issued_entry) entries)
+        → BookRelation (map (update_if_id p.request.id issued_request) entries)
         (steps.after_step m (steps.Issue mode p)).book }
     ensures again { (entries : List BookEntry) (m : Machine) (p : machine.Pending) → BookRelation entries m.book
-        → BookRelation (map (update_if_id p.request.id requeued_entry) entries)
+        → BookRelation (map (update_if_id p.request.id requeued_request) entries)
         (steps.after_step m (steps.WaitAgain p)).book }
     ensures answer { (entries : List BookEntry) (m : Machine) (p : machine.Pending) (outcome : Outcome)
         → BookRelation entries m.book
@@ -59,7 +48,8 @@ pub fn law_steps_change_the_book()
         → BookRelation (aged_entries ports entries) (steps.after_step m (steps.Age ports)).book }
     ensures revoke { (entries : List BookEntry) (m : Machine) (client : ClientId) (grant : ℕ)
         → BookRelation entries m.book
-        → BookRelation (all_marked_under client grant entries) (steps.after_step m (steps.Revoke client grant)).book }
+        → BookRelation (all_revoked_under_grant client grant entries)
+        (steps.after_step m (steps.Revoke client grant)).book }
     ensures touch { (entries : List BookEntry) (m : Machine) (p : machine.Pending) (i : ℕ) (block : machine.Block)
         → BookRelation entries m.book → BookRelation entries (steps.after_step m (steps.Touch p i block)).book }
     ensures end { (entries : List BookEntry) (m : Machine) (p : machine.Pending) → BookRelation entries m.book
@@ -80,54 +70,55 @@ pub fn law_operations_change_what_is_due()
         → IsDue mode (unanswered_of entries) r
         → IsWaiting r.id entries }
     ensures issue { (entries : List BookEntry) (id : RequestId)
-        → unanswered_of (map (update_if_id id issued_entry) entries)
+        → unanswered_of (map (update_if_id id issued_request) entries)
         ≡ with_issued id (unanswered_of entries) }
     ensures requeue { (entries : List BookEntry) (id : RequestId)
-        → unanswered_of (map (update_if_id id requeued_entry) entries) ≡ with_waiting id
+        → unanswered_of (map (update_if_id id requeued_request) entries) ≡ with_waiting id
         (unanswered_of entries) }
     ensures answer { (entries : List BookEntry) (id : RequestId)
         → unanswered_of (without_entry id entries) ≡ without_request id (unanswered_of entries) }
     ensures tick { (entries : List BookEntry) (ports : Port → Bool) → unanswered_of (aged_entries ports entries)
         ≡ unanswered_of entries }
     ensures revoked { (entries : List BookEntry) (client : ClientId) (grant : ℕ)
-        → unanswered_of (all_marked_under client grant entries) ≡ unanswered_of entries }
+        → unanswered_of (all_revoked_under_grant client grant entries) ≡ unanswered_of entries }
 {}
 
 /// The due requests of a port may be issued one after the other: each of them waits when its turn comes; and then none
 /// is due.
 pub fn law_due_requests_go_in_turn()
-    ensures first_waits { (mode : QueueMode) (port : Port) (entries : List BookEntry) → BookIsInOrder entries
+    ensures due_ids_are_due_in_order { (mode : QueueMode) (port : Port) (entries : List BookEntry)
+        → BookIsWellFormed entries
         → AreAllDueInOrder mode port (due_ids mode port (unanswered_of entries)) (unanswered_of entries) }
-    ensures rest_is_due_next { (mode : QueueMode) (port : Port) (id : RequestId) (ids : List RequestId)
+    ensures first_waits_rest_is_due { (mode : QueueMode) (port : Port) (id : RequestId) (ids : List RequestId)
         (entries : List BookEntry)
         → AreAllDueInOrder mode port (id ∷ ids) (unanswered_of entries)
         → IsWaiting id entries × AreAllDueInOrder mode port ids
-        (unanswered_of (map (update_if_id id issued_entry) entries)) }
+        (unanswered_of (map (update_if_id id issued_request) entries)) }
 {
     law_due_in_turn();
 }
 
 /// Each request of the one book stands in the other.
 pub fn law_books_have_the_same_requests()
-    ensures held { (entries : List BookEntry) (pending : List machine.Pending) (e : BookEntry)
+    ensures entry_has_pending { (entries : List BookEntry) (pending : List machine.Pending) (e : BookEntry)
         → BookRelation entries pending
         → Contains entries e → (p : machine.Pending) × Contains pending p × EntryRelation e p }
-    ensures pending { (entries : List BookEntry) (pending : List machine.Pending) (p : machine.Pending)
+    ensures pending_has_entry { (entries : List BookEntry) (pending : List machine.Pending) (p : machine.Pending)
         → BookRelation entries pending → Contains pending p → (e : BookEntry) × Contains entries e × EntryRelation e p }
 {}
 
 /// In a book in order an id is one request's, and the request is found by it.
 pub fn law_an_id_is_one_request()
-    ensures one_request_an_id { (entries : List BookEntry) (a b : BookEntry) → BookIsInOrder entries
+    ensures one_request_an_id { (entries : List BookEntry) (a b : BookEntry) → BookIsWellFormed entries
         → Contains entries a
         → Contains entries b
-        → a.entry.id ≡ b.entry.id → a ≡ b }
-    ensures found { (entries : List BookEntry) (e : BookEntry) → BookIsInOrder entries → Contains entries e
-        → entry_with_id e.entry.id entries ≡ Some e }
+        → a.request.id ≡ b.request.id → a ≡ b }
+    ensures found { (entries : List BookEntry) (e : BookEntry) → BookIsWellFormed entries → Contains entries e
+        → entry_with_id e.request.id entries ≡ Some e }
     ensures found_has_id { (entries : List BookEntry) (id : RequestId) (e : BookEntry) → entry_with_id id entries
         ≡ Some e
-        → Contains entries e × (e.entry.id ≡ id) }
-    ensures absent_is_unanswered_by_none { (entries : List BookEntry) (id : RequestId) → entry_with_id id entries ≡ None
+        → Contains entries e × (e.request.id ≡ id) }
+    ensures absent_is_not_unanswered { (entries : List BookEntry) (id : RequestId) → entry_with_id id entries ≡ None
         → IsUnanswered id entries
         → ⊥ }
 {}
@@ -137,67 +128,76 @@ pub fn law_operations_change_one_request()
     ensures changed { (entries : List BookEntry) (id : RequestId) (change : PendingRequest → PendingRequest)
         (e : BookEntry)
         → Contains entries e
-        → e.entry.id ≡ id → Contains (map (update_if_id id change) entries) (record e { entry = change e.entry }) }
-    ensures others { (entries : List BookEntry) (id : RequestId) (change : PendingRequest → PendingRequest)
+        → e.request.id ≡ id
+        → Contains (map (update_if_id id change) entries) (record e { request = change e.request }) }
+    ensures others_are_unchanged { (entries : List BookEntry) (id : RequestId) (change : PendingRequest
+        → PendingRequest)
         (e : BookEntry)
         → Contains entries e
-        → e.entry.id ≢ id → Contains (map (update_if_id id change) entries) e }
-    ensures only { (entries : List BookEntry) (id : RequestId) (change : PendingRequest → PendingRequest)
+        → e.request.id ≢ id → Contains (map (update_if_id id change) entries) e }
+    ensures each_comes_of_an_old_one { (entries : List BookEntry) (id : RequestId) (change : PendingRequest
+        → PendingRequest)
         (e : BookEntry)
         → Contains (map (update_if_id id change) entries) e → (old : BookEntry) × Contains entries old
         × (e ≡ update_if_id id change old) }
     ensures answered { (entries : List BookEntry) (id : RequestId) (e : BookEntry)
-        → Contains (without_entry id entries) e ↔ (Contains entries e × (e.entry.id ≢ id)) }
+        → Contains (without_entry id entries) e ↔ (Contains entries e × (e.request.id ≢ id)) }
 {}
 
 /// A book stays in order as requests are accepted, issued, wait again, get older and are answered. It has 128 at most.
-pub fn law_the_book_stays_in_order()
-    ensures accepted { (entries : List BookEntry) (e : BookEntry) → BookIsInOrder entries
+pub fn law_book_stays_well_formed()
+    ensures accepted { (entries : List BookEntry) (e : BookEntry) → BookIsWellFormed entries
         → All (λ x. IsEarlier x e) entries
-        → IsNewlyAccepted e.entry → 1 ≤ e.entry.client.0 → e.entry.client.0 ≤ 8
-        → entry_count_of_client entries e.entry.client.0 < 16
-        → BookIsInOrder (entries ++ e ∷ []) }
-    ensures issued { (entries : List BookEntry) (id : RequestId) → BookIsInOrder entries → IsWaiting id entries
-        → BookIsInOrder (map (update_if_id id issued_entry) entries) }
-    ensures requeued { (entries : List BookEntry) (id : RequestId) → BookIsInOrder entries → MayGoAgain id entries
-        → BookIsInOrder (map (update_if_id id requeued_entry) entries) }
-    ensures aged_entry { (entries : List BookEntry) (ports : Port → Bool) → BookIsInOrder entries
-        → BookIsInOrder (aged_entries ports entries) }
-    ensures revoked { (entries : List BookEntry) (client : ClientId) (grant : ℕ) → BookIsInOrder entries
-        → BookIsInOrder (all_marked_under client grant entries) }
-    ensures answered { (entries : List BookEntry) (id : RequestId) → BookIsInOrder entries
-        → BookIsInOrder (without_entry id entries) }
-    ensures has_128_at_most { (entries : List BookEntry) → BookIsInOrder entries → length entries ≤ MOST_UNANSWERED }
-    ensures unanswered_are_in_order { (entries : List BookEntry) → BookIsInOrder entries
+        → IsNewlyAccepted e.request → 1 ≤ e.request.client.0 → e.request.client.0 ≤ 8
+        → entry_count_of_client entries e.request.client.0 < 16
+        → BookIsWellFormed (entries ++ e ∷ []) }
+    ensures issued { (entries : List BookEntry) (id : RequestId) → BookIsWellFormed entries → IsWaiting id entries
+        → BookIsWellFormed (map (update_if_id id issued_request) entries) }
+    ensures requeued { (entries : List BookEntry) (id : RequestId) → BookIsWellFormed entries
+        → IsIssuedBelowLimit id entries
+        → BookIsWellFormed (map (update_if_id id requeued_request) entries) }
+    ensures aged { (entries : List BookEntry) (ports : Port → Bool) → BookIsWellFormed entries
+        → BookIsWellFormed (aged_entries ports entries) }
+    ensures revoked { (entries : List BookEntry) (client : ClientId) (grant : ℕ) → BookIsWellFormed entries
+        → BookIsWellFormed (all_revoked_under_grant client grant entries) }
+    ensures answered { (entries : List BookEntry) (id : RequestId) → BookIsWellFormed entries
+        → BookIsWellFormed (without_entry id entries) }
+    ensures has_128_at_most { (entries : List BookEntry) → BookIsWellFormed entries → length entries ≤ MOST_UNANSWERED }
+    ensures unanswered_are_in_order { (entries : List BookEntry) → BookIsWellFormed entries
         → IsInOrder (unanswered_of entries) }
 {}
 
 /// Accepted requests stay so while frames of none of their own change hands: as another request's frames are lent to it
 /// or given back. No frame is lent to two of them.
-pub fn law_accepted_is_preserved()
-    ensures apart { (table : FrameOwnership) (a b : BookEntry) → a.entry.id ≢ b.entry.id → IsAccepted table a
-        → IsAccepted table b
+pub fn law_well_formed_entries_stay()
+    ensures frames_are_disjoint { (table : OwnersAndLoans) (a b : BookEntry) → a.request.id ≢ b.request.id
+        → IsWellFormedEntry table a
+        → IsWellFormedEntry table b
         → (f : Frame) → Contains a.frames f → Contains b.frames f → ⊥ }
-    ensures loans_apart_leave_it { (old new : FrameOwnership) (frames : List Frame) (to : Option RequestId)
+    ensures disjoint_loans_preserve_it { (old new : OwnersAndLoans) (frames : List Frame) (to : Option RequestId)
         (e : BookEntry)
-        → LendsOnly old new frames to → IsAccepted old e → ((f : Frame) → Contains e.frames f → Contains frames f → ⊥)
-        → IsAccepted new e }
-    ensures lent { (old new : FrameOwnership) (entries : List BookEntry) (frames : List Frame) (to : Option RequestId)
-        → LendsOnly old new frames to → All (λ f. lent_to old f ≡ None) frames → All (IsAccepted old) entries
-        → All (IsAccepted new) entries }
-    ensures answered { (old new : FrameOwnership) (entries : List BookEntry) (e : BookEntry) → Contains entries e
-        → LendsOnly old new e.frames None → All (IsAccepted old) entries
-        → All (IsAccepted new) (without_entry e.entry.id entries) }
-    ensures issued { (table : FrameOwnership) (entries : List BookEntry) (id : RequestId)
-        → All (IsAccepted table) entries → All (IsAccepted table) (map (update_if_id id issued_entry) entries) }
-    ensures requeued { (table : FrameOwnership) (entries : List BookEntry) (id : RequestId)
-        → All (IsAccepted table) entries → All (IsAccepted table) (map (update_if_id id requeued_entry) entries) }
-    ensures aged_entry { (table : FrameOwnership) (entries : List BookEntry) (ports : Port → Bool)
-        → All (IsAccepted table) entries → All (IsAccepted table) (aged_entries ports entries) }
-    ensures revoked { (table : FrameOwnership) (entries : List BookEntry) (client : ClientId) (grant : ℕ)
-        → All (IsAccepted table) entries → All (IsAccepted table) (all_marked_under client grant entries) }
-    ensures frames_are_lent_to_all { (table : FrameOwnership) (entries : List BookEntry)
-        → All (IsAccepted table) entries
+        → SetsLoanOnly old new frames to → IsWellFormedEntry old e
+        → ((f : Frame) → Contains e.frames f → Contains frames f → ⊥)
+        → IsWellFormedEntry new e }
+    ensures lent { (old new : OwnersAndLoans) (entries : List BookEntry) (frames : List Frame) (to : Option RequestId)
+        → SetsLoanOnly old new frames to → All (λ f. lent_to old f ≡ None) frames → All (IsWellFormedEntry old) entries
+        → All (IsWellFormedEntry new) entries }
+    ensures answered { (old new : OwnersAndLoans) (entries : List BookEntry) (e : BookEntry) → Contains entries e
+        → SetsLoanOnly old new e.frames None → All (IsWellFormedEntry old) entries
+        → All (IsWellFormedEntry new) (without_entry e.request.id entries) }
+    ensures issued { (table : OwnersAndLoans) (entries : List BookEntry) (id : RequestId)
+        → All (IsWellFormedEntry table) entries
+        → All (IsWellFormedEntry table) (map (update_if_id id issued_request) entries) }
+    ensures requeued { (table : OwnersAndLoans) (entries : List BookEntry) (id : RequestId)
+        → All (IsWellFormedEntry table) entries
+        → All (IsWellFormedEntry table) (map (update_if_id id requeued_request) entries) }
+    ensures aged { (table : OwnersAndLoans) (entries : List BookEntry) (ports : Port → Bool)
+        → All (IsWellFormedEntry table) entries → All (IsWellFormedEntry table) (aged_entries ports entries) }
+    ensures revoked { (table : OwnersAndLoans) (entries : List BookEntry) (client : ClientId) (grant : ℕ)
+        → All (IsWellFormedEntry table) entries
+        → All (IsWellFormedEntry table) (all_revoked_under_grant client grant entries) }
+    ensures frames_are_lent_to_all { (table : OwnersAndLoans) (entries : List BookEntry)
+        → All (IsWellFormedEntry table) entries
         → All (HasItsFrames table) entries }
 {}
 
@@ -207,15 +207,18 @@ pub fn law_accepted_is_preserved()
 pub fn law_answers_of_one_outcome_are_one_change()
     ensures at_once { (passes : PendingRequest → Bool) (outcome : Outcome)
         → ((e : PendingRequest) → keeps_loan outcome e ≡ false)
-        → (old : BookAndLoans) → BookIsInOrder old.book → All (IsAccepted old.table) old.book → (replies : List Reply)
-        (new : BookAndLoans) → AreResolved (λ e. Complete outcome) (filter (λ e. passes e.entry) old.book) replies old
+        → (old : BookAndLoans) → BookIsWellFormed old.book → All (IsWellFormedEntry old.table) old.book
+        → (replies : List Reply)
+        (new : BookAndLoans) → AreResolved (λ e. Complete outcome) (filter (λ e. passes e.request) old.book) replies old
         new
         → CompletesAllWith passes outcome replies old new }
     ensures one_by_one { (passes : PendingRequest → Bool) (outcome : Outcome)
         → ((e : PendingRequest) → keeps_loan outcome e ≡ false)
-        → (old : BookAndLoans) → BookIsInOrder old.book → All (IsAccepted old.table) old.book → (replies : List Reply)
+        → (old : BookAndLoans) → BookIsWellFormed old.book → All (IsWellFormedEntry old.table) old.book
+        → (replies : List Reply)
         (new : BookAndLoans) → CompletesAllWith passes outcome replies old new
-        → (now : BookAndLoans) × AreResolved (λ e. Complete outcome) (filter (λ e. passes e.entry) old.book) replies old
+        → (now : BookAndLoans) × AreResolved (λ e. Complete outcome) (filter (λ e. passes e.request) old.book) replies
+        old
         now
-        × (now.book ≡ new.book) × (now.kept ≡ new.kept) × LendsOnly now.table new.table [] None }
+        × (now.book ≡ new.book) × (now.kept ≡ new.kept) × SetsLoanOnly now.table new.table [] None }
 {}

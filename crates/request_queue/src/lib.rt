@@ -36,7 +36,7 @@ pub struct PendingRequest {
     pub range: Range,
     pub issued: bool,
     /// How often it was issued: four times at most.
-    pub issues: u8,
+    pub issue_count: u8,
     /// How many ticks ago it was issued last: three at most, since an older one is overdue all the same.
     pub age: u8,
     /// Whether its grant was revoked since it was accepted.

@@ -3,14 +3,10 @@
 //! It goes down from the last range that begins before the request ends, to where all that are left
 //! are known to end at or before its first sector. (That it stops there is read, not proved: its
 //! contract says what is found.) `new` alone takes memory. Ids tell which request is earlier.
-ghost use Rattle.std.specs.Prelude.{◌≡◌, ◌≢◌, ◌↔◌, ℕ, ◌<◌, ◌≤◌, length, All, Contains, IfNone, IfOk, IfSome, IsTrue, Some, false, true, [], slice_get, slice_index_or, insert, remove, vec_capacity};
-ghost use Rattle.std.specs.List.{list_any};
+ghost use Rattle.std.specs.{Prelude.{◌≡◌, ◌≢◌, ◌↔◌, ℕ, ◌<◌, ◌≤◌, length, All, Contains, IfNone, IfOk, IfSome, IsTrue, Some, false, true, [], slice_get, slice_index_or, insert, remove, vec_capacity}, List.{list_any}};
 ghost use Rattle.ata_types.specs.Range.{range_end};
+ghost use Rattle.request_queue.specs.{BookRanges.{AreSorted, StandsBefore, IsGreatestEnd, is_earlier_conflict}, declared.ranges.IndexEntry.{IndexEntry}, declared.ranges.RequestRange.{RequestRange}, RangeIndex.{GreatestEndPropagates, IsIndex, items_of}};
 ghost use Rattle.block_machine.specs.DueRequests as machine;
-ghost use Rattle.request_queue.specs.BookRanges.{AreSorted, StandsBefore, IsGreatestEnd, is_earlier_conflict};
-ghost use Rattle.request_queue.specs.declared.ranges.IndexEntry.{IndexEntry};
-ghost use Rattle.request_queue.specs.declared.ranges.BookRange.{BookRange};
-ghost use Rattle.request_queue.specs.RangeIndex.{EndFollows, IsIndex, items_of};
 
 use ata_types::{MOST_UNANSWERED, Port, Range, RequestId};
 use std::alloc::{AllocError, Global};
@@ -18,32 +14,31 @@ use std::marker::Model;
 
 /// The sectors of a request on its port's disk, and whether it writes or trims them.
 #[derive(Clone, Copy, Debug, PartialEq, Eq)]
-pub struct BookRange {
+pub struct RequestRange {
     pub id: RequestId,
     pub range: Range,
     pub port: Port,
-    pub writes: bool,
+    pub changes_sectors: bool,
 }
 
 /// An item, and the greatest end of it and of all before it.
 #[derive(Clone, Copy, Debug)]
 struct IndexEntry {
-    item: BookRange,
+    item: RequestRange,
     /// Ends don't fit `u64`, since a range may reach past 2^64.
     greatest_end: u128,
 }
 
 /// Items, sorted by first sector, then by id.
 #[derive(Drop)]
-pub struct Ranges {
+pub struct RangeIndex {
     entries: Vec<IndexEntry>,
 }
 
-impl Model for Ranges {
+impl Model for RangeIndex {
     ghost use Rattle.std.specs.Prelude.{List, ◌≤◌, vec_capacity};
     ghost use Rattle.ata_types.specs.declared.limits.TheConstants.{MOST_UNANSWERED};
-    ghost use Rattle.request_queue.specs.declared.ranges.BookRange.{BookRange as One};
-    ghost use Rattle.request_queue.specs.RangeIndex.{IsIndex, items_of};
+    ghost use Rattle.request_queue.specs.{declared.ranges.RequestRange.{RequestRange as One}, RangeIndex.{IsIndex, items_of}};
 
     ghost Value = { List One };
 
@@ -52,19 +47,19 @@ impl Model for Ranges {
     ghost invariant = { λ r. IsIndex r.entries.items × (MOST_UNANSWERED ≤ vec_capacity r.entries) };
 }
 
-impl Ranges {
+impl RangeIndex {
     /// No items, with room for 128. No other call takes memory.
     pub fn new(alloc: Global) -> Result<Self, AllocError>
         ensures { IfOk result (λ ranges. ranges ≡ []) }
     {
         let entries = Vec::with_capacity(alloc, MOST_UNANSWERED)?;
-        Ok(Ranges { entries })
+        Ok(RangeIndex { entries })
     }
 
     /// Puts an item in its place.
-    pub fn insert(&mut self, item: BookRange)
+    pub fn insert(&mut self, item: RequestRange)
         requires room { length self.old < MOST_UNANSWERED }
-        requires fresh { All (λ x. x.id ≢ item.id) self.old }
+        requires id_is_new { All (λ x. x.id ≢ item.id) self.old }
         ensures { (place : ℕ) × (place ≤ length self.old) × (self.new ≡ insert self.old place item) }
     {
         let first = u128::from(item.range.first.0);
@@ -81,7 +76,7 @@ impl Ranges {
     }
 
     /// Takes an item out.
-    pub fn remove(&mut self, item: &BookRange)
+    pub fn remove(&mut self, item: &RequestRange)
         requires { Contains self.old item.now }
         ensures { (place : ℕ) × (slice_get self.old place ≡ Some item.now) × (self.new ≡ remove self.old place) }
     {
@@ -92,8 +87,8 @@ impl Ranges {
     }
 
     /// An item that was accepted before this one and conflicts with it, if there is one.
-    pub fn earlier_conflict(&self, item: &BookRange) -> Option<BookRange>
-        ensures none { IfNone result (list_any (is_earlier_conflict item.now) self.now ≡ false) }
+    pub fn earlier_conflict(&self, item: &RequestRange) -> Option<RequestRange>
+        ensures none_conflicts { IfNone result (list_any (is_earlier_conflict item.now) self.now ≡ false) }
         ensures found { IfSome result (λ x. Contains self.now x × (is_earlier_conflict item.now x ≡ true)) }
     {
         earlier_conflict(self.entries.as_slice(), item)
@@ -101,12 +96,12 @@ impl Ranges {
 }
 
 /// Whether the other item is of the same port, was accepted before this one, and conflicts with it.
-pub fn is_earlier_conflict(item: &BookRange, other: &BookRange) -> bool
+pub fn is_earlier_conflict(item: &RequestRange, other: &RequestRange) -> bool
     ensures { result ≡ is_earlier_conflict item.now other.now }
 {
     other.port.0 == item.port.0
         && other.id.0 < item.id.0
-        && (other.writes || item.writes)
+        && (other.changes_sectors || item.changes_sectors)
         && are_overlapping(&other.range, &item.range)
 }
 
@@ -128,7 +123,7 @@ fn end_of(range: &Range) -> u128
 }
 
 /// Whether the item stands before this first sector and id.
-fn is_before(item: &BookRange, first: u128, id: u64) -> bool
+fn is_before(item: &RequestRange, first: u128, id: u64) -> bool
     ensures { IsTrue result ↔ StandsBefore item.now first id }
 {
     let own = u128::from(item.range.first.0);
@@ -139,10 +134,10 @@ fn is_before(item: &BookRange, first: u128, id: u64) -> bool
 fn count_before(entries: &[IndexEntry], first: u128, id: u64) -> usize
     requires { AreSorted (items_of entries.now) }
     ensures within { result ≤ length entries.now }
-    ensures before { (k : ℕ) (d : BookRange) → k < result
+    ensures before { (k : ℕ) (d : RequestRange) → k < result
         → StandsBefore (slice_index_or (items_of entries.now) k d) first
         id }
-    ensures behind { (k : ℕ) (d : BookRange) → result ≤ k → k < length entries.now
+    ensures behind { (k : ℕ) (d : RequestRange) → result ≤ k → k < length entries.now
         → StandsBefore (slice_index_or (items_of entries.now) k d) first id → ⊥ }
 {
     let mut low = 0;
@@ -160,9 +155,9 @@ fn count_before(entries: &[IndexEntry], first: u128, id: u64) -> usize
 
 /// Searches down from the last item that begins before this one ends. It stops at an entry whose greatest end is at or
 /// below this one's first sector: no range up to that entry reaches it.
-fn earlier_conflict(entries: &[IndexEntry], item: &BookRange) -> Option<BookRange>
+fn earlier_conflict(entries: &[IndexEntry], item: &RequestRange) -> Option<RequestRange>
     requires { IsIndex entries.now }
-    ensures none { IfNone result (list_any (is_earlier_conflict item.now) (items_of entries.now) ≡ false) }
+    ensures none_conflicts { IfNone result (list_any (is_earlier_conflict item.now) (items_of entries.now) ≡ false) }
     ensures found { IfSome result (λ x. Contains (items_of entries.now) x
         × (is_earlier_conflict item.now x ≡ true)) }
 {
@@ -188,7 +183,7 @@ fn note_ends(entries: &mut Vec<IndexEntry>, from: usize)
     requires before { (k : ℕ) (d : IndexEntry) → k < from
         → IsGreatestEnd (items_of entries.old.items) k (slice_index_or entries.old.items k d).greatest_end }
     requires within { from ≤ length entries.old.items }
-    requires follow { (k : ℕ) (d : IndexEntry) → from < k → EndFollows entries.old.items k d }
+    requires follow { (k : ℕ) (d : IndexEntry) → from < k → GreatestEndPropagates entries.old.items k d }
     ensures items { items_of entries.new.items ≡ items_of entries.old.items }
     ensures ends { (k : ℕ) (d : IndexEntry) → k < length entries.old.items
         → IsGreatestEnd (items_of entries.old.items) k (slice_index_or entries.new.items k d).greatest_end }

@@ -1,7 +1,7 @@
 // Where the requests stand: in a slab, their loans beside it at their keys, and the keys in order of acceptance.
 ghost use Rattle.std.specs.Prelude.{◌≡◌, ◌<◌, ◌≤◌, ◌++◌, ◌∷◌, [], length, map, replicate, remove, slice_get, slice_set, All, IfOk, IfSome, None, Some};
 ghost use Rattle.block_machine.specs.Rules.{HasNoFault};
-ghost use Rattle.dma_frames.specs.FrameTables.{LendsOnly, lent_to, owner_of};
+ghost use Rattle.dma_frames.specs.FrameTables.{SetsLoanOnly, lent_to, owner_of};
 ghost use Rattle.request_queue.specs.BookEntries.{BookEntry, HasItsFrames, as_unanswered, unanswered_of};
 
 use crate::PendingRequest;
@@ -22,12 +22,11 @@ pub struct RequestSlab {
 impl Model for RequestSlab {
     ghost use Rattle.std.specs.Prelude.{List, ◌≤◌, length, vec_capacity};
     ghost use Rattle.ata_types.specs.declared.limits.TheConstants.{MOST_UNANSWERED};
-    ghost use Rattle.request_queue.specs.BookEntries.{BookEntry};
-    ghost use Rattle.request_queue.specs.RequestSlab.{entries, SlabIsSound};
+    ghost use Rattle.request_queue.specs.{BookEntries.{BookEntry}, RequestSlab.{slab_entries, SlabIsSound}};
 
     ghost Value = { List BookEntry };
 
-    ghost view = { λ s. entries s.requests s.loans.items s.order.items };
+    ghost view = { λ s. slab_entries s.requests s.loans.items s.order.items };
 
     ghost invariant = { λ s. SlabIsSound s.requests s.loans.items s.order.items
         × (MOST_UNANSWERED ≤ vec_capacity s.order) };
@@ -58,7 +57,7 @@ impl RequestSlab {
     /// The request at this place.
     pub fn request(&self, place: usize) -> PendingRequest
         requires { place < length self.now }
-        ensures { slice_get (map (λ e. e.entry) self.now) place ≡ Some result }
+        ensures { slice_get (map (λ e. e.request) self.now) place ≡ Some result }
     {
         self.requests[self.order[place]]
     }
@@ -67,7 +66,7 @@ impl RequestSlab {
     pub fn entry(&self, place: usize) -> (&PendingRequest, &Loan)
         requires { place < length self.now }
         ensures entry { slice_get self.now place
-            ≡ Some (record { entry = result.0.now; frames = result.1.now.frames }) }
+            ≡ Some (record { request = result.0.now; frames = result.1.now.frames }) }
         ensures id { result.1.now.request ≡ result.0.now.id }
     {
         let key = self.order[place];
@@ -79,8 +78,8 @@ impl RequestSlab {
         requires room { length self.old < MOST_UNANSWERED }
         requires frames { HasNoFault (owner_of table.old) (lent_to table.old) request.client frames.now
             × (length frames.now ≤ MOST_REQUEST_FRAMES) }
-        ensures last { self.new ≡ self.old ++ record { entry = request; frames = frames.now } ∷ [] }
-        ensures lent { LendsOnly table.old table.new frames.now (Some request.id) }
+        ensures request_is_appended { self.new ≡ self.old ++ record { request = request; frames = frames.now } ∷ [] }
+        ensures lent { SetsLoanOnly table.old table.new frames.now (Some request.id) }
     {
         let key = self.requests.insert_reserved(request);
         table.lend_at(request.client, frames, request.id, &mut self.loans[key]);
@@ -91,7 +90,7 @@ impl RequestSlab {
     #[inline(always)]
     pub fn remove(&mut self, place: usize) -> (PendingRequest, Loan)
         requires { place < length self.old }
-        ensures entry { slice_get self.old place ≡ Some (record { entry = result.0; frames = result.1.frames }) }
+        ensures entry { slice_get self.old place ≡ Some (record { request = result.0; frames = result.1.frames }) }
         ensures id { result.1.request ≡ result.0.id }
         ensures rest { self.new ≡ remove self.old place }
     {
@@ -101,12 +100,12 @@ impl RequestSlab {
     }
 
     /// Takes out the request at this place, and gives back what was lent to it.
-    pub fn release(&mut self, place: usize, table: &mut FrameTable) -> PendingRequest
-        requires within { place < length self.old }
-        requires stands { All (HasItsFrames table.old) self.old }
-        ensures entry { (e : BookEntry) × (slice_get self.old place ≡ Some e) × (e.entry ≡ result)
-            × LendsOnly table.old table.new e.frames None }
-        ensures rest { self.new ≡ remove self.old place }
+    pub fn remove_and_give_back(&mut self, place: usize, table: &mut FrameTable) -> PendingRequest
+        requires place_is_in_range { place < length self.old }
+        requires frames_are_lent { All (HasItsFrames table.old) self.old }
+        ensures entry { (e : BookEntry) × (slice_get self.old place ≡ Some e) × (e.request ≡ result)
+            × SetsLoanOnly table.old table.new e.frames None }
+        ensures request_is_removed { self.new ≡ remove self.old place }
     {
         let freed = self.order.remove(place);
         let request = self.requests.remove(freed);
@@ -116,10 +115,10 @@ impl RequestSlab {
 
     /// Puts another state of the same request in its place.
     pub fn replace(&mut self, place: usize, request: PendingRequest)
-        requires within { place < length self.old }
-        requires same_id { IfSome (slice_get self.old place) (λ old. request.id ≡ old.entry.id) }
+        requires place_is_in_range { place < length self.old }
+        requires same_id { IfSome (slice_get self.old place) (λ old. request.id ≡ old.request.id) }
         ensures { (e : BookEntry) × (slice_get self.old place ≡ Some e)
-            × (self.new ≡ slice_set self.old place (record e { entry = request })) }
+            × (self.new ≡ slice_set self.old place (record e { request = request })) }
     {
         let key = self.order[place];
         self.requests[key] = request;
@@ -130,7 +129,7 @@ impl RequestSlab {
         requires { place < length self.now }
         ensures { slice_get (unanswered_of self.now) place ≡ Some result }
     {
-        unanswered_of(self.request(place))
+        as_unanswered(self.request(place))
     }
 
     /// Ends the store, once it has no requests.
@@ -151,7 +150,7 @@ impl RequestSlab {
 }
 
 /// What of a request says whether it is due.
-pub fn unanswered_of(entry: PendingRequest) -> Unanswered
+pub fn as_unanswered(entry: PendingRequest) -> Unanswered
     ensures { result ≡ as_unanswered entry }
 {
     Unanswered {

@@ -22,7 +22,7 @@ use Rattle.adapter.specs.declared.access.FatalError.TheVariants.{Interface, Host
 use Rattle.ata_types.specs.declared.call.Call.{Call}
 use Rattle.ata_types.specs.declared.call.Call.TheVariants.{Submit, ClientStore, ClientLoad, Service, Tick, Reset, Revoke, State, Device}
 use Rattle.script.specs.FieldWords.{Word, fatal_word, frames_word}
-use Rattle.script.specs.Line.{HasLine, IsPortAndSlot, RequestInRange, StepInRange, line_text, line_words, op_word, page_word, port_and_slot_words, request_words, step_words}
+use Rattle.script.specs.Line.{HasLine, IsPortAndSlot, RequestFitsTypes, StepInRange, line_text, line_words, op_word, page_word, port_and_slot_words, request_words, step_words}
 use Rattle.script.proofs.FrameLemmas.{IsFrame, decimals}
 use Rattle.script.proofs.FrameLemmas as frame
 use Rattle.script.proofs.WordLemmas.{Lacks-below, Within, Within-decimal, Within-hex, Within-join, Within-literal, Within-weaker, IsUtf8-from_Within, slice_split-join}
@@ -65,15 +65,15 @@ fatal_is : (error : FatalError) → IsWord (fatal_word error)
 fatal_is Interface = fixed (fatal_word Interface) refl
 fatal_is HostBus = fixed (fatal_word HostBus) refl
 
-by_are : (r : Request) (words : List Word) → RequestInRange r → AreWords words → AreWords (decimal r.client.0 ∷ decimal r.grant ∷ words)
+by_are : (r : Request) (words : List Word) → RequestFitsTypes r → AreWords words → AreWords (decimal r.client.0 ∷ decimal r.grant ∷ words)
 by_are r words h rest = more (number r.client.0 (omega (arith, h.client_in_range))) (more (number r.grant (omega (arith, h.grant_in_range))) rest)
 
-sectors_are : (r : Request) (words : List Word) → RequestInRange r → AreWords words
+sectors_are : (r : Request) (words : List Word) → RequestFitsTypes r → AreWords words
     → AreWords (decimal r.client.0 ∷ decimal r.grant ∷ decimal r.first.0 ∷ decimal r.count ∷ words)
 sectors_are r words h rest = by_are r (decimal r.first.0 ∷ decimal r.count ∷ words) h
     (more (number r.first.0 h.first_in_range) (more (number r.count (omega (arith, h.count_in_range))) rest))
 
-request_are : (op : Op) (r : Request) → RequestInRange r → AreWords (request_words op r)
+request_are : (op : Op) (r : Request) → RequestFitsTypes r → AreWords (request_words op r)
 request_are Read r h = sectors_are r (frames_word r.frames.items ∷ []) h (more (listed r.frames.items h.frames_in_range) none)
 request_are Write r h = sectors_are r (frames_word r.frames.items ∷ []) h (more (listed r.frames.items h.frames_in_range) none)
 request_are Trim r h = sectors_are r [] h none

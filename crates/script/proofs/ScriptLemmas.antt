@@ -7,35 +7,35 @@ use Rattle.std.specs.List.{position, position_or_len}
 use borrow.Author.Tests.{ltb-true, ltb-false}
 use Rattle.std.proofs.lemmas.List.Splits.{slice_split_first, slice_split_none}
 use Rattle.std.proofs.lemmas.List.Sums.{fails_before_first}
-use Rattle.script.specs.Script.{Asks, AskForCalls, IsFirstLine, SplitsAt, asked_lines, done, nothing, one, IsBad, lines_after, lines_of}
+use Rattle.script.specs.Script.{Asks, AskForCalls, IsFirstLine, SplitsAt, asked_calls, no_lines, line_asks_nothing, line_asks_call, IsBadLine, lines_after, lines_of}
 use Rattle.adapter.specs.declared.access.DeviceStep.{DeviceStep}
 use Rattle.ata_types.specs.declared.call.Call.{Call}
 
 -- lines after lines
 pub ask_more : (texts more : List (List ℕ)) (lines rest : List (Call DeviceStep)) → AskForCalls texts lines → AskForCalls more rest → AskForCalls (texts ++ more) (lines ++ rest)
-ask_more [] more [] rest done then = then
+ask_more [] more [] rest no_lines then = then
 ask_more [] more (_ ∷ _) rest first then = elim first [ ]
-ask_more (t ∷ texts) more lines rest (nothing asks others) then = nothing asks (ask_more texts more lines rest others then)
-ask_more (t ∷ texts) more (line ∷ lines) rest (one asks others) then = one asks (ask_more texts more lines rest others then)
+ask_more (t ∷ texts) more lines rest (line_asks_nothing asks others) then = line_asks_nothing asks (ask_more texts more lines rest others then)
+ask_more (t ∷ texts) more (line ∷ lines) rest (line_asks_call asks others) then = line_asks_call asks (ask_more texts more lines rest others then)
 
 -- one line
-pub ask_one : (text : List ℕ) (asked : Option (Call DeviceStep)) → Asks text asked → AskForCalls (text ∷ []) (asked_lines asked)
-ask_one text None asks = nothing asks done
-ask_one text (Some line) asks = one asks done
+pub ask_one : (text : List ℕ) (asked : Option (Call DeviceStep)) → Asks text asked → AskForCalls (text ∷ []) (asked_calls asked)
+ask_one text None asks = line_asks_nothing asks no_lines
+ask_one text (Some line) asks = line_asks_call asks no_lines
 
 -- a text that stands among others
 pub ask_from : (before : List (List ℕ)) (text : List ℕ) (after : List (List ℕ)) (lines : List (Call DeviceStep)) → AskForCalls (before ++ text ∷ after) lines
     → SplitsAt before text after lines
-ask_from [] text after lines (nothing asks others) = record { earlier = []; before_ask = done; asked = None; text_asks = asks; rest = lines; after_ask = others; lines_are = refl }
-ask_from [] text after (line ∷ lines) (one asks others) = record { earlier = []; before_ask = done; asked = Some line; text_asks = asks; rest = lines; after_ask = others; lines_are = refl }
-ask_from (t ∷ before) text after lines (nothing asks others) =
+ask_from [] text after lines (line_asks_nothing asks others) = record { earlier = []; before_ask = no_lines; asked = None; text_asks = asks; rest = lines; after_ask = others; lines_are = refl }
+ask_from [] text after (line ∷ lines) (line_asks_call asks others) = record { earlier = []; before_ask = no_lines; asked = Some line; text_asks = asks; rest = lines; after_ask = others; lines_are = refl }
+ask_from (t ∷ before) text after lines (line_asks_nothing asks others) =
     let s = ask_from before text after lines others in
-    record { earlier = s.earlier; before_ask = nothing asks s.before_ask; asked = s.asked; text_asks = s.text_asks; rest = s.rest; after_ask = s.after_ask; lines_are = s.lines_are }
-ask_from (t ∷ before) text after (line ∷ lines) (one asks others) =
+    record { earlier = s.earlier; before_ask = line_asks_nothing asks s.before_ask; asked = s.asked; text_asks = s.text_asks; rest = s.rest; after_ask = s.after_ask; lines_are = s.lines_are }
+ask_from (t ∷ before) text after (line ∷ lines) (line_asks_call asks others) =
     let s = ask_from before text after lines others in
     record {
       earlier = line ∷ s.earlier;
-      before_ask = one asks s.before_ask;
+      before_ask = line_asks_call asks s.before_ask;
       asked = s.asked;
       text_asks = s.text_asks;
       rest = s.rest;
@@ -44,7 +44,7 @@ ask_from (t ∷ before) text after (line ∷ lines) (one asks others) =
     }
 
 -- a text that asks something or nothing isn't bad
-pub not_bad : (text : List ℕ) (asked : Option (Call DeviceStep)) → Asks text asked → IsBad text → ⊥
+pub not_bad : (text : List ℕ) (asked : Option (Call DeviceStep)) → Asks text asked → IsBadLine text → ⊥
 not_bad text None asks bad = bad.0 asks
 not_bad text (Some line) asks bad = bad.1 line asks.0 asks.1
 
@@ -89,8 +89,8 @@ pub looked_further : (text : List ℕ) (number : ℕ) (left : Bor (List ℕ)) (l
 looked_further text number left line after asked is first less asks =
     record {
       before = is.before ++ line ∷ [];
-      lines = is.lines ++ asked_lines asked;
-      good = ask_more is.before (line ∷ []) is.lines (asked_lines asked) is.good (ask_one line asked asks);
+      lines = is.lines ++ asked_calls asked;
+      good = ask_more is.before (line ∷ []) is.lines (asked_calls asked) is.good (ask_one line asked asks);
       cut = is.cut ∙ (ap (λ (ts : List (List ℕ)). is.before ++ ts) first ∙ sym (append_assoc is.before (line ∷ []) (lines_after after)));
       counted = let so_far = is.counted in omega (arith, so_far, length-append is.before (line ∷ []));
       few = let few = is.few in let rest = fewer_left after (length left.now) less in omega (arith, few, rest);

@@ -41,10 +41,10 @@ outcome_words outcome.PortDead = codes "PortDead" ∷ []
 outcome_words outcome.Revoked = codes "Revoked" ∷ []
 
 -- a fault of frames, with the place of the frame
-abbrev pub fault_words : FrameFault → List Word
-fault_words (fault.FrameForeign place) = codes "FrameForeign" ∷ decimal place ∷ []
-fault_words (fault.FrameTwice place) = codes "FrameTwice" ∷ decimal place ∷ []
-fault_words (fault.FrameLent place) = codes "FrameLent" ∷ decimal place ∷ []
+abbrev pub frame_fault_words : FrameFault → List Word
+frame_fault_words (fault.FrameForeign place) = codes "FrameForeign" ∷ decimal place ∷ []
+frame_fault_words (fault.FrameTwice place) = codes "FrameTwice" ∷ decimal place ∷ []
+frame_fault_words (fault.FrameLent place) = codes "FrameLent" ∷ decimal place ∷ []
 
 abbrev pub rule_words : Rule → List Word
 rule_words NoGrant = codes "NoGrant" ∷ []
@@ -52,7 +52,7 @@ rule_words NoRight = codes "NoRight" ∷ []
 rule_words BadCount = codes "BadCount" ∷ []
 rule_words OutsideGrant = codes "OutsideGrant" ∷ []
 rule_words FrameCount = codes "FrameCount" ∷ []
-rule_words (Frames f) = fault_words f
+rule_words (Frames f) = frame_fault_words f
 
 -- a refusal's name, then the place or state if it has one
 abbrev pub refusal_words : Refusal → List Word
@@ -83,7 +83,7 @@ abbrev pub answer_words : Answer → List Word
 answer_words (answer.Accepted id) = codes "ok" ∷ decimal id.0 ∷ []
 answer_words (answer.Refused refusal) = codes "refused" ∷ decimal ((refusal_rank refusal).0) ∷ refusal_words refusal
 answer_words answer.Stored = codes "stored" ∷ []
-answer_words (answer.Barred f) = codes "refused" ∷ mem_fault_word f ∷ []
+answer_words (answer.AccessRefused f) = codes "refused" ∷ mem_fault_word f ∷ []
 answer_words (answer.Bytes bytes) = codes "bytes" ∷ encode_lower bytes.now ∷ []
 answer_words (answer.Replied reply) = codes "reply" ∷ decimal reply.id.0 ∷ outcome_words reply.outcome
 answer_words answer.Quiet = codes "quiet" ∷ []

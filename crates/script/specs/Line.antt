@@ -91,7 +91,7 @@ IsSpellable Trim r = r.frames.items ≡ []
 IsSpellable Flush r = (r.first.0 ≡ 0) × (r.count ≡ 0) × (r.frames.items ≡ [])
 
 -- the request's numbers are in their ranges
-pub record RequestInRange (r : Request) : Type 0 where
+pub record RequestFitsTypes (r : Request) : Type 0 where
   pub client_in_range : r.client.0 < 256
   pub grant_in_range : r.grant < 256
   pub first_in_range : r.first.0 < 2 ^ 64
@@ -124,7 +124,7 @@ StepInRange (step.LosePlug port) = port.0 < 4
 
 -- the value has a line
 abbrev pub HasLine : Call DeviceStep → Type 0
-HasLine (Submit request) = IsSpellable request.op request × RequestInRange request
+HasLine (Submit request) = IsSpellable request.op request × RequestFitsTypes request
 HasLine (ClientStore client frame offset bytes) = (client.0 < 256) × (frame.0 < 65536) × (offset < 2 ^ 32)
     × All (λ b. b < 256) bytes.items × (1 ≤ length bytes.items) × (length bytes.items ≤ MOST_CALL_BYTES)
 HasLine (ClientLoad client frame offset count) = (client.0 < 256) × (frame.0 < 65536) × (offset < 2 ^ 32) × (1 ≤ count)
@@ -143,14 +143,14 @@ abbrev pub ReadsAsStep : List Word → Option DeviceStep → Type 0
 ReadsAsStep words found = IfSome found (λ s. StepInRange s × (step_words s ≡ words))
 
 -- the step whose words these are is found
-abbrev pub ReadsEachStep : List Word → Option DeviceStep → Type 0
-ReadsEachStep words found = (s : DeviceStep) → StepInRange s → step_words s ≡ words → found ≡ Some s
+abbrev pub FindsSpelledStep : List Word → Option DeviceStep → Type 0
+FindsSpelledStep words found = (s : DeviceStep) → StepInRange s → step_words s ≡ words → found ≡ Some s
 
 -- if a call is found, which then stands in the place, these are its line's words
 abbrev pub ReadsAsLine : List Word → Option ⊤ → Call DeviceStep → Type 0
 ReadsAsLine words found call = OnSome found (HasLine call × (line_words call ≡ words))
 
 -- the call whose line has these words is found
-abbrev pub ReadsEachLine : List Word → Option ⊤ → Call DeviceStep → Type 0
-ReadsEachLine words found call = (c : Call DeviceStep) → HasLine c → line_words c ≡ words
+abbrev pub FindsSpelledLine : List Word → Option ⊤ → Call DeviceStep → Type 0
+FindsSpelledLine words found call = (c : Call DeviceStep) → HasLine c → line_words c ≡ words
     → (found ≡ Some tt) × (call ≡ c)

@@ -36,23 +36,23 @@ call_if_asked false line = None
 
 -- the lines' texts ask these in turn
 pub data AskForCalls : List (List ℕ) → List (Call DeviceStep) → Type 0 where
-  done : AskForCalls [] []
-  nothing : {text : List ℕ} {texts : List (List ℕ)} {rest : List (Call DeviceStep)} → Asks text None
+  no_lines : AskForCalls [] []
+  line_asks_nothing : {text : List ℕ} {texts : List (List ℕ)} {rest : List (Call DeviceStep)} → Asks text None
       → AskForCalls texts rest → AskForCalls (text ∷ texts) rest
-  one : {text : List ℕ} {texts : List (List ℕ)} {line : Call DeviceStep} {rest : List (Call DeviceStep)}
+  line_asks_call : {text : List ℕ} {texts : List (List ℕ)} {line : Call DeviceStep} {rest : List (Call DeviceStep)}
       → Asks text (Some line) → AskForCalls texts rest → AskForCalls (text ∷ texts) (line ∷ rest)
 
 abbrev pub IsScript : List ℕ → List (Call DeviceStep) → Type 0
 IsScript text lines = AskForCalls (lines_of text) lines
 
 -- the text of a line that neither asks nothing nor is spelled as a line
-abbrev pub IsBad : List ℕ → Type 0
-IsBad text = (AsksNothing text → ⊥) × ((l : Call DeviceStep) → HasLine l → line_text l ≡ text → ⊥)
+abbrev pub IsBadLine : List ℕ → Type 0
+IsBadLine text = (AsksNothing text → ⊥) × ((l : Call DeviceStep) → HasLine l → line_text l ≡ text → ⊥)
 
 -- what one text asks, as a list
-abbrev pub asked_lines : Option (Call DeviceStep) → List (Call DeviceStep)
-asked_lines None = []
-asked_lines (Some line) = line ∷ []
+abbrev pub asked_calls : Option (Call DeviceStep) → List (Call DeviceStep)
+asked_calls None = []
+asked_calls (Some line) = line ∷ []
 
 -- A text stands among others: the lines are what those before it ask, what it asks itself, and what those after it do.
 pub record SplitsAt (before : List (List ℕ)) (text : List ℕ) (after : List (List ℕ)) (lines : List (Call DeviceStep))
@@ -63,7 +63,7 @@ pub record SplitsAt (before : List (List ℕ)) (text : List ℕ) (after : List (
   pub text_asks : Asks text asked
   pub rest : List (Call DeviceStep)
   pub after_ask : AskForCalls after rest
-  pub lines_are : lines ≡ earlier ++ (asked_lines asked ++ rest)
+  pub lines_are : lines ≡ earlier ++ (asked_calls asked ++ rest)
 
 -- What laws say of a script's lines: lines after lines, one line, a line among others; and one that asks something or
 -- nothing isn't bad.
@@ -71,19 +71,19 @@ pub record LineLaws : Type 0 where
   pub asked_lists_join : (texts more : List (List ℕ)) (lines rest : List (Call DeviceStep)) → AskForCalls texts lines
       → AskForCalls more rest → AskForCalls (texts ++ more) (lines ++ rest)
   pub one_line_asks : (text : List ℕ) (asked : Option (Call DeviceStep)) → Asks text asked
-      → AskForCalls (text ∷ []) (asked_lines asked)
+      → AskForCalls (text ∷ []) (asked_calls asked)
   pub asked_lists_split : (before : List (List ℕ)) (text : List ℕ) (after : List (List ℕ))
       (lines : List (Call DeviceStep))
       → AskForCalls (before ++ text ∷ after) lines → SplitsAt before text after lines
-  pub asked_line_is_not_bad : (text : List ℕ) (asked : Option (Call DeviceStep)) → Asks text asked → IsBad text → ⊥
+  pub asked_line_is_not_bad : (text : List ℕ) (asked : Option (Call DeviceStep)) → Asks text asked → IsBadLine text → ⊥
 
 -- the line with this number, of which the first is 1, is bad, and the lines before it ask something or nothing
-pub record IsFirstBad (text : List ℕ) (number : ℕ) : Type 0 where
+pub record IsFirstBadLine (text : List ℕ) (number : ℕ) : Type 0 where
   pub before : List (List ℕ)
   pub bad : List ℕ
   pub after : List (List ℕ)
   pub lines : List (Call DeviceStep)
   pub lines_are : lines_of text ≡ before ++ bad ∷ after
-  pub is_bad : IsBad bad
+  pub is_bad : IsBadLine bad
   pub earlier_lines_ask : AskForCalls before lines
   pub number_is : number ≡ length before + 1

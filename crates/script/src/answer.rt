@@ -1,10 +1,8 @@
 // The lines that answer a script.
-ghost use Rattle.std.specs.Prelude.{◌≡◌, ◌≤◌, ◌+◌, ◌++◌, Some, OnOk, decimal, length};
-ghost use Rattle.std.specs.Io.KnownBytes.{Appends};
-ghost use Rattle.std.specs.List.{flat_map, join_with_byte};
+ghost use Rattle.std.specs.{Prelude.{◌≡◌, ◌≤◌, ◌+◌, ◌++◌, Some, OnOk, decimal, length}, Io.KnownBytes.{Appends}, List.{flat_map, join_with_byte}};
 ghost use Rattle.hex.specs.Hex.{encode_lower};
 ghost use Rattle.block_machine.specs.Rules.{refusal_rank};
-ghost use Rattle.script.specs.Answer.{answer_line, answer_text, fault_words, moved_word, mem_fault_word, outcome_words, refusal_words, rule_words, state_words};
+ghost use Rattle.script.specs.Answer.{answer_line, answer_text, frame_fault_words, moved_word, mem_fault_word, outcome_words, refusal_words, rule_words, state_words};
 
 use adapter::{Clear, Done, Move, Operation};
 use arrayvec::ArrayVec;
@@ -23,7 +21,7 @@ pub enum Answer<'a> {
     /// The bytes were stored.
     Stored,
     /// The client may not load or store there.
-    Barred(MemFault),
+    AccessRefused(MemFault),
     /// The bytes that were loaded. More than `MOST_CALL_BYTES` can't be printed.
     Bytes(&'a [u8]),
     /// A request has ended.
@@ -108,7 +106,7 @@ impl fmt::Display for Ended {
 struct Faulty(FrameFault);
 
 impl fmt::Display for Faulty {
-    ghost output = { λ x. Some (join_with_byte 32 (fault_words x.0)) };
+    ghost output = { λ x. Some (join_with_byte 32 (frame_fault_words x.0)) };
 
     fn fmt<W: fmt::Write>(&self, f: &mut fmt::Formatter<W>) -> fmt::Result {
         match self.0 {
@@ -216,7 +214,7 @@ impl fmt::Display for Answer<'_> {
                 Named(refusal)
             ),
             Answer::Stored => write!(f, "stored"),
-            Answer::Barred(fault) => write!(f, "refused {}", fault_name(fault)),
+            Answer::AccessRefused(fault) => write!(f, "refused {}", fault_name(fault)),
             Answer::Bytes(bytes) => write!(f, "bytes {}", Hex(bytes)),
             Answer::Replied(reply) => write!(f, "reply {} {}", reply.id.0, Ended(reply.outcome)),
             Answer::Quiet => write!(f, "quiet"),

@@ -1,13 +1,9 @@
 // The fields of a line: words that spell values, each value in one way.
-ghost use Rattle.std.specs.Prelude.{◌≡◌, ◌<◌, ◌≤◌, ◌+◌, ◌++◌, ◌↔◌, ℕ, ◌∷◌, [], Some, None, IsTrue, IfSome, OnSome, length, map};
-ghost use Rattle.std.specs.List.{All};
-ghost use Rattle.std.specs.Fmt.{decimal};
+ghost use Rattle.std.specs.{Prelude.{◌≡◌, ◌<◌, ◌≤◌, ◌+◌, ◌++◌, ◌↔◌, ℕ, ◌∷◌, [], Some, None, IsTrue, IfSome, OnSome, length, map}, List.{All}, Fmt.{decimal}};
 ghost use Rattle.arrayvec.specs.ArrayVec.{ArrayVec as Items};
 ghost use Rattle.hex.specs.Hex.{encode_lower};
-ghost use Rattle.script.specs.FieldWords.{fatal_word, frames_word};
-ghost use Rattle.script.specs.Line.{page_word};
-ghost use Rattle.adapter.specs.declared.access.DiskPage.{DiskPage};
-ghost use Rattle.adapter.specs.declared.access.FatalError.{FatalError};
+ghost use Rattle.script.specs.{FieldWords.{fatal_word, frames_word}, Line.{page_word}};
+ghost use Rattle.adapter.specs.{declared.access.DiskPage.{DiskPage}, declared.access.FatalError.{FatalError}};
 
 use adapter::{DiskNumber, DiskPage, FatalError};
 use arrayvec::ArrayVec;
@@ -44,7 +40,7 @@ fn digit(byte: u8) -> Option<u64>
 /// A number up to the last one allowed, in decimal digits without needless zeros.
 pub(crate) fn parse_number(word: &[u8], last: u64) -> Option<u64>
     ensures spelled { IfSome result (λ n. (n ≤ last) × (decimal n ≡ word.now)) }
-    ensures only { (n : ℕ) → n ≤ last → decimal n ≡ word.now → result ≡ Some n }
+    ensures spelled_value_is_found { (n : ℕ) → n ≤ last → decimal n ≡ word.now → result ≡ Some n }
 {
     let (first, rest) = word.split_first()?;
     let mut number = digit(*first)?;
@@ -63,7 +59,7 @@ pub(crate) fn parse_number(word: &[u8], last: u64) -> Option<u64>
 /// A client's number: 0 to 255.
 pub(crate) fn parse_client(word: &[u8]) -> Option<ClientId>
     ensures spelled { IfSome result (λ c. (c.0 < 256) × (decimal c.0 ≡ word.now)) }
-    ensures only { (c : ClientId) → c.0 < 256 → decimal c.0 ≡ word.now → result ≡ Some c }
+    ensures spelled_value_is_found { (c : ClientId) → c.0 < 256 → decimal c.0 ≡ word.now → result ≡ Some c }
 {
     Some(ClientId(parse_number(word, 255)? as u8))
 }
@@ -71,7 +67,7 @@ pub(crate) fn parse_client(word: &[u8]) -> Option<ClientId>
 /// A number of 32 bits.
 pub(crate) fn parse_u32(word: &[u8]) -> Option<u32>
     ensures spelled { IfSome result (λ n. (n < 4294967296) × (decimal n ≡ word.now)) }
-    ensures only { (n : ℕ) → n < 4294967296 → decimal n ≡ word.now → result ≡ Some n }
+    ensures spelled_value_is_found { (n : ℕ) → n < 4294967296 → decimal n ≡ word.now → result ≡ Some n }
 {
     Some(parse_number(word, 0xffff_ffff)? as u32)
 }
@@ -79,7 +75,7 @@ pub(crate) fn parse_u32(word: &[u8]) -> Option<u32>
 /// How many bytes are loaded: 1 to `MOST_CALL_BYTES`.
 pub(crate) fn parse_byte_count(word: &[u8]) -> Option<u32>
     ensures spelled { IfSome result (λ n. (1 ≤ n) × (n ≤ MOST_CALL_BYTES) × (decimal n ≡ word.now)) }
-    ensures only { (n : ℕ) → 1 ≤ n → n ≤ MOST_CALL_BYTES → decimal n ≡ word.now → result ≡ Some n }
+    ensures spelled_value_is_found { (n : ℕ) → 1 ≤ n → n ≤ MOST_CALL_BYTES → decimal n ≡ word.now → result ≡ Some n }
 {
     let count = parse_number(word, MOST_CALL_BYTES as u64)? as u32;
     if count == 0 {
@@ -91,7 +87,7 @@ pub(crate) fn parse_byte_count(word: &[u8]) -> Option<u32>
 /// A frame's number: 0 to 65,535.
 pub(crate) fn parse_frame(word: &[u8]) -> Option<Frame>
     ensures spelled { IfSome result (λ f. (f.0 < 65536) × (decimal f.0 ≡ word.now)) }
-    ensures only { (f : Frame) → f.0 < 65536 → decimal f.0 ≡ word.now → result ≡ Some f }
+    ensures spelled_value_is_found { (f : Frame) → f.0 < 65536 → decimal f.0 ≡ word.now → result ≡ Some f }
 {
     Some(Frame(parse_number(word, 65_535)? as u16))
 }
@@ -99,7 +95,7 @@ pub(crate) fn parse_frame(word: &[u8]) -> Option<Frame>
 /// A port's number: 0 to 3.
 pub(crate) fn parse_port(word: &[u8]) -> Option<Port>
     ensures spelled { IfSome result (λ p. (p.0 < 4) × (decimal p.0 ≡ word.now)) }
-    ensures only { (p : Port) → p.0 < 4 → decimal p.0 ≡ word.now → result ≡ Some p }
+    ensures spelled_value_is_found { (p : Port) → p.0 < 4 → decimal p.0 ≡ word.now → result ≡ Some p }
 {
     Some(Port(parse_number(word, 3)? as u8))
 }
@@ -107,7 +103,7 @@ pub(crate) fn parse_port(word: &[u8]) -> Option<Port>
 /// A slot's number: 0 to 31.
 pub(crate) fn parse_slot(word: &[u8]) -> Option<Slot>
     ensures spelled { IfSome result (λ s. (s.0 < 32) × (decimal s.0 ≡ word.now)) }
-    ensures only { (s : Slot) → s.0 < 32 → decimal s.0 ≡ word.now → result ≡ Some s }
+    ensures spelled_value_is_found { (s : Slot) → s.0 < 32 → decimal s.0 ≡ word.now → result ≡ Some s }
 {
     Some(Slot(parse_number(word, 31)? as u8))
 }
@@ -115,7 +111,7 @@ pub(crate) fn parse_slot(word: &[u8]) -> Option<Slot>
 /// A disk's number: 0 or 1.
 pub(crate) fn parse_disk(word: &[u8]) -> Option<DiskNumber>
     ensures spelled { IfSome result (λ d. (d.0 < 2) × (decimal d.0 ≡ word.now)) }
-    ensures only { (d : DiskNumber) → d.0 < 2 → decimal d.0 ≡ word.now → result ≡ Some d }
+    ensures spelled_value_is_found { (d : DiskNumber) → d.0 < 2 → decimal d.0 ≡ word.now → result ≡ Some d }
 {
     Some(DiskNumber(parse_number(word, 1)? as u8))
 }
@@ -123,7 +119,7 @@ pub(crate) fn parse_disk(word: &[u8]) -> Option<DiskNumber>
 /// A fatal error, by the name of its bit of PxIS: `ifs` or `hbfs`.
 pub(crate) fn parse_fatal_error(word: &[u8]) -> Option<FatalError>
     ensures spelled { IfSome result (λ e. fatal_word e ≡ word.now) }
-    ensures only { (e : FatalError) → fatal_word e ≡ word.now → result ≡ Some e }
+    ensures spelled_value_is_found { (e : FatalError) → fatal_word e ≡ word.now → result ≡ Some e }
 {
     match str::from_utf8(word).ok()? {
         "ifs" => Some(FatalError::Interface),
@@ -135,7 +131,7 @@ pub(crate) fn parse_fatal_error(word: &[u8]) -> Option<FatalError>
 /// A page of a disk: `id` or `log`.
 pub(crate) fn parse_page(word: &[u8]) -> Option<DiskPage>
     ensures spelled { IfSome result (λ p. page_word p ≡ word.now) }
-    ensures only { (p : DiskPage) → page_word p ≡ word.now → result ≡ Some p }
+    ensures spelled_value_is_found { (p : DiskPage) → page_word p ≡ word.now → result ≡ Some p }
 {
     match str::from_utf8(word).ok()? {
         "id" => Some(DiskPage::Identity),
@@ -162,8 +158,9 @@ pub(crate) fn parse_frames(
 ) -> Option<()>
     ensures spelled { OnSome result (All (λ f. f.0 < 65536) frames.new.items
         × (frames_word frames.new.items ≡ word.now)) }
-    ensures most { OnSome result (length frames.new.items ≤ MOST_REQUEST_FRAMES) }
-    ensures only { (v : Items Frame) → All (λ f. f.0 < 65536) v.items → length v.items ≤ MOST_REQUEST_FRAMES
+    ensures at_most_128_frames { OnSome result (length frames.new.items ≤ MOST_REQUEST_FRAMES) }
+    ensures spelled_value_is_found { (v : Items Frame) → All (λ f. f.0 < 65536) v.items
+        → length v.items ≤ MOST_REQUEST_FRAMES
         → frames_word v.items ≡ word.now → (result ≡ Some tt) × (frames.new ≡ v) }
 {
     frames.clear();
@@ -184,9 +181,10 @@ pub(crate) fn parse_frames(
 /// 1 to `MOST_CALL_BYTES` bytes, each as two lower-case hexadecimal digits.
 pub(crate) fn parse_bytes(word: &[u8]) -> Option<ArrayVec<u8, MOST_CALL_BYTES>>
     ensures spelled { IfSome result (λ v. (1 ≤ length v.items) × (encode_lower v.items ≡ word.now)) }
-    ensures most { IfSome result (λ v. length v.items ≤ MOST_CALL_BYTES) }
+    ensures count_is_allowed { IfSome result (λ v. length v.items ≤ MOST_CALL_BYTES) }
     ensures bytes { IfSome result (λ v. All (λ b. b < 256) v.items) }
-    ensures only { (v : Items ℕ) → All (λ b. b < 256) v.items → 1 ≤ length v.items → length v.items ≤ MOST_CALL_BYTES
+    ensures spelled_value_is_found { (v : Items ℕ) → All (λ b. b < 256) v.items → 1 ≤ length v.items
+        → length v.items ≤ MOST_CALL_BYTES
         → encode_lower v.items ≡ word.now → result ≡ Some v }
 {
     let length = word.len() / 2;
@@ -207,7 +205,7 @@ pub(crate) fn parse_bytes(word: &[u8]) -> Option<ArrayVec<u8, MOST_CALL_BYTES>>
 /// One byte, as two lower-case hexadecimal digits.
 pub(crate) fn parse_byte(word: &[u8]) -> Option<u8>
     ensures spelled { IfSome result (λ b. (b < 256) × (encode_lower (b ∷ []) ≡ word.now)) }
-    ensures only { (b : ℕ) → b < 256 → encode_lower (b ∷ []) ≡ word.now → result ≡ Some b }
+    ensures spelled_value_is_found { (b : ℕ) → b < 256 → encode_lower (b ∷ []) ≡ word.now → result ≡ Some b }
 {
     match parse_bytes(word)?.as_slice() {
         [byte] => Some(*byte),

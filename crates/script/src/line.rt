@@ -1,11 +1,7 @@
 // One line of a script: the call that it asks for.
-ghost use Rattle.std.specs.Prelude.{◌≡◌, ◌<◌, ◌≤◌, ◌==◌, ◌↔◌, IsTrue, ◌++◌, ◌∷◌, [], codes, Some, None, IfSome, OnSome, length, map};
-ghost use Rattle.std.specs.List.{slice_split};
-ghost use Rattle.script.specs.Line.{HasLine, RequestInRange, IsSpellable, ReadsAsLine, ReadsAsStep, ReadsEachLine, ReadsEachStep, line_text, op_word, request_words, transfer_words};
-ghost use Rattle.ata_types.specs.declared.call.Call.{Call};
-ghost use Rattle.ata_types.specs.declared.call.Call.TheVariants.{Device, Submit};
-ghost use Rattle.ata_types.specs.declared.request.Op.{Op};
-ghost use Rattle.ata_types.specs.declared.request.Request.{Request};
+ghost use Rattle.std.specs.{Prelude.{◌≡◌, ◌<◌, ◌≤◌, ◌==◌, ◌↔◌, IsTrue, ◌++◌, ◌∷◌, [], codes, Some, None, IfSome, OnSome, length, map}, List.{slice_split}};
+ghost use Rattle.script.specs.Line.{HasLine, RequestFitsTypes, IsSpellable, ReadsAsLine, ReadsAsStep, FindsSpelledLine, FindsSpelledStep, line_text, op_word, request_words, transfer_words};
+ghost use Rattle.ata_types.specs.{declared.call.Call.{Call}, declared.call.Call.TheVariants.{Device, Submit}, declared.request.Op.{Op}, declared.request.Request.{Request}};
 ghost use Rattle.adapter.specs.declared.access.DeviceStep.{DeviceStep};
 
 use crate::call_buffer::{CallBuffer, CallPart};
@@ -46,9 +42,9 @@ fn part<'a>(text: &'a [u8], words: &mut ArrayVec<&'a [u8], MOST_WORDS>) -> Optio
 
 /// Reads the read or write that is asked, from the words after the first, in place of a request.
 fn transfer(op: Op, words: &[&[u8]], request: &mut Request) -> Option<()>
-    ensures found { OnSome result ((request.new.op ≡ op) × RequestInRange request.new
+    ensures found { OnSome result ((request.new.op ≡ op) × RequestFitsTypes request.new
         × (transfer_words request.new ≡ map (λ w. w.now) words.now)) }
-    ensures only { (r : Request) → r.op ≡ op → RequestInRange r → transfer_words r ≡ map (λ w. w.now) words.now
+    ensures only { (r : Request) → r.op ≡ op → RequestFitsTypes r → transfer_words r ≡ map (λ w. w.now) words.now
         → (result ≡ Some tt) × (request.new ≡ r) }
 {
     match words {
@@ -68,7 +64,7 @@ fn transfer(op: Op, words: &[&[u8]], request: &mut Request) -> Option<()>
 /// The lie that the disk of the port is to tell of this page: where, and which bits are turned.
 fn lie(port: &[u8], page: &[u8], offset: &[u8], bits: &[u8]) -> Option<DeviceStep>
     ensures found { ReadsAsStep (codes "lie" ∷ port.now ∷ page.now ∷ offset.now ∷ bits.now ∷ []) result }
-    ensures only { ReadsEachStep (codes "lie" ∷ port.now ∷ page.now ∷ offset.now ∷ bits.now ∷ []) result }
+    ensures only { FindsSpelledStep (codes "lie" ∷ port.now ∷ page.now ∷ offset.now ∷ bits.now ∷ []) result }
 {
     let port = fields::parse_port(port)?;
     let page = fields::parse_page(page)?;
@@ -80,7 +76,7 @@ fn lie(port: &[u8], page: &[u8], offset: &[u8], bits: &[u8]) -> Option<DeviceSte
 /// The clear that the device is to do: where, and of how many sectors.
 fn clear(port: &[u8], slot: &[u8], count: &[u8]) -> Option<DeviceStep>
     ensures found { ReadsAsStep (codes "clear" ∷ port.now ∷ slot.now ∷ count.now ∷ []) result }
-    ensures only { ReadsEachStep (codes "clear" ∷ port.now ∷ slot.now ∷ count.now ∷ []) result }
+    ensures only { FindsSpelledStep (codes "clear" ∷ port.now ∷ slot.now ∷ count.now ∷ []) result }
 {
     let port = fields::parse_port(port)?;
     let slot = fields::parse_slot(slot)?;
@@ -91,7 +87,7 @@ fn clear(port: &[u8], slot: &[u8], count: &[u8]) -> Option<DeviceStep>
 /// The fault that a command of the device is to end with: where, and which error.
 fn fault(port: &[u8], slot: &[u8], error: &[u8]) -> Option<DeviceStep>
     ensures found { ReadsAsStep (codes "fault" ∷ port.now ∷ slot.now ∷ error.now ∷ []) result }
-    ensures only { ReadsEachStep (codes "fault" ∷ port.now ∷ slot.now ∷ error.now ∷ []) result }
+    ensures only { FindsSpelledStep (codes "fault" ∷ port.now ∷ slot.now ∷ error.now ∷ []) result }
 {
     let port = fields::parse_port(port)?;
     let slot = fields::parse_slot(slot)?;
@@ -102,7 +98,7 @@ fn fault(port: &[u8], slot: &[u8], error: &[u8]) -> Option<DeviceStep>
 /// The same, of one that leaves its disk busy.
 fn fault_busy(port: &[u8], slot: &[u8], error: &[u8]) -> Option<DeviceStep>
     ensures found { ReadsAsStep (codes "faultbusy" ∷ port.now ∷ slot.now ∷ error.now ∷ []) result }
-    ensures only { ReadsEachStep (codes "faultbusy" ∷ port.now ∷ slot.now ∷ error.now ∷ []) result }
+    ensures only { FindsSpelledStep (codes "faultbusy" ∷ port.now ∷ slot.now ∷ error.now ∷ []) result }
 {
     let port = fields::parse_port(port)?;
     let slot = fields::parse_slot(slot)?;
@@ -113,7 +109,7 @@ fn fault_busy(port: &[u8], slot: &[u8], error: &[u8]) -> Option<DeviceStep>
 /// The byte that the device is to fill with what it may write.
 fn scribble(port: &[u8], byte: &[u8]) -> Option<DeviceStep>
     ensures found { ReadsAsStep (codes "scribble" ∷ port.now ∷ byte.now ∷ []) result }
-    ensures only { ReadsEachStep (codes "scribble" ∷ port.now ∷ byte.now ∷ []) result }
+    ensures only { FindsSpelledStep (codes "scribble" ∷ port.now ∷ byte.now ∷ []) result }
 {
     let port = fields::parse_port(port)?;
     let byte = fields::parse_byte(byte)?;
@@ -123,7 +119,7 @@ fn scribble(port: &[u8], byte: &[u8]) -> Option<DeviceStep>
 /// A step of which nothing but its port is told.
 fn of_port(name: &[u8], port: &[u8]) -> Option<DeviceStep>
     ensures found { ReadsAsStep (name.now ∷ port.now ∷ []) result }
-    ensures only { ReadsEachStep (name.now ∷ port.now ∷ []) result }
+    ensures only { FindsSpelledStep (name.now ∷ port.now ∷ []) result }
 {
     let port = fields::parse_port(port)?;
     if is_text(name, "unplug") {
@@ -147,7 +143,7 @@ fn of_port(name: &[u8], port: &[u8]) -> Option<DeviceStep>
 /// A step of which its port and one thing more is told.
 fn of_port_and(name: &[u8], port: &[u8], last: &[u8]) -> Option<DeviceStep>
     ensures found { ReadsAsStep (name.now ∷ port.now ∷ last.now ∷ []) result }
-    ensures only { ReadsEachStep (name.now ∷ port.now ∷ last.now ∷ []) result }
+    ensures only { FindsSpelledStep (name.now ∷ port.now ∷ last.now ∷ []) result }
 {
     if is_text(name, "scribble") {
         return scribble(port, last);
@@ -177,7 +173,7 @@ fn of_port_and(name: &[u8], port: &[u8], last: &[u8]) -> Option<DeviceStep>
 /// A step of which its port, a slot and one thing more is told.
 fn of_slot_and(name: &[u8], port: &[u8], slot: &[u8], last: &[u8]) -> Option<DeviceStep>
     ensures found { ReadsAsStep (name.now ∷ port.now ∷ slot.now ∷ last.now ∷ []) result }
-    ensures only { ReadsEachStep (name.now ∷ port.now ∷ slot.now ∷ last.now ∷ []) result }
+    ensures only { FindsSpelledStep (name.now ∷ port.now ∷ slot.now ∷ last.now ∷ []) result }
 {
     if is_text(name, "clear") {
         return clear(port, slot, last);
@@ -200,7 +196,7 @@ fn of_page_and(
     bits: &[u8],
 ) -> Option<DeviceStep>
     ensures found { ReadsAsStep (name.now ∷ port.now ∷ page.now ∷ offset.now ∷ bits.now ∷ []) result }
-    ensures only { ReadsEachStep (name.now ∷ port.now ∷ page.now ∷ offset.now ∷ bits.now ∷ []) result }
+    ensures only { FindsSpelledStep (name.now ∷ port.now ∷ page.now ∷ offset.now ∷ bits.now ∷ []) result }
 {
     if is_text(name, "lie") {
         return lie(port, page, offset, bits);
@@ -211,7 +207,7 @@ fn of_page_and(
 /// The step that the device is to do, from its name and the words after it.
 fn step(name: &[u8], words: &[&[u8]]) -> Option<DeviceStep>
     ensures found { ReadsAsStep (name.now ∷ map (λ w. w.now) words.now) result }
-    ensures only { ReadsEachStep (name.now ∷ map (λ w. w.now) words.now) result }
+    ensures only { FindsSpelledStep (name.now ∷ map (λ w. w.now) words.now) result }
 {
     match words {
         [port] => of_port(name, port),
@@ -231,7 +227,8 @@ fn trim(
     call: &mut Call<DeviceStep>,
 ) -> Option<()>
     ensures found { ReadsAsLine (codes "trim" ∷ client.now ∷ grant.now ∷ first.now ∷ count.now ∷ []) result call.new }
-    ensures only { ReadsEachLine (codes "trim" ∷ client.now ∷ grant.now ∷ first.now ∷ count.now ∷ []) result call.new }
+    ensures only { FindsSpelledLine (codes "trim" ∷ client.now ∷ grant.now ∷ first.now ∷ count.now ∷ []) result
+        call.new }
 {
     let client = fields::parse_client(client)?;
     let grant = fields::parse_number(grant, 255)? as u8;
@@ -251,7 +248,7 @@ fn trim(
 /// The same of the flush that is asked, from the words after `flush`. It names no sectors.
 fn flush(client: &[u8], grant: &[u8], call: &mut Call<DeviceStep>) -> Option<()>
     ensures found { ReadsAsLine (codes "flush" ∷ client.now ∷ grant.now ∷ []) result call.new }
-    ensures only { ReadsEachLine (codes "flush" ∷ client.now ∷ grant.now ∷ []) result call.new }
+    ensures only { FindsSpelledLine (codes "flush" ∷ client.now ∷ grant.now ∷ []) result call.new }
 {
     let client = fields::parse_client(client)?;
     let grant = fields::parse_number(grant, 255)? as u8;
@@ -275,7 +272,7 @@ fn store(
     call: &mut Call<DeviceStep>,
 ) -> Option<()>
     ensures found { ReadsAsLine (codes "store" ∷ client.now ∷ frame.now ∷ offset.now ∷ bytes.now ∷ []) result call.new }
-    ensures only { ReadsEachLine (codes "store" ∷ client.now ∷ frame.now ∷ offset.now ∷ bytes.now ∷ []) result
+    ensures only { FindsSpelledLine (codes "store" ∷ client.now ∷ frame.now ∷ offset.now ∷ bytes.now ∷ []) result
         call.new }
 {
     let client = fields::parse_client(client)?;
@@ -300,7 +297,8 @@ fn load(
     call: &mut Call<DeviceStep>,
 ) -> Option<()>
     ensures found { ReadsAsLine (codes "load" ∷ client.now ∷ frame.now ∷ offset.now ∷ count.now ∷ []) result call.new }
-    ensures only { ReadsEachLine (codes "load" ∷ client.now ∷ frame.now ∷ offset.now ∷ count.now ∷ []) result call.new }
+    ensures only { FindsSpelledLine (codes "load" ∷ client.now ∷ frame.now ∷ offset.now ∷ count.now ∷ []) result
+        call.new }
 {
     let client = fields::parse_client(client)?;
     let frame = fields::parse_frame(frame)?;
@@ -318,7 +316,7 @@ fn load(
 /// The same of the revocation that is asked, from the words after `revoke`.
 fn revoke(client: &[u8], grant: &[u8], call: &mut Call<DeviceStep>) -> Option<()>
     ensures found { ReadsAsLine (codes "revoke" ∷ client.now ∷ grant.now ∷ []) result call.new }
-    ensures only { ReadsEachLine (codes "revoke" ∷ client.now ∷ grant.now ∷ []) result call.new }
+    ensures only { FindsSpelledLine (codes "revoke" ∷ client.now ∷ grant.now ∷ []) result call.new }
 {
     let client = fields::parse_client(client)?;
     let grant = fields::parse_number(grant, 255)? as u8;
@@ -342,7 +340,7 @@ fn make_step(call: &mut Call<DeviceStep>, step: DeviceStep)
 #[inline(never)]
 fn of_device(words: &[&[u8]], call: &mut Call<DeviceStep>) -> Option<()>
     ensures found { ReadsAsLine (codes "dev" ∷ map (λ w. w.now) words.now) result call.new }
-    ensures only { ReadsEachLine (codes "dev" ∷ map (λ w. w.now) words.now) result call.new }
+    ensures only { FindsSpelledLine (codes "dev" ∷ map (λ w. w.now) words.now) result call.new }
 {
     let (name, rest) = words.split_first()?;
     let step = step(name, rest)?;
@@ -357,7 +355,7 @@ fn of_device(words: &[&[u8]], call: &mut Call<DeviceStep>) -> Option<()>
 #[inline(never)]
 fn of_word(name: &[u8], call: &mut Call<DeviceStep>) -> Option<()>
     ensures found { ReadsAsLine (name.now ∷ []) result call.new }
-    ensures only { ReadsEachLine (name.now ∷ []) result call.new }
+    ensures only { FindsSpelledLine (name.now ∷ []) result call.new }
 {
     if is_text(name, "service") {
         if !matches!(call, Call::Service) {
@@ -396,7 +394,7 @@ fn make_request(call: &mut Call<DeviceStep>)
 fn of_transfer(op: Op, words: &[&[u8]], call: &mut Call<DeviceStep>) -> Option<()>
     requires { (r : Request) → IsSpellable op r × (request_words op r ≡ transfer_words r) }
     ensures found { ReadsAsLine (op_word op ∷ map (λ w. w.now) words.now) result call.new }
-    ensures only { ReadsEachLine (op_word op ∷ map (λ w. w.now) words.now) result call.new }
+    ensures only { FindsSpelledLine (op_word op ∷ map (λ w. w.now) words.now) result call.new }
 {
     if !matches!(call, Call::Submit(_)) {
         make_request(call);
@@ -411,7 +409,7 @@ fn of_transfer(op: Op, words: &[&[u8]], call: &mut Call<DeviceStep>) -> Option<(
 #[inline(never)]
 fn of_trim(words: &[&[u8]], call: &mut Call<DeviceStep>) -> Option<()>
     ensures found { ReadsAsLine (codes "trim" ∷ map (λ w. w.now) words.now) result call.new }
-    ensures only { ReadsEachLine (codes "trim" ∷ map (λ w. w.now) words.now) result call.new }
+    ensures only { FindsSpelledLine (codes "trim" ∷ map (λ w. w.now) words.now) result call.new }
 {
     match words {
         [client, grant, first, count] => trim(client, grant, first, count, call),
@@ -423,7 +421,7 @@ fn of_trim(words: &[&[u8]], call: &mut Call<DeviceStep>) -> Option<()>
 #[inline(never)]
 fn of_flush(words: &[&[u8]], call: &mut Call<DeviceStep>) -> Option<()>
     ensures found { ReadsAsLine (codes "flush" ∷ map (λ w. w.now) words.now) result call.new }
-    ensures only { ReadsEachLine (codes "flush" ∷ map (λ w. w.now) words.now) result call.new }
+    ensures only { FindsSpelledLine (codes "flush" ∷ map (λ w. w.now) words.now) result call.new }
 {
     match words {
         [client, grant] => flush(client, grant, call),
@@ -435,7 +433,7 @@ fn of_flush(words: &[&[u8]], call: &mut Call<DeviceStep>) -> Option<()>
 #[inline(never)]
 fn of_store(words: &[&[u8]], call: &mut Call<DeviceStep>) -> Option<()>
     ensures found { ReadsAsLine (codes "store" ∷ map (λ w. w.now) words.now) result call.new }
-    ensures only { ReadsEachLine (codes "store" ∷ map (λ w. w.now) words.now) result call.new }
+    ensures only { FindsSpelledLine (codes "store" ∷ map (λ w. w.now) words.now) result call.new }
 {
     match words {
         [client, frame, offset, bytes] => store(client, frame, offset, bytes, call),
@@ -447,7 +445,7 @@ fn of_store(words: &[&[u8]], call: &mut Call<DeviceStep>) -> Option<()>
 #[inline(never)]
 fn of_load(words: &[&[u8]], call: &mut Call<DeviceStep>) -> Option<()>
     ensures found { ReadsAsLine (codes "load" ∷ map (λ w. w.now) words.now) result call.new }
-    ensures only { ReadsEachLine (codes "load" ∷ map (λ w. w.now) words.now) result call.new }
+    ensures only { FindsSpelledLine (codes "load" ∷ map (λ w. w.now) words.now) result call.new }
 {
     match words {
         [client, frame, offset, count] => load(client, frame, offset, count, call),
@@ -459,7 +457,7 @@ fn of_load(words: &[&[u8]], call: &mut Call<DeviceStep>) -> Option<()>
 #[inline(never)]
 fn of_revoke(words: &[&[u8]], call: &mut Call<DeviceStep>) -> Option<()>
     ensures found { ReadsAsLine (codes "revoke" ∷ map (λ w. w.now) words.now) result call.new }
-    ensures only { ReadsEachLine (codes "revoke" ∷ map (λ w. w.now) words.now) result call.new }
+    ensures only { FindsSpelledLine (codes "revoke" ∷ map (λ w. w.now) words.now) result call.new }
 {
     match words {
         [client, grant] => revoke(client, grant, call),
@@ -471,7 +469,7 @@ fn of_revoke(words: &[&[u8]], call: &mut Call<DeviceStep>) -> Option<()>
 #[inline(never)]
 fn of_state(words: &[&[u8]], call: &mut Call<DeviceStep>) -> Option<()>
     ensures found { ReadsAsLine (codes "state" ∷ map (λ w. w.now) words.now) result call.new }
-    ensures only { ReadsEachLine (codes "state" ∷ map (λ w. w.now) words.now) result call.new }
+    ensures only { FindsSpelledLine (codes "state" ∷ map (λ w. w.now) words.now) result call.new }
 {
     match words {
         [port] => {
@@ -488,7 +486,7 @@ fn parse_other_line(name: &[u8], words: &[&[u8]], call: &mut Call<DeviceStep>) -
     requires name { (name.now ≡ codes "read" → ⊥) × (name.now ≡ codes "write" → ⊥) × (name.now ≡ codes "dev" → ⊥) }
     requires more { 1 ≤ length words.now }
     ensures found { ReadsAsLine (name.now ∷ map (λ w. w.now) words.now) result call.new }
-    ensures only { ReadsEachLine (name.now ∷ map (λ w. w.now) words.now) result call.new }
+    ensures only { FindsSpelledLine (name.now ∷ map (λ w. w.now) words.now) result call.new }
 {
     if is_text(name, "trim") {
         return of_trim(words, call);
@@ -515,7 +513,7 @@ fn parse_other_line(name: &[u8], words: &[&[u8]], call: &mut Call<DeviceStep>) -
 /// kind has room for is cleared for that kind alone.
 fn asked(name: &[u8], words: &[&[u8]], call: &mut CallBuffer) -> Option<()>
     ensures found { ReadsAsLine (name.now ∷ map (λ w. w.now) words.now) result call.new }
-    ensures only { ReadsEachLine (name.now ∷ map (λ w. w.now) words.now) result call.new }
+    ensures only { FindsSpelledLine (name.now ∷ map (λ w. w.now) words.now) result call.new }
 {
     call.last = CallPart::Other;
     if words.is_empty() {
@@ -541,7 +539,8 @@ fn asked(name: &[u8], words: &[&[u8]], call: &mut CallBuffer) -> Option<()>
 #[inline(never)]
 pub fn parse_line_into(text: &[u8], call: &mut CallBuffer) -> Option<()>
     ensures found { OnSome result (HasLine call.new × (line_text call.new ≡ text.now)) }
-    ensures only { (c : Call DeviceStep) → HasLine c → line_text c ≡ text.now → (result ≡ Some tt) × (call.new ≡ c) }
+    ensures spelled_call_is_found { (c : Call DeviceStep) → HasLine c → line_text c ≡ text.now → (result ≡ Some tt)
+        × (call.new ≡ c) }
 {
     let mut words = ArrayVec::new();
     part(text, &mut words)?;
@@ -552,7 +551,7 @@ pub fn parse_line_into(text: &[u8], call: &mut CallBuffer) -> Option<()>
 /// Reads the call that a line asks for, without its line feed. `None` says that no line is spelled so.
 pub fn parse_line(text: &[u8]) -> Option<Call<DeviceStep>>
     ensures found { IfSome result (λ call. HasLine call × (line_text call ≡ text.now)) }
-    ensures only { (c : Call DeviceStep) → HasLine c → line_text c ≡ text.now → result ≡ Some c }
+    ensures spelled_call_is_found { (c : Call DeviceStep) → HasLine c → line_text c ≡ text.now → result ≡ Some c }
 {
     let mut call = CallBuffer::new();
     parse_line_into(text, &mut call)?;

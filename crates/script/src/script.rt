@@ -1,7 +1,6 @@
 // A whole script.
-ghost use Rattle.std.specs.Prelude.{◌≡◌, ◌<◌, ◌==◌, ◌↔◌, IsTrue, IfOk, IfErr, IfSome, List, OnErr, OnOk, length};
-ghost use Rattle.std.specs.List.{position};
-ghost use Rattle.script.specs.Script.{Asks, call_if_asked, AsksNothing, IsBad, IsFirstBad, IsFirstLine, IsScript};
+ghost use Rattle.std.specs.{Prelude.{◌≡◌, ◌<◌, ◌==◌, ◌↔◌, IsTrue, IfOk, IfErr, IfSome, List, OnErr, OnOk, length}, List.{position}};
+ghost use Rattle.script.specs.Script.{Asks, call_if_asked, AsksNothing, IsBadLine, IsFirstBadLine, IsFirstLine, IsScript};
 ghost use Rattle.adapter.specs.declared.access.DeviceStep.{DeviceStep};
 ghost use Rattle.ata_types.specs.declared.call.Call.{Call};
 
@@ -31,7 +30,7 @@ fn asks_nothing(text: &[u8]) -> bool
 /// is bad.
 pub fn parse_script_line(text: &[u8], call: &mut CallBuffer) -> Result<bool, Misspelled>
     ensures ok { IfOk result (λ some. Asks text.now (call_if_asked some call.new)) }
-    ensures bad { OnErr result (IsBad text.now) }
+    ensures bad { OnErr result (IsBadLine text.now) }
 {
     if asks_nothing(text) {
         return Ok(false);
@@ -47,7 +46,7 @@ pub fn parse_script_line(text: &[u8], call: &mut CallBuffer) -> Result<bool, Mis
 /// `parse_script_line` reads each again.
 pub fn check_script(text: &[u8]) -> Result<(), BadLine>
     ensures ok { OnOk result ((calls : List (Call DeviceStep)) × IsScript text.now calls) }
-    ensures bad { IfErr result (λ bad. IsFirstBad text.now bad.0) }
+    ensures bad { IfErr result (λ bad. IsFirstBadLine text.now bad.0) }
 {
     let mut number = 0;
     let mut asked = CallBuffer::new();
@@ -79,8 +78,8 @@ fn line_feed(text: &[u8]) -> Option<usize>
 /// The first line of a text, without its line feed, and what stands after it; `None` where no line feed ends it, so
 /// that it is the last.
 pub fn first_line(text: &[u8]) -> (&[u8], Option<&[u8]>)
-    ensures first { IsFirstLine text.now result.0.now result.1 }
-    ensures less { IfSome result.1 (λ after. length after.now < length text.now) }
+    ensures is_first_line { IsFirstLine text.now result.0.now result.1 }
+    ensures rest_is_shorter { IfSome result.1 (λ after. length after.now < length text.now) }
 {
     match line_feed(text) {
         Some(at) => (&text[..at], Some(&text[at + 1..])),

@@ -4,14 +4,14 @@ use Rattle.std.specs.Prelude.{slice_set, ◌++◌, ◌-◌, ◌≤◌, ◌∷◌
 use Rattle.std.proofs.lemmas.Bool.Decides.{eqb_tells}
 use Rattle.std.proofs.lemmas.List.{set-append_left, length-set, append_assoc, replicate-append-replicate, length-replicate}
 use Rattle.std.proofs.Common.{length-append}
-use Rattle.sector_store.specs.Stores.{AreSectors, IsStoredSector, followed_by_zeros, replaced}
+use Rattle.sector_store.specs.Stores.{AreSectors, IsStoredSector, followed_by_zeros, with_sector}
 
 -- one sector replaced
 pub sectors_set : (xs : List (List ℕ)) (p : ℕ) (new : List ℕ) → p < length xs →
-    (λ (k : ℕ). slice_index_or (slice_set xs p new) k []) ≡ replaced (λ k. slice_index_or xs k []) p new
+    (λ (k : ℕ). slice_index_or (slice_set xs p new) k []) ≡ with_sector (λ k. slice_index_or xs k []) p new
 sectors_set xs p new small = λ i k. at k i
   where
-    at : (k : ℕ) → slice_index_or (slice_set xs p new) k [] ≡ replaced (λ k. slice_index_or xs k []) p new k
+    at : (k : ℕ) → slice_index_or (slice_set xs p new) k [] ≡ with_sector (λ k. slice_index_or xs k []) p new k
     at k =
         elim (eqb_tells k p) [
           | inl same ↦ rw same.0 (rw same.1 (get_or-set_same xs p new [] small))
@@ -46,7 +46,7 @@ zero_written size xs ys is few = ap (followed_by_zeros size) is ∙ zeros_writte
 -- what is told, once a sector that was written before has other bytes
 pub sector_rewritten : (size p : ℕ) (xs : List (List ℕ)) (new : List ℕ) → p < length xs →
     (λ (k : ℕ). slice_index_or (followed_by_zeros size (slice_set xs p new)) k [])
-    ≡ replaced (λ k. slice_index_or (followed_by_zeros size xs) k []) p new
+    ≡ with_sector (λ k. slice_index_or (followed_by_zeros size xs) k []) p new
 sector_rewritten size p xs new small =
     let zeros = replicate (size - length xs) (replicate 512 0) in
     ap {B = ℕ → List ℕ} (λ (l : List (List ℕ)). λ k. slice_index_or l k [])
@@ -56,7 +56,7 @@ sector_rewritten size p xs new small =
 
 -- where sectors are told, one of them replaced, they still are
 pub replaced_are_sectors : (size p : ℕ) (told : ℕ → List ℕ) (new : List ℕ) → AreSectors size (Some told)
-    → IsStoredSector new → AreSectors size (Some (replaced told p new))
+    → IsStoredSector new → AreSectors size (Some (with_sector told p new))
 replaced_are_sectors size p told new are is k lt =
     elim (eqb_tells k p) [
       | inl same ↦ rw same.0 is

@@ -3,7 +3,7 @@ use Rattle.std.proofs.Common.{ℕ, ◌≡◌, ◌≢◌, ◌<◌, ◌≤◌, inl
 use Rattle.std.proofs.lemmas.List.{get_or-replicate, length-set}
 use Rattle.std.proofs.lemmas.List.Sums.{sum_by-set}
 use Rattle.std.specs.Prelude.{slice_set}
-use Rattle.sector_store.specs.Pages.{IsLogPage, IsIdentifyPage, IsWord, logged_error_byte, logged_status, logged_tag, identify_word}
+use Rattle.sector_store.specs.Pages.{IsLogPage, IsIdentifyPage, IsIdentifyWord, logged_error_byte, logged_status, logged_tag, identify_word}
 use Rattle.sector_store.specs.declared.pages.Abilities.{Abilities}
 use Rattle.sector_store.specs.declared.pages.LoggedError.{LoggedError}
 
@@ -38,17 +38,17 @@ pub zeros_stay : (page : List ℕ) (n w k : ℕ) → 2 * n + 2 ≤ k → slice_i
 zeros_stay page n w k past = byte_stays page n w k (λ e. absurd (omega (arith, e, past))) (λ e. absurd (omega (arith, e, past)))
 
 -- a word past all of which something is told is zero
-pub unfilled : (serial : List ℕ) (sectors : ℕ) (a : Abilities) (number : ℕ) → 170 ≤ number → IsWord serial sectors a number 0
+pub unfilled : (serial : List ℕ) (sectors : ℕ) (a : Abilities) (number : ℕ) → 170 ≤ number → IsIdentifyWord serial sectors a number 0
 unfilled serial sectors a number past =
     record {
       serial_is = λ _ less. absurd (omega (arith, less, past));
-      support_is = λ e. absurd (omega (arith, e, past));
+      trim_support_is = λ e. absurd (omega (arith, e, past));
       depth_is = λ e. absurd (omega (arith, e, past));
       queuing_is = λ e. absurd (omega (arith, e, past));
-      sets_are = λ e. absurd (omega (arith, e, past));
+      feature_sets_are = λ e. absurd (omega (arith, e, past));
       sectors_are = λ _ less. absurd (omega (arith, less, past));
       function_is = λ either. absurd (elim either [ inl e ↦ omega (arith, e, past) | inr e ↦ omega (arith, e, past) ]);
-      size_is = λ e. absurd (omega (arith, e, past));
+      sector_size_is = λ e. absurd (omega (arith, e, past));
       others_are = λ _ _ _ _ _ _ _ _ _. refl;
     }
 
@@ -59,7 +59,7 @@ sum_set : (xs : List ℕ) (p v : ℕ) → p < length xs → sum (slice_set xs p 
 sum_set xs p v small = sum_by-set (λ (n : ℕ). n) xs p v 0 small
 
 module _ (serial : List ℕ) (sectors : ℕ) (a : Abilities) (page : List ℕ) (size : length page ≡ 512) (last : slice_index page 511 ≡ 0)
-    (words : (number : ℕ) → number < 255 → IsWord serial sectors a number (identify_word page number)) where
+    (words : (number : ℕ) → number < 255 → IsIdentifyWord serial sectors a number (identify_word page number)) where
   abbrev signed_page : List ℕ
   signed_page = slice_set page 510 0xa5
 
@@ -79,7 +79,7 @@ module _ (serial : List ℕ) (sectors : ℕ) (a : Abilities) (page : List ℕ) (
             let low = same (2 * number) (omega (arith, less)) in
             let high = same (2 * number + 1) (omega (arith, less)) in
             let is : identify_word page number ≡ identify_word (slice_set signed_page 511 byte) number = omega (arith, low, high) in
-            subst (λ w. IsWord serial sectors a number w) is (words number less);
+            subst (λ w. IsIdentifyWord serial sectors a number w) is (words number less);
         signature_is = get_or-set_other signed_page 511 510 byte 0 (λ e. absurd (omega (arith, e))) ∙ get_or-set_same page 510 0xa5 0 (omega (arith, size));
         checksum_is_zero =
             let total = sum_set signed_page 511 byte (omega (arith, kept)) in

@@ -28,16 +28,16 @@ trim_function_word _ = 1
 -- native command queuing (76), 48-bit addresses and FLUSH CACHE EXT in a valid word (83), sectors (100 to 103, the
 -- lowest first), and sectors of 256 words in a valid word (106). Every other word is zero. The first of the two
 -- characters in a word is its high byte.
-pub record IsWord (serial : List ℕ) (sectors : ℕ) (a : Abilities) (number w : ℕ) : Type 0 where
+pub record IsIdentifyWord (serial : List ℕ) (sectors : ℕ) (a : Abilities) (number w : ℕ) : Type 0 where
   pub serial_is : 10 ≤ number → number < 20
       → w ≡ 2 ^ 8 * character serial (2 * (number - 10)) + character serial (2 * (number - 10) + 1)
-  pub support_is : number ≡ 69 → w ≡ trim_support_word a.trim
+  pub trim_support_is : number ≡ 69 → w ≡ trim_support_word a.trim
   pub depth_is : number ≡ 75 → w ≡ a.depth - 1
   pub queuing_is : number ≡ 76 → w ≡ (if a.ncq then 0x100 else 0)
-  pub sets_are : number ≡ 83 → w ≡ 0x6400
+  pub feature_sets_are : number ≡ 83 → w ≡ 0x6400
   pub sectors_are : 100 ≤ number → number < 104 → w ≡ sectors / 2 ^ (16 * (number - 100)) % 2 ^ 16
   pub function_is : (number ≡ 105) ⊎ (number ≡ 169) → w ≡ trim_function_word a.trim
-  pub size_is : number ≡ 106 → w ≡ 0x4000
+  pub sector_size_is : number ≡ 106 → w ≡ 0x4000
   pub others_are : (number < 10) ⊎ (20 ≤ number) → number ≢ 69 → number ≢ 75 → number ≢ 76 → number ≢ 83
       → (number < 100) ⊎ (104 ≤ number) → number ≢ 105 → number ≢ 106 → number ≢ 169 → w ≡ 0
 
@@ -45,7 +45,7 @@ pub record IsWord (serial : List ℕ) (sectors : ℕ) (a : Abilities) (number w 
 -- all bytes sum to 0 modulo 256.
 pub record IsIdentifyPage (serial : List ℕ) (sectors : ℕ) (a : Abilities) (page : List ℕ) : Type 0 where
   pub size : length page ≡ 512
-  pub words : (number : ℕ) → number < 255 → IsWord serial sectors a number (identify_word page number)
+  pub words : (number : ℕ) → number < 255 → IsIdentifyWord serial sectors a number (identify_word page number)
   pub signature_is : slice_index page 510 ≡ 0xa5
   pub checksum_is_zero : sum page % 2 ^ 8 ≡ 0
 

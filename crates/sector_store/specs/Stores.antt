@@ -7,8 +7,8 @@ abbrev pub IsStoredSector : List ℕ → Type 0
 IsStoredSector bytes = (length bytes ≡ 512) × All (λ byte. byte < 256) bytes
 
 -- these sectors, but for one, which has other bytes
-abbrev pub replaced : (ℕ → List ℕ) → ℕ → List ℕ → ℕ → List ℕ
-replaced told sector bytes = λ k. if nat_eq k sector then bytes else told k
+abbrev pub with_sector : (ℕ → List ℕ) → ℕ → List ℕ → ℕ → List ℕ
+with_sector told sector bytes = λ k. if nat_eq k sector then bytes else told k
 
 -- where they are told, these are so many sectors
 abbrev pub AreSectors : ℕ → Option (ℕ → List ℕ) → Type 0
@@ -23,10 +23,14 @@ abbrev pub first_untaken_sector : (room : List (List ℕ)) → ℕ → List ℕ
 first_untaken_sector room left = slice_index_or room (length room - left) []
 
 -- One more call has failed: a write, or else a read, of this sector.
-abbrev pub FailsOn : Bool → ℕ → (was now : Option Failures) → Type 0
-FailsOn is_write sector was now =
+abbrev pub HasOneMoreFailure : Bool → ℕ → (was now : Option Failures) → Type 0
+HasOneMoreFailure is_write sector was now =
     (f : Failures) × (was ≡ Some f)
-    × (now ≡ Some (record { calls = (f.calls + 1) % 2 ^ 64; sector = sector; is_write = is_write }))
+    × (now ≡ Some (record {
+      failed_calls = (f.failed_calls + 1) % 2 ^ 64;
+      last_sector = sector;
+      last_is_write = is_write;
+    }))
 
 -- A sector of a store was to be copied. It was; or there is none, or a call has failed, and the place that it was to
 -- come to is as it was. What the store tells is as it was.
@@ -37,18 +41,19 @@ pub record ReadsSector {S : Type 0} (size : S → ℕ) (told : S → Option (ℕ
   pub is_sector : done ≡ true → IsStoredSector after
   pub place_is_kept : done ≡ false → after ≡ before
   pub no_call_fails : (done ≡ true) ⊎ (size old ≤ sector) → failures new ≡ failures old
-  pub failure_is_noted : done ≡ false → sector < size old → FailsOn false sector (failures old) (failures new)
+  pub failure_is_noted : done ≡ false → sector < size old → HasOneMoreFailure false sector (failures old) (failures new)
   pub contents_are_kept : told new ≡ told old
   pub size_is_kept : size new ≡ size old
 
 -- A sector of a store was to have these bytes. It has, and no other one has others; or there is none, or a call has
 -- failed in this way, and what the store tells is as it was.
 pub record WritesSector {S : Type 0} (size : S → ℕ) (told : S → Option (ℕ → List ℕ)) (failures : S → Option Failures)
-    (Fails : (was now : Option Failures) → Type 0) (sector : ℕ) (bytes : List ℕ) (old new : S) (done : Bool) : Type 0
+    (FailsAndPosts : (was now : Option Failures) → Type 0) (sector : ℕ) (bytes : List ℕ) (old new : S)
+    (done : Bool) : Type 0
   where
     pub is_inside : done ≡ true → sector < size old
-    pub sector_is_replaced : done ≡ true → told new ≡ option_map (λ told. replaced told sector bytes) (told old)
+    pub sector_is_replaced : done ≡ true → told new ≡ option_map (λ told. with_sector told sector bytes) (told old)
     pub told_is_kept : done ≡ false → told new ≡ told old
     pub no_call_fails : (done ≡ true) ⊎ (size old ≤ sector) → failures new ≡ failures old
-    pub failure_is_noted : done ≡ false → sector < size old → Fails (failures old) (failures new)
+    pub failure_is_noted : done ≡ false → sector < size old → FailsAndPosts (failures old) (failures new)
     pub size_is_kept : size new ≡ size old

@@ -1,7 +1,6 @@
 // A disk over a file or in memory.
 ghost use Rattle.std.specs.Prelude.{◌≡◌};
-ghost use Rattle.sector_store.specs.declared.disks.DiskStore.TheVariants.{File, Memory};
-ghost use Rattle.sector_store.specs.Disks.{failures_of, sector_count_of, contents_of};
+ghost use Rattle.sector_store.specs.{declared.disks.DiskStore.TheVariants.{File, Memory}, Disks.{failures_of, sector_count_of, contents_of}};
 
 use crate::{FileStore, MemStore, SectorStore};
 

@@ -1,6 +1,6 @@
 // A disk over an open file.
 ghost use Rattle.std.specs.Prelude.{◌≡◌, ◌↔◌, ◌<◌, ◌≤◌, ◌*◌, ◌/◌, ◌^◌, Some, None, IsTrue, true, false};
-ghost use Rattle.sector_store.specs.Stores.{FailsOn, IsStoredSector};
+ghost use Rattle.sector_store.specs.Stores.{HasOneMoreFailure, IsStoredSector};
 
 use crate::sector_file::SectorFile;
 use crate::{Failures, SectorStore};
@@ -61,9 +61,9 @@ impl FileStore {
             file,
             sectors: bytes / SECTOR_BYTES,
             failures: Failures {
-                calls: 0,
-                sector: 0,
-                is_write: false,
+                failed_calls: 0,
+                last_sector: 0,
+                last_is_write: false,
             },
         }
     }
@@ -78,14 +78,15 @@ impl FileStore {
     /// Notes a read or a write of a sector that is there, if it failed.
     fn note(&mut self, is_write: bool, sector: u64, done: bool)
         ensures same { done ≡ true → self.new.failures ≡ self.old.failures }
-        ensures fails { done ≡ false → FailsOn is_write sector (Some self.old.failures) (Some self.new.failures) }
+        ensures fails { done ≡ false → HasOneMoreFailure is_write sector (Some self.old.failures)
+            (Some self.new.failures) }
         ensures sectors { self.new.sectors ≡ self.old.sectors }
     {
         if !done {
             self.failures = Failures {
-                calls: self.failures.calls.wrapping_add(1),
-                sector,
-                is_write,
+                failed_calls: self.failures.failed_calls.wrapping_add(1),
+                last_sector: sector,
+                last_is_write: is_write,
             };
         }
     }

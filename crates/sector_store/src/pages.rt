@@ -1,7 +1,6 @@
 // The pages by which a disk says what it is, and which queued command failed.
 ghost use Rattle.std.specs.Prelude.{◌≡◌, ◌<◌, ◌≤◌, ◌%◌, All, length, sum};
-ghost use Rattle.sector_store.specs.Pages.{IsLogPage, IsIdentifyPage, IsWord, character, logged_error_byte, logged_status, logged_tag, trim_function_word, trim_support_word};
-ghost use Rattle.sector_store.specs.Stores.{IsStoredSector};
+ghost use Rattle.sector_store.specs.{Pages.{IsLogPage, IsIdentifyPage, IsIdentifyWord, character, logged_error_byte, logged_status, logged_tag, trim_function_word, trim_support_word}, Stores.{IsStoredSector}};
 
 /// What a disk says of DATA SET MANAGEMENT with TRIM.
 #[derive(Clone, Copy, Debug, Default, PartialEq, Eq)]
@@ -79,7 +78,7 @@ fn character_at(text: &[u8], place: usize) -> u8
 
 /// A word of the page, but for the last.
 fn word_at(number: usize, serial: &[u8], sectors: u64, abilities: Abilities) -> u16
-    ensures { IsWord serial.now sectors abilities number result }
+    ensures { IsIdentifyWord serial.now sectors abilities number result }
 {
     match number {
         10..20 => {

@@ -1,7 +1,6 @@
 // A file as sectors, some of which are read ahead.
 ghost use Rattle.std.specs.Prelude.{◌≡◌, ◌<◌, ◌≤◌, ◌+◌, ◌-◌, ◌*◌, ◌^◌, IfOk, length, take, true, false};
-ghost use Rattle.sector_store.specs.declared.sector_file.TheConstants.{MOST_SECTORS, QUARTER_BYTES};
-ghost use Rattle.sector_store.specs.Stores.{IsStoredSector, first_untaken_sector};
+ghost use Rattle.sector_store.specs.{declared.sector_file.TheConstants.{MOST_SECTORS, QUARTER_BYTES}, Stores.{IsStoredSector, first_untaken_sector}};
 
 use std::alloc::{AllocError, Global};
 use std::fs::File;
@@ -118,13 +117,13 @@ impl SectorFile {
     /// since it is asked for each sector.
     #[inline(always)]
     pub fn copy_next(&mut self, sector: u64, out: &mut [u8; 512]) -> bool
-        ensures gives { result ≡ true → (sector ≡ self.old.next) × (sector < self.old.end)
+        ensures copies_only_next { result ≡ true → (sector ≡ self.old.next) × (sector < self.old.end)
             × (out.new ≡ first_untaken_sector self.old.room.items (self.old.end - sector)) }
         ensures bytes { result ≡ true → IsStoredSector out.new }
-        ensures kept { result ≡ false → out.new ≡ out.old }
-        ensures left { result ≡ true → self.new.next ≡ sector + 1 }
-        ensures same { (self.new.end ≡ self.old.end) × (self.new.room.items ≡ self.old.room.items) }
-        ensures there { sector ≡ self.old.next → sector < self.old.end → result ≡ true }
+        ensures out_is_kept_if_not_next { result ≡ false → out.new ≡ out.old }
+        ensures next_is_after { result ≡ true → self.new.next ≡ sector + 1 }
+        ensures room_is_kept { (self.new.end ≡ self.old.end) × (self.new.room.items ≡ self.old.room.items) }
+        ensures next_is_copied { sector ≡ self.old.next → sector < self.old.end → result ≡ true }
     {
         if sector != self.next || sector >= self.end {
             return false;
@@ -139,10 +138,10 @@ impl SectorFile {
     pub fn read(&mut self, sector: u64, out: &mut [u8; 512]) -> bool
         requires { 512 * (sector + 1) ≤ 2 ^ 64 }
         ensures bytes { result ≡ true → IsStoredSector out.new }
-        ensures kept { result ≡ false → out.new ≡ out.old }
-        ensures forgets { self.new.end ≤ self.new.next }
+        ensures out_is_kept_if_failed { result ≡ false → out.new ≡ out.old }
+        ensures read_ahead_is_forgotten { self.new.end ≤ self.new.next }
         ensures end { self.new.end ≤ sector + 1 }
-        ensures gives { result ≡ true → (self.new.next ≡ sector + 1) × (self.new.end ≡ sector + 1)
+        ensures copies_sector { result ≡ true → (self.new.next ≡ sector + 1) × (self.new.end ≡ sector + 1)
             × (out.new ≡ first_untaken_sector self.new.room.items 1) }
     {
         self.fill(sector, 1) && self.copy_next(sector, out)
@@ -154,11 +153,12 @@ impl SectorFile {
     pub fn read_with_following(&mut self, sector: u64, ahead: u64, out: &mut [u8; 512]) -> bool
         requires { 512 * (sector + ahead + 1) ≤ 2 ^ 64 }
         ensures bytes { result ≡ true → IsStoredSector out.new }
-        ensures kept { result ≡ false → out.new ≡ out.old }
-        ensures forgets { result ≡ false → self.new.end ≤ self.new.next }
+        ensures out_is_kept_if_failed { result ≡ false → out.new ≡ out.old }
+        ensures failed_read_forgets_ahead { result ≡ false → self.new.end ≤ self.new.next }
         ensures end { self.new.end ≤ sector + ahead + 1 }
         ensures next { result ≡ true → (self.new.next ≡ sector + 1) × (self.new.next ≤ self.new.end) }
-        ensures gives { result ≡ true → out.new ≡ first_untaken_sector self.new.room.items (self.new.end - sector) }
+        ensures copies_sector { result ≡ true
+            → out.new ≡ first_untaken_sector self.new.room.items (self.new.end - sector) }
     {
         let count = 1 + ahead.min(MOST_SECTORS as u64 - 1) as usize;
         if self.fill(sector, count) {
@@ -170,7 +170,7 @@ impl SectorFile {
     /// Replaces a sector.
     pub fn write(&mut self, sector: u64, bytes: &[u8; 512]) -> bool
         requires { 512 * sector < 2 ^ 64 }
-        ensures forgets { self.new.end ≡ 0 }
+        ensures read_ahead_is_forgotten { self.new.end ≡ 0 }
     {
         self.end = 0;
         self.file.write_all_at(bytes, place_of(sector)).is_ok()

@@ -1,7 +1,6 @@
 // Stores of sectors of 512 bytes.
-ghost use Rattle.std.specs.Prelude.{◌≡◌, ◌<◌, ◌≤◌, ◌^◌, ℕ, List, Option, None, Some, IfOk, replicate, true, length, slice_index_or, vec_capacity, []};
-ghost use Rattle.sector_store.specs.Stores.{AreSectors, FailsOn, ReadsSector, WritesSector, followed_by_zeros};
-ghost use Rattle.sector_store.specs.declared.store.Failures.{Failures};
+ghost use Rattle.std.specs.Prelude.{◌≡◌, ◌<◌, ◌≤◌, ◌+◌, ◌^◌, ℕ, List, Option, None, Some, IfOk, replicate, true, length, nat_lt, if◌then◌else◌, slice_index_or, vec_capacity, []};
+ghost use Rattle.sector_store.specs.{Stores.{AreSectors, HasOneMoreFailure, ReadsSector, WritesSector, followed_by_zeros}, declared.store.Failures.{Failures}};
 
 use crate::sector_file::copy;
 use std::alloc::{AllocError, Global};
@@ -10,11 +9,11 @@ use std::alloc::{AllocError, Global};
 #[derive(Clone, Copy, Debug)]
 pub struct Failures {
     /// How many there were, modulo 2^64.
-    pub calls: u64,
+    pub failed_calls: u64,
     /// The sector of the last one; 0 where there was none.
-    pub sector: u64,
+    pub last_sector: u64,
     /// Whether the last one was a write.
-    pub is_write: bool,
+    pub last_is_write: bool,
 }
 
 /// The sectors of a disk, by their numbers. A sector has 512 bytes. A call that answers `false` failed: a read gave no
@@ -48,7 +47,8 @@ pub trait SectorStore: Drop {
 
     /// Replaces a sector.
     fn write(&mut self, sector: u64, bytes: &[u8; 512]) -> bool
-        ensures { WritesSector size told failures (FailsOn true sector) sector bytes.now self.old self.new result };
+        ensures { WritesSector size told failures (HasOneMoreFailure true sector) sector bytes.now self.old self.new
+            result };
 
     /// What it tells are sectors.
     ghost tells_sectors: { (s : Self) → AreSectors (size s) (told s) };
@@ -77,19 +77,23 @@ impl MemStore {
         ensures size { IfOk result (λ s. s.size ≡ sectors) }
         ensures zeros { IfOk result (λ s.
             followed_by_zeros s.size s.written.items ≡ replicate sectors (replicate 512 0)) }
+        ensures none_is_written { IfOk result (λ s. s.written.items ≡ []) }
     {
         let size = sectors as usize;
         let written = Vec::with_capacity(alloc, size)?;
         Ok(MemStore { size, written })
     }
 
-    /// Has all sectors up to this one in memory.
+    /// Has all sectors up to this one in memory, and none behind those that were there: a first write far up costs the
+    /// sectors before it.
     fn extend_to(&mut self, sector: usize)
         requires { sector < self.old.size }
         ensures kept { followed_by_zeros self.new.size self.new.written.items
             ≡ followed_by_zeros self.old.size self.old.written.items }
         ensures size { self.new.size ≡ self.old.size }
         ensures there { sector < length self.new.written.items }
+        ensures extends_no_further { length self.new.written.items
+            ≡ (if nat_lt sector (length self.old.written.items) then length self.old.written.items else sector + 1) }
     {
         for _sector in self.written.len()..sector + 1 {
             self.written.push_reserved([0; 512]);

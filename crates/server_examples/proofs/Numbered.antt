@@ -5,7 +5,7 @@ use Rattle.std.proofs.lemmas.Bool.{and_from}
 use Rattle.std.proofs.lemmas.Bool.Decides.{eqb_tells, leb_tells}
 use Rattle.std.proofs.lemmas.List.{length-replicate}
 use Rattle.std.proofs.lemmas.List.Elements.{All-replicate}
-use Rattle.sector_store.specs.Stores.{IsStoredSector, replaced}
+use Rattle.sector_store.specs.Stores.{IsStoredSector, with_sector}
 use Rattle.server_examples.specs.NumberedSectors.{numbered_sectors}
 
 same_bytes : (byte : ℕ) → byte < 256 → IsStoredSector (replicate 512 byte)
@@ -38,13 +38,13 @@ same_lt k next ne =
     ]
 
 -- the sector behind those that were cleared is cleared
-pub numbered_clears : (first next : ℕ) → first ≤ next → numbered_sectors first (next + 1) ≡ replaced (numbered_sectors first next) next (replicate 512 0)
+pub numbered_clears : (first next : ℕ) → first ≤ next → numbered_sectors first (next + 1) ≡ with_sector (numbered_sectors first next) next (replicate 512 0)
 numbered_clears first next le = λ i k. at k i
   where
     zeros : List ℕ
     zeros = replicate 512 0
 
-    at : (k : ℕ) → numbered_sectors first (next + 1) k ≡ replaced (numbered_sectors first next) next zeros k
+    at : (k : ℕ) → numbered_sectors first (next + 1) k ≡ with_sector (numbered_sectors first next) next zeros k
     at k =
         elim (eqb_tells k next) [
           | inl same ↦

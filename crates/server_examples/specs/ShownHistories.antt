@@ -12,7 +12,7 @@ use Rattle.ata_types.specs.declared.request.Outcome.{Outcome}
 use Rattle.ata_types.specs.declared.request.Outcome.TheVariants.{Ok, PortDead}
 use Rattle.adapter.specs.Device.{Device}
 use Rattle.adapter.specs.declared.access.DeviceStep.{DeviceStep}
-use Rattle.block_machine.specs.Events.{CallRecord, AbstractState, Reset, Service, EveryReadHolds, IsLawfulAnswer, IsRun, IsStillStuck, answers_of, issues_id, abstract_after_all, replies_of, steps_of}
+use Rattle.block_machine.specs.Events.{CallRecord, AbstractState, Reset, Service, EveryReadHoldsExpected, IsLawfulAnswer, IsRun, IsStillStuck, answers_of, issues_id, abstract_after_all, replies_of, steps_of}
 use Rattle.block_machine.specs.Confinement.{HasFrame, WasAccepted}
 use Rattle.block_machine.specs.Histories.{JointEvent, JointState, events_of, joint_state_after}
 use Rattle.block_machine.specs.Expected.{IsLegal, IsInitial, after}
@@ -22,7 +22,7 @@ use Rattle.driver_history.specs.Claims.{HandlesShownFailure}
 use Rattle.driver_history.specs.Evidence.{ShowsFailure}
 use Rattle.driver_history.specs.Histories.{IsDriverHistory}
 use Rattle.identify.specs.declared.wanted.Wanted.{Wanted}
-use Rattle.machine_runs.specs.AnswerOrigins.{AsksFor, WasUnansweredBefore, CallAnswersOk, WasAsked, waits_again}
+use Rattle.machine_runs.specs.AnswerOrigins.{AsksFor, WasUnansweredBefore, CallAnswersOk, WasAsked, requeues_id}
 use Rattle.server_history.specs.Histories.{LeadsToServer}
 use Rattle.server_history.specs.ServerState.{ServerState}
 use Rattle.block_server.specs.AbstractCalls.{abstract_call_of, machine_result_of}
@@ -37,120 +37,126 @@ use Rattle.ata_types.specs.declared.call.CallResult.TheVariants as says
 pub record HasRun {A : Type 0} (device : A → Device) (old new : ServerView A) (asked : List (Call DeviceStep))
     (said : List (CallResult (ArrayVec Reply))) : Type 0 where
   pub initial_state : JointState Device
-  pub begun : LeadsToServer initial_state [] (server_of device old)
+  pub history_begins : LeadsToServer initial_state [] (server_of device old)
   pub past : List (JointEvent Device DeviceStep)
-  pub asks : map (λ h. h.event.ask) (reverse past) ≡ map abstract_call_of asked
-  pub says : map (λ h. h.event.said) (reverse past) ≡ map machine_result_of said
-  pub leads : LeadsToServer initial_state past (server_of device new)
-  pub run : IsRun initial_state.abstract (events_of past)
-  pub every_read_holds : EveryReadHolds initial_state.abstract (events_of past)
+  pub asks_calls : map (λ h. h.event.call) (reverse past) ≡ map abstract_call_of asked
+  pub says_results : map (λ h. h.event.result) (reverse past) ≡ map machine_result_of said
+  pub history_leads_to_new : LeadsToServer initial_state past (server_of device new)
+  pub is_run : IsRun initial_state.abstract (events_of past)
+  pub every_read_holds : EveryReadHoldsExpected initial_state.abstract (events_of past)
 
 -- A history leads from the new server to the other one, in whose last call the read that was asked for is answered Ok.
 -- Before that it was accepted and issued, each of its sectors was moved since its last issue, and it was ended; and its
--- frames have what was left (`told`).
+-- frames have what was left (`last_call_answers_ok`).
 pub record ServesRead (old new : ServerState) (asked : Request) : Type 0 where
   pub initial_state : JointState Device
-  pub begun : LeadsToServer initial_state [] old
+  pub history_begins : LeadsToServer initial_state [] old
   pub past : List (JointEvent Device DeviceStep)
   pub last : JointEvent Device DeviceStep
-  pub leads : LeadsToServer initial_state (last ∷ past) new
-  pub run : IsRun initial_state.abstract (events_of (last ∷ past))
+  pub history_leads_to_new : LeadsToServer initial_state (last ∷ past) new
+  pub is_run : IsRun initial_state.abstract (events_of (last ∷ past))
   pub read : Pending
   pub request_is : read.request.asked ≡ asked
   pub reads : asked.op ≡ Read
-  pub told : CallAnswersOk initial_state.abstract (events_of past) last.event read
+  pub last_call_answers_ok : CallAnswersOk initial_state.abstract (events_of past) last.event read
 
 -- And before that last call it was issued twice, and made to wait again.
 pub record ServesReadAnew (old new : ServerState) (asked : Request) : Type 0 where
   pub serves : ServesRead old new asked
-  pub twice : 2 ≤ count_by (issues_id serves.read.request.id) (steps_of (events_of serves.past))
-  pub again : 1 ≤ count_by (waits_again serves.read.request.id) (steps_of (events_of serves.past))
+  pub was_issued_twice : 2 ≤ count_by (issues_id serves.read.request.id) (steps_of (events_of serves.past))
+  pub was_requeued : 1 ≤ count_by (requeues_id serves.read.request.id) (steps_of (events_of serves.past))
 
 -- A history leads from the new server to the other one, in which what was asked for is answered PortDead, and this
 -- frame stays lent to it. Then a reset ends that answers nothing, but releases what is lent to answered requests; and
 -- after it the frame is lent to none.
 pub record ReleasesFrame (old new : ServerState) (asked : Request) (frame : Frame) : Type 0 where
   pub initial_state : JointState Device
-  pub begun : LeadsToServer initial_state [] old
+  pub history_begins : LeadsToServer initial_state [] old
   pub past : List (JointEvent Device DeviceStep)
   pub reset : JointEvent Device DeviceStep
   pub later : List (JointEvent Device DeviceStep)
-  pub leads : LeadsToServer initial_state (later ++ reset ∷ past) new
-  pub run : IsRun initial_state.abstract (events_of (later ++ reset ∷ past))
-  pub dead : Pending
-  pub request_is : dead.request.asked ≡ asked
-  pub told : Contains (steps_of (events_of past)) (Answer dead PortDead)
-  pub lent : (joint_state_after initial_state past).abstract.machine.lent frame ≡ Some dead.request.id
-  pub resets : reset.event.ask ≡ Reset
+  pub history_leads_to_new : LeadsToServer initial_state (later ++ reset ∷ past) new
+  pub is_run : IsRun initial_state.abstract (events_of (later ++ reset ∷ past))
+  pub port_dead_request : Pending
+  pub request_is : port_dead_request.request.asked ≡ asked
+  pub request_is_told_port_dead : Contains (steps_of (events_of past)) (Answer port_dead_request PortDead)
+  pub lent : (joint_state_after initial_state past).abstract.machine.lent frame ≡ Some port_dead_request.request.id
+  pub resets : reset.event.call ≡ Reset
   pub releases : Contains reset.event.steps Release
-  pub silent : answers_of reset.event.steps ≡ []
-  pub free : (joint_state_after initial_state (reset ∷ past)).abstract.machine.lent frame ≡ None
+  pub reset_answers_none : answers_of reset.event.steps ≡ []
+  pub frame_is_given_back : (joint_state_after initial_state (reset ∷ past)).abstract.machine.lent frame ≡ None
 
 -- A request was accepted; the device did what it was told; and a service told one request Ok.
-abbrev pub IsServedAtOnce : List (CallResult (ArrayVec Reply)) → Type 0
-IsServedAtOnce said = (id : RequestId) × (reply : Reply) × (reply.outcome ≡ Ok)
-    × (said ≡ says.Submitted (Done id) ∷ says.Stepped true ∷ says.Served (record { items = reply ∷ [] }) ∷ [])
+abbrev pub SaysServedAtOnce : List (CallResult (ArrayVec Reply)) → Type 0
+SaysServedAtOnce said = (id : RequestId) × (reply : Reply) × (reply.outcome ≡ Ok)
+    × (said ≡ says.Submitted (Done id) ∷ says.Stepped true ∷ says.Replied (record { items = reply ∷ [] }) ∷ [])
 
 -- A request was accepted where three ports are absent; the device did what it was told; a service followed, the device
 -- once more, and a service that told one request Ok.
-abbrev pub IsServedAnew : List (CallResult (ArrayVec Reply)) → Type 0
-IsServedAnew said = (id : RequestId) × (before : List Reply) × (reply : Reply) × (reply.outcome ≡ Ok)
+abbrev pub SaysServedAfterSecondService : List (CallResult (ArrayVec Reply)) → Type 0
+SaysServedAfterSecondService said = (id : RequestId) × (before : List Reply) × (reply : Reply) × (reply.outcome ≡ Ok)
     × (said ≡ says.Submitted (Done id) ∷ says.State Absent ∷ says.State Absent ∷ says.State Absent ∷ says.Stepped true
-    ∷ says.Served (record { items = before })
-    ∷ says.Stepped true ∷ says.Served (record { items = reply ∷ [] }) ∷ [])
+    ∷ says.Replied (record { items = before })
+    ∷ says.Stepped true ∷ says.Replied (record { items = reply ∷ [] }) ∷ [])
 
 -- The device did what it was told, twice; a request was accepted, and a service told one PortDead. A store was refused
 -- since its frame is lent; and after a reset that answered nothing one was done.
-abbrev pub IsReleased : List (CallResult (ArrayVec Reply)) → Type 0
-IsReleased said = (id : RequestId) × (reply : Reply) × (reply.outcome ≡ PortDead)
+abbrev pub SaysFrameIsReleased : List (CallResult (ArrayVec Reply)) → Type 0
+SaysFrameIsReleased said = (id : RequestId) × (reply : Reply) × (reply.outcome ≡ PortDead)
     × (said ≡ says.Stepped true ∷ says.Stepped true ∷ says.Submitted (Done id)
-    ∷ says.Served (record { items = reply ∷ [] }) ∷ says.Stored (Err FrameLent)
+    ∷ says.Replied (record { items = reply ∷ [] }) ∷ says.Stored (Err FrameLent)
     ∷ says.WasReset (Done (record { items = [] })) ∷ says.Stored (Done tt) ∷ [])
 
 -- What laws of `block_machine` and `machine_runs` say of runs, and one of `driver_history` of histories: what is shown
 -- rests on them.
 pub record ShownRunLaws : Type 0 where
-  pub legal : (first : AbstractState) (run : List (CallRecord DeviceStep)) → IsRun first run
+  pub run_steps_are_legal : (first : AbstractState) (run : List (CallRecord DeviceStep)) → IsRun first run
       → IsInitial first.machine × IsLegal first.machine (steps_of run)
       × ((abstract_after_all first run).machine ≡ after first.machine (steps_of run))
-  pub lent : (start : Machine) (history : List Step) (frame : Frame) (id : RequestId) → IsInitial start
+  pub lent_frame_is_of_accepted : (start : Machine) (history : List Step) (frame : Frame) (id : RequestId)
+      → IsInitial start
       → IsLegal start history → (after start history).lent frame ≡ Some id
       → (r : Accepted) × WasAccepted start history r × (r.id ≡ id) × HasFrame r frame
-  pub accepted : (first : AbstractState) (run : List (CallRecord DeviceStep)) (r : Accepted) → IsRun first run
+  pub accepted_was_asked : (first : AbstractState) (run : List (CallRecord DeviceStep)) (r : Accepted) → IsRun first run
       → WasAccepted first.machine (steps_of run) r → WasAsked r run
-  pub asked : (first : AbstractState) (past : List (CallRecord DeviceStep)) (event : CallRecord DeviceStep)
+  pub replied_was_asked : (first : AbstractState) (past : List (CallRecord DeviceStep)) (event : CallRecord DeviceStep)
       (reply : Reply)
-      → IsRun first (event ∷ past) → Contains (replies_of event.said) reply → (e : Pending)
+      → IsRun first (event ∷ past) → Contains (replies_of event.result) reply → (e : Pending)
       × Contains event.steps (Answer e reply.outcome) × (e.request.id ≡ reply.id)
       × (e.request.asked.client ≡ reply.client) × WasAsked e.request past
-  pub lawful : (first : AbstractState) (past : List (CallRecord DeviceStep)) (event : CallRecord DeviceStep)
+  pub answers_are_lawful : (first : AbstractState) (past : List (CallRecord DeviceStep)) (event : CallRecord DeviceStep)
       (e : Pending) (o : Outcome)
       → IsRun first (event ∷ past) → Contains event.steps (Answer e o)
       → IsLawfulAnswer (abstract_after_all first past) event.evidence
       event.ports e o
-  pub came : (first : AbstractState) (past : List (CallRecord DeviceStep)) (event : CallRecord DeviceStep) (e : Pending)
+  pub unanswered_was_there_or_asked : (first : AbstractState) (past : List (CallRecord DeviceStep))
+      (event : CallRecord DeviceStep) (e : Pending)
       → IsRun first (event ∷ past) → Contains (abstract_after_all first (event ∷ past)).machine.book e
       → WasUnansweredBefore (abstract_after_all first past).machine event.steps e ⊎ AsksFor e.request event
-  pub served : (first : AbstractState) (past : List (CallRecord DeviceStep)) (event : CallRecord DeviceStep)
+  pub ok_was_served : (first : AbstractState) (past : List (CallRecord DeviceStep)) (event : CallRecord DeviceStep)
       (e : Pending)
-      → IsRun first (event ∷ past) → EveryReadHolds first (event ∷ past) → Contains event.steps (Answer e Ok)
+      → IsRun first (event ∷ past) → EveryReadHoldsExpected first (event ∷ past) → Contains event.steps (Answer e Ok)
       → CallAnswersOk first past event e
-  pub alone : (first : AbstractState) (run : List (CallRecord DeviceStep)) (e : Pending) → IsRun first run
+  pub lone_request_is_issued : (first : AbstractState) (run : List (CallRecord DeviceStep)) (e : Pending)
+      → IsRun first run
       → Contains (abstract_after_all first run).machine.book e
       → (abstract_after_all first run).ports.state e.request.port ≡ Ready
       → ((other : Pending) → Contains (abstract_after_all first run).machine.book other → other.request.id
       ≡ e.request.id)
       → e.issued ≡ true
-  pub counted : (start : Machine) (history : List Step) (e : Pending) → IsInitial start → IsLegal start history
-      → Contains (after start history).book e → (count_by (issues_id e.request.id) history ≡ e.issues)
-      × (count_by (issues_id e.request.id) history ≡ count_by (waits_again e.request.id) history + cond e.issued 1 0)
-  pub ready : (first : AbstractState) (run : List (CallRecord DeviceStep)) (e : Pending) → IsRun first run
+  pub issues_are_counted : (start : Machine) (history : List Step) (e : Pending) → IsInitial start
+      → IsLegal start history
+      → Contains (after start history).book e → (count_by (issues_id e.request.id) history ≡ e.issue_count)
+      × (count_by (issues_id e.request.id) history ≡ count_by (requeues_id e.request.id) history + cond e.issued 1 0)
+  pub unanswered_where_ready : (first : AbstractState) (run : List (CallRecord DeviceStep)) (e : Pending)
+      → IsRun first run
       → Contains (abstract_after_all first run).machine.book e
       → ((abstract_after_all first run).ports.state e.request.port ≡ Ready)
       ⊎ (((abstract_after_all first run).ports.state e.request.port ≡ Dead) × IsStillStuck run)
-  pub heeded : (wanted : List Wanted) (first : JointState Device) (past : List (JointEvent Device DeviceStep))
+  pub shown_failures_are_handled : (wanted : List Wanted) (first : JointState Device)
+      (past : List (JointEvent Device DeviceStep))
       (h : JointEvent Device DeviceStep) (port : Port)
-      → IsDriverHistory wanted first (h ∷ past) → h.event.ask ≡ Service
+      → IsDriverHistory wanted first (h ∷ past) → h.event.call ≡ Service
       → (joint_state_after first past).abstract.ports.state port ≡ Ready
       → ShowsFailure ((joint_state_after first past).device.port port.0)
       → HandlesShownFailure port (joint_state_after first past) h

@@ -3,8 +3,7 @@
 //! is proved then; a test makes the server, and has it answer yes.
 ghost use Rattle.std.specs.Prelude.{◌≡◌, IfSome, IsTrue, List, [], ◌∷◌, Ok, Err, true};
 ghost use Rattle.ata_types.specs.declared.request.Reply.{Reply};
-ghost use Rattle.server_examples.specs.ShownHistories.{HasRun, IsReleased, IsServedAnew, IsServedAtOnce};
-ghost use Rattle.server_examples.specs.ShownHistories.{ReleasesFrame, ShownRunLaws, ServesRead, ServesReadAnew};
+ghost use Rattle.server_examples.specs.ShownHistories.{HasRun, SaysFrameIsReleased, SaysServedAfterSecondService, SaysServedAtOnce, ReleasesFrame, ShownRunLaws, ServesRead, ServesReadAnew};
 ghost use Rattle.server_history.specs.Histories.{StartsHistory};
 ghost use Rattle.block_server.specs.ServerView.{server_of};
 
@@ -16,11 +15,11 @@ use ata_types::{
 };
 use block_machine::laws::{law_lent_was_accepted, law_runs_are_legal};
 use block_server::{CallResults, Server};
-use driver_history::troubles::law_shown_faults_are_heeded;
+use driver_history::troubles::law_shown_failures_are_heeded;
 use machine_runs::laws::{
     law_a_lone_request_is_issued, law_accepted_was_asked, law_answers_are_lawful,
     law_issues_are_counted, law_ok_was_served, law_replied_was_asked,
-    law_unanswered_was_there_or_asked, law_unanswered_where_ready,
+    law_unanswered_on_ready_or_stuck, law_unanswered_was_there_or_asked,
 };
 use std::alloc::Global;
 
@@ -37,8 +36,8 @@ fn law_shown_run_prerequisites()
     law_ok_was_served::<DeviceStep>();
     law_a_lone_request_is_issued::<DeviceStep>();
     law_issues_are_counted();
-    law_unanswered_where_ready::<DeviceStep>();
-    law_shown_faults_are_heeded();
+    law_unanswered_on_ready_or_stuck::<DeviceStep>();
+    law_shown_failures_are_heeded();
 }
 
 /// What calls of a new server say, one after another. None where memory for that is refused.
@@ -81,17 +80,17 @@ fn is_done(said: &CallResult) -> bool
 
 /// Whether the call was a service or a tick.
 fn is_served(said: &CallResult) -> bool
-    ensures { IsTrue result → (replies : List Reply) × (said.now ≡ CallResult.Served (record { items = replies })) }
+    ensures { IsTrue result → (replies : List Reply) × (said.now ≡ CallResult.Replied (record { items = replies })) }
 {
-    matches!(said, CallResult::Served(_))
+    matches!(said, CallResult::Replied(_))
 }
 
 /// Whether a service or a tick told one request this outcome, and no other any.
 fn is_told(said: &CallResult, outcome: Outcome) -> bool
-    ensures { IsTrue result → (reply : Reply) × (said.now ≡ CallResult.Served (record { items = reply ∷ [] }))
+    ensures { IsTrue result → (reply : Reply) × (said.now ≡ CallResult.Replied (record { items = reply ∷ [] }))
         × (reply.outcome ≡ outcome) }
 {
-    let CallResult::Served(replies) = said else {
+    let CallResult::Replied(replies) = said else {
         return false;
     };
     match replies.as_slice() {
@@ -126,8 +125,8 @@ fn is_reset(said: &CallResult) -> bool
 
 /// A read is accepted, its device does all of it, and a service answers it Ok.
 pub fn serves_a_read<A: Stepped>(alloc: Global, server: &mut Server<A>, read: Request) -> bool
-    requires begun { StartsHistory (server_of A.device server.old) }
-    requires telling { (A.device server.old.adapter).telling ≡ true }
+    requires starts_history { StartsHistory (server_of A.device server.old) }
+    requires disks_tell_sectors { (A.device server.old.adapter).telling ≡ true }
     ensures { IsTrue result → ServesRead (server_of A.device server.old) (server_of A.device server.new) read }
 {
     law_shown_run_prerequisites();
@@ -147,7 +146,7 @@ pub fn serves_a_read<A: Stepped>(alloc: Global, server: &mut Server<A>, read: Re
 
 /// Whether a request was accepted, the device did what it was told, and then one request was told Ok.
 fn is_served_at_once(said: &[CallResult]) -> bool
-    ensures { IsTrue result → IsServedAtOnce said.now }
+    ensures { IsTrue result → SaysServedAtOnce said.now }
 {
     match said {
         [first, done, last] => is_accepted(first) && is_done(done) && is_told(last, Outcome::Ok),
@@ -194,15 +193,15 @@ fn is_alone(first: &CallResult, one: &CallResult, two: &CallResult, three: &Call
 /// Whether the device did something, and so once more after a service, and then one request was told Ok.
 fn is_mended(failed: &CallResult, served: &CallResult, done: &CallResult, last: &CallResult) -> bool
     ensures { IsTrue result → (before : List Reply) × (reply : Reply) × (reply.outcome ≡ Outcome.Ok)
-        × (failed.now ≡ CallResult.Stepped true) × (served.now ≡ CallResult.Served (record { items = before }))
-        × (done.now ≡ CallResult.Stepped true) × (last.now ≡ CallResult.Served (record { items = reply ∷ [] })) }
+        × (failed.now ≡ CallResult.Stepped true) × (served.now ≡ CallResult.Replied (record { items = before }))
+        × (done.now ≡ CallResult.Stepped true) × (last.now ≡ CallResult.Replied (record { items = reply ∷ [] })) }
 {
     is_done(failed) && is_served(served) && is_done(done) && is_told(last, Outcome::Ok)
 }
 
 /// Whether all that was said in turn.
 fn is_served_anew(said: &[CallResult]) -> bool
-    ensures { IsTrue result → IsServedAnew said.now }
+    ensures { IsTrue result → SaysServedAfterSecondService said.now }
 {
     match said {
         [first, one, two, three, failed, served, done, last] => {
@@ -255,7 +254,7 @@ pub fn releases_a_frame<A: Stepped>(
 /// Whether the device did two things, a request was accepted and told `PortDead`, and a store into a lent frame was
 /// done only after a reset.
 fn is_released(said: &[CallResult]) -> bool
-    ensures { IsTrue result → IsReleased said.now }
+    ensures { IsTrue result → SaysFrameIsReleased said.now }
 {
     match said {
         [held, failed, accepted, dead, refused, reset, stored] => {

@@ -13,63 +13,68 @@ use Rattle.adapter.specs.declared.command.Operation.{Operation}
 use Rattle.adapter.specs.declared.tape.Entry.{Entry as TapeEntry}
 use Rattle.adapter.specs.Commands.{Meaning}
 use Rattle.adapter.specs.Rules.{IsOn}
-use Rattle.adapter.specs.KeptBySteps.{Keeps}
+use Rattle.adapter.specs.KeptBySteps.{KeepsOverSteps}
 use Rattle.adapter.specs.Steps.{Steps}
 use Rattle.refinement.specs.Acts.{Act, AreActsDone, accesses_of, act_steps}
-use Rattle.refinement.specs.Relation.{StateRelation, ServeApart}
-use Rattle.refinement.specs.ReadySlots.{IsStored, LeavesStored}
+use Rattle.refinement.specs.Relation.{StateRelation, ServeDistinctRequests}
+use Rattle.refinement.specs.ReadySlots.{IsStored, KeepsStoredCommand}
 use Rattle.adapter.specs.Access.{Access, Does, DoesAll}
 use Rattle.adapter.specs.Access.Access.{Storing, Writing}
 use Rattle.adapter.specs.Decoding.{DecodesTo}
 use Rattle.refinement.specs.Fragments.{GainsNoMove}
-use Rattle.refinement.specs.Driver.{AllFree, IsBackedByDeviceAlone, MissesTable, ForgetsAtMost, DriverAdvances, HasNoSlot, DriverState, DriverRelation, with_slot_parked}
-use Rattle.refinement.specs.Links.{DoesNotWrite}
+use Rattle.refinement.specs.Driver.{AllFree, IsBackedByDeviceAlone, MissesHeaderAndTable, ForgetsAtMost, DriverAdvances, HasNoSlot, DriverState, DriverRelation, with_slot_parked}
+use Rattle.refinement.specs.PreservedParts.{DoesNotWrite}
 use Rattle.refinement.specs.StartedPort.{ClearsNoStart}
 use Rattle.hba_regs.specs.Bits.{bit}
 use Rattle.hba_regs.specs.declared.reg.PortReg.TheVariants.{Ci, Clb}
 use Rattle.hba_regs.specs.declared.reg.Reg.TheVariants.{Px}
 use Rattle.refinement.specs.GivingUp.{with_all_parked, ids_in_slots}
-use Rattle.refinement.specs.Slots.{Free, IsMove, IsOver, Own, Serves, SlotState, SlotStates, op_of, set_slot_state}
+use Rattle.refinement.specs.Slots.{Free, IsMove, IsOver, Own, Serves, SlotState, SlotStates, client_operation_of, set_slot_state}
 use Rattle.block_machine.specs.Ports.{PortsWellFormed, Ports}
 use Rattle.block_machine.specs.Rules.{HasGrantName}
 use Rattle.block_machine.specs.State.{Accepted, Machine, Pending}
 use Rattle.block_machine.specs.Steps.{Step, Accept, Age, WaitAgain, Answer, HoldsFrames, MayAccept, MayStillMove, after_step, is_kept_at_answer, Revoke}
 use Rattle.refinement.specs.PortFacts.{EndedIn, IsSlotClear, ShowsFault}
-use Rattle.dma_frames.specs.FrameTables.{FrameOwnership}
-use Rattle.request_queue.specs.BookEntries.{BookEntry, IsAccepted, BookIsInOrder, aged_entries, unanswered_of}
+use Rattle.dma_frames.specs.FrameTables.{OwnersAndLoans}
+use Rattle.request_queue.specs.BookEntries.{BookEntry, IsWellFormedEntry, BookIsWellFormed, aged_entries, unanswered_of}
 use Rattle.request_queue.specs.BookRelation.{BookRelation}
 use Rattle.block_machine.specs.Confinement.{HasFrame, IsGranted, WasAccepted, WithinLimits}
 use Rattle.block_machine.specs.Expected.{IsLegal, IsInitial, after}
 use Rattle.block_machine.specs.Histories.{JointState, IsReachable, IsSimulatedBySteps, JointEvent, joint_state_after}
 use Rattle.block_machine.specs.Events.{AllByDevice, AllEnabled}
-use Rattle.refinement.specs.SparedBook.{AllFurther, IsFurther, SparesBook}
+use Rattle.refinement.specs.SparedBook.{AllFurther, IsFurther, KeepsBookAndLoans}
 use Rattle.driver_history.specs.Histories.{IsDriverHistory}
 use Rattle.identify.specs.declared.wanted.Wanted.{Wanted}
 
 pub record BasicLaws : Type 0 where
   -- what the device does by itself
-  pub keeps : (old new : Device) → Steps old new → Keeps old new
-  pub device_adds : (k : DriverState) (new : Device) → Steps k.device new
+  pub steps_keep_adapter_and_notes : (old new : Device) → Steps old new → KeepsOverSteps old new
+  pub device_steps_are_simulated : (k : DriverState) (new : Device) → Steps k.device new
       → IsSimulatedBySteps DriverRelation k (record k { device = new }) (IsBackedByDeviceAlone k.device new)
-  pub was_on : (old new : Device) → Steps old new → IsOn new → IsOn old
+  pub steps_switch_none_on : (old new : Device) → Steps old new → IsOn new → IsOn old
   -- steps one after another
-  pub joined : (m : Machine) (late early : List Step) → after m (late ++ early) ≡ after (after m early) late
-  pub may : (m : Machine) (late early : List Step) → AllEnabled m early → AllEnabled (after m early) late
+  pub after_joins : (m : Machine) (late early : List Step) → after m (late ++ early) ≡ after (after m early) late
+  pub enabled_lists_join : (m : Machine) (late early : List Step) → AllEnabled m early → AllEnabled (after m early) late
       → AllEnabled m (late ++ early)
-  pub reached : (m : Machine) (steps : List Step) → IsReachable m → AllEnabled m steps → IsReachable (after m steps)
-  pub history_reached : (wanted : List Wanted) (first : JointState Device) (past : List (JointEvent Device DeviceStep))
+  pub reachable_stays_reachable : (m : Machine) (steps : List Step) → IsReachable m → AllEnabled m steps
+      → IsReachable (after m steps)
+  pub history_machine_is_reachable : (wanted : List Wanted) (first : JointState Device)
+      (past : List (JointEvent Device DeviceStep))
       → IsDriverHistory wanted first past → IsReachable (joint_state_after first past).abstract.machine
   -- the ports
-  pub fit : (wanted : List Wanted) (first : JointState Device) (past : List (JointEvent Device DeviceStep))
+  pub history_ports_are_well_formed : (wanted : List Wanted) (first : JointState Device)
+      (past : List (JointEvent Device DeviceStep))
       → IsDriverHistory wanted first past → PortsWellFormed (joint_state_after first past).abstract.ports
-  pub ready_served : (ports : Ports) (port : Port) → PortsWellFormed ports → ports.state port ≡ Ready
+  pub ready_ports_are_served : (ports : Ports) (port : Port) → PortsWellFormed ports → ports.state port ≡ Ready
       → (ports.served port ≡ true) × (port.0 < 4)
   -- the book
-  pub one : (m : Machine) → IsReachable m → (a b : Pending) → Contains m.book a → Contains m.book b
+  pub an_id_is_one_request : (m : Machine) → IsReachable m → (a b : Pending) → Contains m.book a → Contains m.book b
       → a.request.id.0 ≡ b.request.id.0 → a ≡ b
-  pub ended_issued : (m : Machine) (e : Pending) → IsReachable m → Contains m.book e → e.ended ≡ true → e.issued ≡ true
+  pub ended_is_issued : (m : Machine) (e : Pending) → IsReachable m → Contains m.book e → e.ended ≡ true
+      → e.issued ≡ true
   -- what the device's own steps leave of it
-  pub spares : (m : Machine) (steps : List Step) → AllByDevice steps → SparesBook m (after m steps)
+  pub device_steps_spare_book : (m : Machine) (steps : List Step) → AllByDevice steps
+      → KeepsBookAndLoans m (after m steps)
   pub found_later : (old new : List Pending) (e : Pending) → AllFurther old new → Contains old e → (x : Pending)
       × Contains new x × IsFurther e x
   pub found_before : (old new : List Pending) (e : Pending) → AllFurther old new → Contains new e → (x : Pending)
@@ -88,10 +93,10 @@ pub record SlotLaws : Type 0 where
   -- a request is taken from its slot, once its command is over
   pub parked_agrees : (k : DriverState) (m : Machine) → DriverRelation m k → (port slot : ℕ)
       → IsOver (k.device.port port) slot
-      → (id : RequestId) → k.uses port slot ≡ Serves id → DriverRelation m (with_slot_parked k port slot id)
-  pub parked_frees : (k : DriverState) (port slot : ℕ) (id : RequestId) → ServeApart k.uses
-      → k.uses port slot ≡ Serves id
-      → HasNoSlot (with_slot_parked k port slot id).uses id
+      → (id : RequestId) → k.slot_states port slot ≡ Serves id → DriverRelation m (with_slot_parked k port slot id)
+  pub parked_frees : (k : DriverState) (port slot : ℕ) (id : RequestId) → ServeDistinctRequests k.slot_states
+      → k.slot_states port slot ≡ Serves id
+      → HasNoSlot (with_slot_parked k port slot id).slot_states id
   pub ended_clear : (uses : SlotStates) (m : Machine) (d : Device) (port : Port) (slot : ℕ) (e : Pending)
       → IsReachable m
       → StateRelation uses m d → MayStillMove m e → e.ended ≡ true → uses port.0 slot ≡ Serves e.request.id
@@ -99,100 +104,120 @@ pub record SlotLaws : Type 0 where
   -- what becomes of requests that no slot serves
   pub answered_agrees : (k : DriverState) (m : Machine) (e : Pending) (outcome : Outcome) (later : ℕ → List RequestId)
       → IsReachable m → DriverRelation m k → Contains m.book e → is_kept_at_answer e outcome ≡ false
-      → HasNoSlot k.uses e.request.id
-      → ForgetsAtMost e.request.id k.parked later
-      → DriverRelation (after_step m (Answer e outcome)) (record k { parked = later })
+      → HasNoSlot k.slot_states e.request.id
+      → ForgetsAtMost e.request.id k.awaiting_disposition later
+      → DriverRelation (after_step m (Answer e outcome)) (record k { awaiting_disposition = later })
   pub again_agrees : (k : DriverState) (m : Machine) (e : Pending) (later : ℕ → List RequestId) → IsReachable m
       → DriverRelation m k
-      → Contains m.book e → HasNoSlot k.uses e.request.id → ForgetsAtMost e.request.id k.parked later
-      → DriverRelation (after_step m (WaitAgain e)) (record k { parked = later })
+      → Contains m.book e → HasNoSlot k.slot_states e.request.id
+      → ForgetsAtMost e.request.id k.awaiting_disposition later
+      → DriverRelation (after_step m (WaitAgain e)) (record k { awaiting_disposition = later })
   -- and of one that is kept, in its slot or without one
   pub kept_agrees : (k : DriverState) (m : Machine) (e : Pending) (outcome : Outcome) → IsReachable m
       → DriverRelation m k
       → Contains m.book e → is_kept_at_answer e outcome ≡ true → DriverRelation (after_step m (Answer e outcome)) k
   -- what acts give
-  pub acts_go : (acts : List Act) (k later : DriverState) (m : Machine) → DriverRelation m k
+  pub acts_advance_driver : (acts : List Act) (k later : DriverState) (m : Machine) → DriverRelation m k
       → AreActsDone acts k m later
       → DriverAdvances k m (act_steps acts) later
-  pub acts_silent : (acts : List Act) (k later : DriverState) (m : Machine) (port : ℕ) (o : Operation) → op_of o ≡ None
-      → IsReachable m → DriverRelation m k → (k.uses port 0 ≡ Own o → ⊥)
-      → All (λ act. act.later.uses port 0 ≡ Own o → ⊥) acts
+  pub acts_gain_no_move : (acts : List Act) (k later : DriverState) (m : Machine) (port : ℕ) (o : Operation)
+      → client_operation_of o ≡ None
+      → IsReachable m → DriverRelation m k → (k.slot_states port 0 ≡ Own o → ⊥)
+      → All (λ act. act.state_after.slot_states port 0 ≡ Own o → ⊥) acts
       → AreActsDone acts k m later → GainsNoMove port o k.device later.device
   -- no page comes for a command of the driver's own that slot 0 hasn't
-  pub page_asked : (uses : SlotStates) (m : Machine) (access : Access) (old new : Device) (port : ℕ) (o : Operation)
+  pub page_needs_a_command : (uses : SlotStates) (m : Machine) (access : Access) (old new : Device) (port : ℕ)
+      (o : Operation)
       (gained : List TapeEntry) → IsReachable m → StateRelation uses m old → Does access old new
       → new.tape ≡ old.tape ++ gained
-      → op_of o ≡ None → (uses port 0 ≡ Own o → IsOver (old.port port) 0) → All (λ e. IsMove port o e → ⊥) gained
+      → client_operation_of o ≡ None → (uses port 0 ≡ Own o → IsOver (old.port port) 0)
+      → All (λ e. IsMove port o e → ⊥) gained
   -- slots that are given up, or put to another use, and requests that have none
-  pub given_free : (k : DriverState) (port : ℕ) → AllFree (with_all_parked k port).uses port
-  pub given_others : (k : DriverState) (port other : ℕ) → other ≢ port
-      → ((with_all_parked k port).uses other ≡ k.uses other) × ((with_all_parked k port).parked other ≡ k.parked other)
-  pub given_parked : (k : DriverState) (port : ℕ)
-      → (with_all_parked k port).parked port ≡ ids_in_slots k.uses port 32 ++ k.parked port
-  pub put_here : (uses : SlotStates) (port slot : ℕ) (u : SlotState) → set_slot_state uses port slot u port slot ≡ u
-  pub served : (uses : SlotStates) (port n : ℕ) (id : RequestId) → Contains (ids_in_slots uses port n) id → (slot : ℕ)
+  pub giving_up_frees_slots : (k : DriverState) (port : ℕ) → AllFree (with_all_parked k port).slot_states port
+  pub giving_up_spares_other_ports : (k : DriverState) (port other : ℕ) → other ≢ port
+      → ((with_all_parked k port).slot_states other ≡ k.slot_states other)
+      × ((with_all_parked k port).awaiting_disposition other ≡ k.awaiting_disposition other)
+  pub giving_up_parks_ids : (k : DriverState) (port : ℕ)
+      → (with_all_parked k port).awaiting_disposition port ≡ ids_in_slots k.slot_states port 32
+      ++ k.awaiting_disposition port
+  pub set_slot_has_state : (uses : SlotStates) (port slot : ℕ) (u : SlotState)
+      → set_slot_state uses port slot u port slot ≡ u
+  pub ids_in_slots_are_served : (uses : SlotStates) (port n : ℕ) (id : RequestId)
+      → Contains (ids_in_slots uses port n) id → (slot : ℕ)
       × (slot < n) × (uses port slot ≡ Serves id)
-  pub frees : (k : DriverState) (port slot : ℕ) (id : RequestId) → ServeApart k.uses → k.uses port slot ≡ Serves id
-      → HasNoSlot (with_all_parked k port).uses id
-  pub put_unserved : (uses : SlotStates) (port slot : ℕ) (u : SlotState) (id : RequestId) → HasNoSlot uses id
+  pub giving_up_frees_id : (k : DriverState) (port slot : ℕ) (id : RequestId) → ServeDistinctRequests k.slot_states
+      → k.slot_states port slot ≡ Serves id
+      → HasNoSlot (with_all_parked k port).slot_states id
+  pub setting_slot_keeps_unserved : (uses : SlotStates) (port slot : ℕ) (u : SlotState) (id : RequestId)
+      → HasNoSlot uses id
       → ((other : RequestId) → u ≡ Serves other → other ≢ id) → HasNoSlot (set_slot_state uses port slot u) id
-  pub waiting : (uses : SlotStates) (m : Machine) (d : Device) → IsReachable m → StateRelation uses m d → (e : Pending)
+  pub waiting_has_no_slot : (uses : SlotStates) (m : Machine) (d : Device) → IsReachable m → StateRelation uses m d
+      → (e : Pending)
       → Contains m.book e → e.issued ≡ false → HasNoSlot uses e.request.id
   -- a command that is over stays so
-  pub over : (port slot : ℕ) (old new : Device) → Steps old new → IsOver (old.port port) slot
+  pub over_stays_over_steps : (port slot : ℕ) (old new : Device) → Steps old new → IsOver (old.port port) slot
       → IsOver (new.port port) slot
-  pub over_access : (port : Port) (slot : ℕ) (access : Access) (old new : Device)
+  pub over_stays_over_access : (port : Port) (slot : ℕ) (access : Access) (old new : Device)
       → ((v : ℕ) → access ≡ Writing (Px port Ci) v → bit v slot ≡ false) → Does access old new
       → IsOver (old.port port.0) slot → IsOver (new.port port.0) slot
   -- the bytes of a slot say one command
-  pub one_said : (memory : ℕ → ℕ) (list slot : ℕ) (m n : Meaning) (xs ys : List ℕ) → DecodesTo memory list slot m xs
+  pub decoding_is_unique : (memory : ℕ → ℕ) (list slot : ℕ) (m n : Meaning) (xs ys : List ℕ)
+      → DecodesTo memory list slot m xs
       → DecodesTo memory list slot n ys → (m ≡ n) × (xs ≡ ys)
   -- what is stored for a slot stays so over acts that leave it
-  pub stored : (port : Port) (slot : ℕ) (c : Meaning) (places : List ℕ) (acts : List Act) (k later : DriverState)
+  pub stored_stays_over_acts : (port : Port) (slot : ℕ) (c : Meaning) (places : List ℕ) (acts : List Act)
+      (k later : DriverState)
       (m : Machine) → IsReachable m → DriverRelation m k → AreActsDone acts k m later
-      → All (LeavesStored port slot) (accesses_of acts) → IsOn k.device → IsStored k.device port.0 slot c places
+      → All (KeepsStoredCommand port slot) (accesses_of acts) → IsOn k.device → IsStored k.device port.0 slot c places
       → IsStored later.device port.0 slot c places
   -- and over an access that leaves it
-  pub stored_access : (uses : SlotStates) (m : Machine) (port : Port) (slot : ℕ) (c : Meaning) (places : List ℕ)
+  pub stored_stays_over_access : (uses : SlotStates) (m : Machine) (port : Port) (slot : ℕ) (c : Meaning)
+      (places : List ℕ)
       (access : Access) (old new : Device) → IsReachable m → StateRelation uses m old → old.hr ≡ false
       → ClearsNoStart port access → DoesNotWrite (Px port Clb) access
-      → ((at : ℕ) (bytes : List ℕ) → access ≡ Storing at bytes → MissesTable port.0 slot at (length bytes))
+      → ((at : ℕ) (bytes : List ℕ) → access ≡ Storing at bytes → MissesHeaderAndTable port.0 slot at (length bytes))
       → Does access old new → IsStored old port.0 slot c places → IsStored new port.0 slot c places
   -- a fault that is shown is of the slot that alone is used
-  pub fault_sole : (uses : SlotStates) (m : Machine) (d : Device) (port slot : ℕ) (entries : List TapeEntry)
+  pub shown_fault_is_of_lone_slot : (uses : SlotStates) (m : Machine) (d : Device) (port slot : ℕ)
+      (entries : List TapeEntry)
       → StateRelation uses m d
       → (s : ShowsFault entries (d.port port) port) → ((other : ℕ) → other ≢ slot → uses port other ≡ Free)
       → s.fault.slot.0 ≡ slot
 
 -- requests that get older
 pub record AgeLaws : Type 0 where
-  pub agrees : (k : DriverState) (m : Machine) (ready : Port → Bool) → DriverRelation m k
+  pub aging_keeps_driver_relation : (k : DriverState) (m : Machine) (ready : Port → Bool) → DriverRelation m k
       → DriverRelation (after_step m (Age ready)) k
-  pub book : (entries : List BookEntry) (m : Machine) (ready : Port → Bool) → BookRelation entries m.book
+  pub aging_keeps_book_relation : (entries : List BookEntry) (m : Machine) (ready : Port → Bool)
+      → BookRelation entries m.book
       → BookRelation (aged_entries ready entries) (after_step m (Age ready)).book
-  pub ordered : (entries : List BookEntry) (ready : Port → Bool) → BookIsInOrder entries
-      → BookIsInOrder (aged_entries ready entries)
-  pub accepted : (table : FrameOwnership) (entries : List BookEntry) (ready : Port → Bool)
-      → All (IsAccepted table) entries
-      → All (IsAccepted table) (aged_entries ready entries)
-  pub asks : (entries : List BookEntry) (ready : Port → Bool) → unanswered_of (aged_entries ready entries)
+  pub aging_keeps_well_formed_book : (entries : List BookEntry) (ready : Port → Bool) → BookIsWellFormed entries
+      → BookIsWellFormed (aged_entries ready entries)
+  pub aging_keeps_well_formed_entries : (table : OwnersAndLoans) (entries : List BookEntry) (ready : Port → Bool)
+      → All (IsWellFormedEntry table) entries
+      → All (IsWellFormedEntry table) (aged_entries ready entries)
+  pub aging_keeps_unanswered : (entries : List BookEntry) (ready : Port → Bool)
+      → unanswered_of (aged_entries ready entries)
       ≡ unanswered_of entries
 
 -- requests that are unanswered or kept
 pub record FrameHolderLaws : Type 0 where
-  pub limits : (start : Machine) (history : List Step) → IsInitial start → IsLegal start history
+  pub legal_histories_stay_in_limits : (start : Machine) (history : List Step) → IsInitial start → IsLegal start history
       → WithinLimits (after start history)
-  pub lived : (start : Machine) (history : List Step) (e : Pending) → IsInitial start → IsLegal start history
+  pub frame_holders_were_accepted : (start : Machine) (history : List Step) (e : Pending) → IsInitial start
+      → IsLegal start history
       → HoldsFrames (after start history) e → WasAccepted start history e.request
-  pub granted : (m : Machine) (r : Accepted) → MayAccept m r → IsGranted m.rows r
-  pub shrunk : (start : Machine) (history : List Step)
+  pub acceptable_is_granted : (m : Machine) (r : Accepted) → MayAccept m r → IsGranted m.rows r
+  pub rows_shrink_and_owners_stay : (start : Machine) (history : List Step)
       → ((row : GrantRow) → Contains (after start history).rows row → Contains start.rows row)
       × ((frame : Frame) → (after start history).owner frame ≡ start.owner frame)
-  pub one : (start : Machine) (history : List Step) (one other : Accepted) → WasAccepted start history one
+  pub an_id_is_accepted_once : (start : Machine) (history : List Step) (one other : Accepted)
+      → WasAccepted start history one
       → WasAccepted start history other → one.id ≡ other.id → one ≡ other
-  pub one_row : (m : Machine) (client : ClientId) (number : ℕ) (a b : GrantRow) → IsReachable m → Contains m.rows a
+  pub a_name_is_one_row : (m : Machine) (client : ClientId) (number : ℕ) (a b : GrantRow) → IsReachable m
+      → Contains m.rows a
       → HasGrantName client number a → Contains m.rows b → HasGrantName client number b → a ≡ b
-  pub own_frame : (m : Machine) (frame : Frame) (e : Pending) → IsReachable m → HoldsFrames m e
+  pub held_frame_is_of_request : (m : Machine) (frame : Frame) (e : Pending) → IsReachable m → HoldsFrames m e
       → m.lent frame ≡ Some e.request.id → HasFrame e.request frame
-  pub answered : (m : Machine) (a b : Pending) → IsReachable m → Contains m.book a → Contains m.kept b
+  pub kept_is_not_in_book : (m : Machine) (a b : Pending) → IsReachable m → Contains m.book a → Contains m.kept b
       → a.request.id.0 ≢ b.request.id.0

@@ -31,7 +31,7 @@ use Rattle.request_queue.specs.declared.disposition.Revalidation.{Revalidation}
 use Rattle.request_queue.specs.declared.disposition.Revalidation.TheVariants.{SameDisk, DiskLost, Dead}
 use Rattle.slots.specs.SlotUses.{PortSlots, use_at}
 use Rattle.slots.specs.declared.SlotUse.{SlotUse}
-use Rattle.server_history.specs.IssuingAndAnswering.{AnswersEach, IsMaskOf, IssuesAll, done_reply}
+use Rattle.server_history.specs.IssuingAndAnswering.{AnswersEach, IsMaskOf, IssuesDueOfPort, done_reply}
 use Rattle.port_control.specs.declared.events.PortError.{PortError}
 use Rattle.port_control.specs.declared.events.PortError.TheVariants.{FatalError, TaskFileError, TimedOut, LinkChanged}
 use Rattle.server_history.specs.ServerState.{ServerState, quarantined_at, probed_mode, slots_at, used_for}
@@ -47,16 +47,17 @@ ErrorIsFound port LinkChanged old seen = TakesEvent port look.LinkChanged old se
 ErrorIsFound port TimedOut old seen = seen ≡ old
 
 -- nobody is named, and the port doesn't run
-abbrev pub EndsStopped : Recovered → Type 0
-EndsStopped result = (result.failed ≡ None) × ((token : running_token.Running) → result.next ≢ next.Running token)
+abbrev pub NamesNoneAndIsNotRunning : Recovered → Type 0
+NamesNoneAndIsNotRunning result = (result.failed ≡ None)
+    × ((token : running_token.Running) → result.next ≢ next.Running token)
 
 -- What is told then. Where a command had failed, the port was recovered. Where its link or the host's bus had, its disk
 -- was lost, or a request is hung, the port was stopped.
-abbrev pub TellsErrorHandling : PortError → Port → ℕ → Bool → Recovered → List Access → Device → Device → Type 0
-TellsErrorHandling TaskFileError port outstanding queued result accesses old new =
+abbrev pub ErrorHandlingIsBacked : PortError → Port → ℕ → Bool → Recovered → List Access → Device → Device → Type 0
+ErrorHandlingIsBacked TaskFileError port outstanding queued result accesses old new =
     TellsRecovery port outstanding queued result
     accesses old new
-TellsErrorHandling port_error port outstanding queued result accesses old new = EndsStopped result
+ErrorHandlingIsBacked port_error port outstanding queued result accesses old new = NamesNoneAndIsNotRunning result
 
 -- each used slot has a queued command, or each has a plain one
 abbrev pub AreAllQueuedAs : Bool → PortSlots → Type 0
@@ -67,24 +68,25 @@ AreAllQueuedAs queued slots = (slot : ℕ) (used : SlotUse) → use_at slots slo
 -- to this server, and then to this device.
 pub record IsErrorHandled (port : Port) (old mid : ServerState) (new : Device) : Type 0 where
   pub port_error : PortError
-  pub seen : Device
-  pub error_is_found : ErrorIsFound port port_error old.device seen
+  pub device_after_look : Device
+  pub error_is_found : ErrorIsFound port port_error old.device device_after_look
   pub mask : ℕ
   pub is_mask_of : IsMaskOf (slots_at old.slots port.0) mask
   pub done : ℕ
-  pub found : Device
-  pub reads : ReadsDone port mask done seen found
+  pub device_after_read : Device
+  pub reads_done : ReadsDone port mask done device_after_look device_after_read
   pub requests : List BookEntry
   pub ordered : AllPairs IsEarlier requests
-  pub answers_each : AnswersEach port done requests (record old { device = found }) mid
+  pub answers_each : AnswersEach port done requests (record old { device = device_after_read }) mid
   pub done_slots_are_free : (slot : ℕ) → slot < 32 → bit done slot ≡ true → used_for mid.slots port.0 slot ≡ None
   pub outstanding : ℕ
   pub outstanding_is_mask : IsMaskOf (slots_at mid.slots port.0) outstanding
   pub queued : Bool
   pub are_queued_alike : AreAllQueuedAs queued (slots_at mid.slots port.0)
   pub result : Recovered
-  pub handling : RecoversOrStops port outstanding queued result mid.device new
-  pub tells_error_handling : TellsErrorHandling port_error port outstanding queued result handling.accesses mid.device
+  pub recovers_or_stops : RecoversOrStops port outstanding queued result mid.device new
+  pub tells_error_handling : ErrorHandlingIsBacked port_error port outstanding queued result recovers_or_stops.accesses
+      mid.device
       new
 
 -- ---- what it is then
@@ -95,22 +97,23 @@ BootsAfter LinkChanged wanted port booted old new = RebootsIfPresent wanted port
 BootsAfter port_error wanted port booted old new = RebootsPort wanted port booted old new
 
 -- It is found to be this: what it was, where it runs; what its boot has found, where it has to be booted; or dead.
-abbrev pub IsRevalidated : Wanted → Port → PortError → DiskInfo → Next → Device → Device → ProbeResult → Type 0
-IsRevalidated wanted port port_error was (next.Running token) old new found = (found ≡ Ready was) × (new ≡ old)
-IsRevalidated wanted port port_error was (next.Restart token) old new found = (booted : Booted) × (booted.found ≡ found)
+abbrev pub IsFoundAfterError : Wanted → Port → PortError → DiskInfo → Next → Device → Device → ProbeResult → Type 0
+IsFoundAfterError wanted port port_error was (next.Running token) old new found = (found ≡ Ready was) × (new ≡ old)
+IsFoundAfterError wanted port port_error was (next.Restart token) old new found = (booted : Booted)
+    × (booted.found ≡ found)
     × BootsAfter port_error wanted port booted old new
-IsRevalidated wanted port port_error was next.Dead old new found = (found ≡ Unready DeadState) × (new ≡ old)
+IsFoundAfterError wanted port port_error was next.Dead old new found = (found ≡ Unready DeadState) × (new ≡ old)
 
 -- the disk has the serial number and the size of the one that was there
-abbrev pub IsSameDisk : DiskInfo → DiskInfo → Type 0
-IsSameDisk was info = (info.serial ≡ was.serial) × (info.sectors ≡ was.sectors)
+abbrev pub IsDiskOfSameSerialAndSize : DiskInfo → DiskInfo → Type 0
+IsDiskOfSameSerialAndSize was info = (info.serial ≡ was.serial) × (info.sectors ≡ was.sectors)
 
 -- What its requests may expect. Where its disk was lost, it doesn't count that the same one is there again.
 abbrev pub IsRevalidation : PortError → DiskInfo → ProbeResult → Revalidation → Type 0
 IsRevalidation port_error was found SameDisk = (port_error ≢ LinkChanged)
-    × ((info : DiskInfo) × (found ≡ Ready info) × IsSameDisk was info)
+    × ((info : DiskInfo) × (found ≡ Ready info) × IsDiskOfSameSerialAndSize was info)
 IsRevalidation port_error was found DiskLost = (found ≢ Unready DeadState)
-    × ((port_error ≡ LinkChanged) ⊎ ((info : DiskInfo) → found ≡ Ready info → IsSameDisk was info → ⊥))
+    × ((port_error ≡ LinkChanged) ⊎ ((info : DiskInfo) → found ≡ Ready info → IsDiskOfSameSerialAndSize was info → ⊥))
 IsRevalidation port_error was found Dead = found ≡ Unready DeadState
 
 -- ---- what becomes of its requests
@@ -124,29 +127,30 @@ IsFailedRequest slots (Some its) failed =
 
 -- the port's requests, in order of acceptance
 abbrev pub requests_of : Port → List BookEntry → List BookEntry
-requests_of port book = filter (λ (e : BookEntry). is_of_port port e.entry) book
+requests_of port book = filter (λ (e : BookEntry). is_of_port port e.request) book
 
 -- what the server holds of all ports' requests, and keeps of the port's loans
 abbrev pub book_and_loans_of : Port → ServerState → BookAndLoans
-book_and_loans_of port s = record { book = s.book; table = s.table; kept = quarantined_at s.kept port.0 }
+book_and_loans_of port s = record { book = s.book; table = s.table; kept = quarantined_at s.kept_loans port.0 }
 
 -- no slot of the port is used, and as many are usable as its mode has
 pub record HasNoUsedSlot (mode : QueueMode) (slots : PortSlots) : Type 0 where
-  pub usable : slots.usable ≡ mode.usable
-  pub places : length slots.places ≡ 32
-  pub free : (slot : ℕ) → use_at slots slot ≡ None
+  pub usable_count_is_of_mode : slots.usable_count ≡ mode.usable_slots
+  pub has_32_slots : length slots.slot_uses ≡ 32
+  pub all_slots_are_free : (slot : ℕ) → use_at slots slot ≡ None
 
 -- The server, with the port found so and its last disk remembered, these slots, and these holdings.
-abbrev pub with_port_found : Port → Device → ProbeResult → DiskInfo → QueueMode → PortSlots → BookAndLoans → ServerState
+abbrev pub with_port_resolved : Port → Device → ProbeResult → DiskInfo → QueueMode → PortSlots → BookAndLoans
     → ServerState
-with_port_found port device found was mode slots now s = record s {
+    → ServerState
+with_port_resolved port device found was mode slots now s = record s {
   device = device;
   table = now.table;
-  ports = slice_set s.ports port.0 found;
+  probe_results = slice_set s.probe_results port.0 found;
   remembered = slice_set s.remembered port.0 (Some was);
   modes = slice_set s.modes port.0 mode;
   slots = slice_set s.slots port.0 slots;
-  kept = slice_set s.kept port.0 now.kept;
+  kept_loans = slice_set s.kept_loans port.0 now.kept;
   book = now.book;
 }
 
@@ -155,35 +159,39 @@ with_port_found port device found was mode slots now s = record s {
 -- that tell what was done.
 pub record HasResolved (port : Port) (later : List Reply) (old new : ServerState) : Type 0 where
   pub disk_before : DiskInfo
-  pub ready : probe_result_of old.ports port.0 ≡ Ready disk_before
-  pub mid : ServerState
-  pub device : Device
-  pub error_handled : IsErrorHandled port old mid device
+  pub was_ready : probe_result_of old.probe_results port.0 ≡ Ready disk_before
+  pub server_after_handling : ServerState
+  pub device_after_handling : Device
+  pub error_handled : IsErrorHandled port old server_after_handling device_after_handling
   pub found : ProbeResult
-  pub is_revalidated : IsRevalidated
-      (wanted_of old.wanted port.0) port error_handled.port_error disk_before error_handled.result.next device
+  pub is_found_after_error : IsFoundAfterError
+      (wanted_of old.wanted port.0) port error_handled.port_error disk_before error_handled.result.next
+      device_after_handling
       new.device found
   pub mode : QueueMode
   pub mode_is : mode ≡ probed_mode new.device.cap found
   pub slots : PortSlots
   pub has_no_used_slot : HasNoUsedSlot mode slots
   pub failed : Option disposition.FailedRequest
-  pub failed_request_is : IsFailedRequest (slots_at mid.slots port.0) error_handled.result.failed failed
+  pub failed_request_is : IsFailedRequest (slots_at server_after_handling.slots port.0) error_handled.result.failed
+      failed
   pub revalidation : Revalidation
   pub is_revalidation : IsRevalidation error_handled.port_error disk_before found revalidation
   pub book_and_loans_after : BookAndLoans
-  pub are_resolved : AreResolved (disposition_of failed revalidation) (requests_of port mid.book) later
-      (book_and_loans_of port mid) book_and_loans_after
-  pub server_is : new ≡ with_port_found port new.device found disk_before mode slots book_and_loans_after mid
+  pub are_resolved : AreResolved (disposition_of failed revalidation) (requests_of port server_after_handling.book)
+      later
+      (book_and_loans_of port server_after_handling) book_and_loans_after
+  pub server_is : new ≡ with_port_resolved port new.device found disk_before mode slots book_and_loans_after
+      server_after_handling
 
 -- ---- the whole
 
 -- A port's turn in which trouble was found out: it was handled, its requests were resolved, and then what is due on it
 -- was issued. The replies stand in order of acceptance.
 pub record HandlesPortError (port : Port) (replies : List Reply) (old new : ServerState) : Type 0 where
-  pub later : List Reply
-  pub mid : ServerState
-  pub settled : HasResolved port later old mid
-  pub issued : IssuesAll port mid new
-  pub replies_are : IsPermutation replies (map done_reply settled.error_handled.requests ++ later)
+  pub later_replies : List Reply
+  pub server_after_resolving : ServerState
+  pub has_resolved : HasResolved port later_replies old server_after_resolving
+  pub issued : IssuesDueOfPort port server_after_resolving new
+  pub replies_are : IsPermutation replies (map done_reply has_resolved.error_handled.requests ++ later_replies)
   pub ordered : AllPairs (λ (a b : Reply). a.id.0 ≤ b.id.0) replies

@@ -5,7 +5,7 @@ pub mod Histories
 pub mod IssuingAndAnswering
 pub mod ErrorHandling
 pub mod Resets
-pub mod Laws
+pub mod AccessPurposes
 pub mod Probing
 pub mod Turns
 pub mod RecoveryLaws

@@ -13,22 +13,22 @@ use Rattle.adapter.specs.Device.Halt.{NotHalted}
 use Rattle.adapter.specs.Rules.{IsOn}
 use Rattle.adapter.specs.declared.command.Operation.TheVariants.{Identify}
 use Rattle.refinement.specs.Acts.{Act, AreActsDone, accesses_of}
-use Rattle.refinement.specs.Relation.{StateRelation, HaveSlots}
+use Rattle.refinement.specs.Relation.{StateRelation, HaveSlotsUnlessParked}
 use Rattle.refinement.specs.Fragments.{IsDrivenBy, SparesOtherPorts, GainsNoMove}
 use Rattle.refinement.specs.Driver.{DriverAdvances, DriverState, DriverRelation}
-use Rattle.refinement.specs.Errors.{NoneFatal}
-use Rattle.refinement.specs.PortFacts.{FaultsOnRecord, Undisturbed}
+use Rattle.refinement.specs.Errors.{NoFatalErrors}
+use Rattle.refinement.specs.PortFacts.{RecordsFaultsIfSt, Undisturbed}
 use Rattle.refinement.specs.Halting.{HaltIsOfTaken, HaltOfTakenIfSt}
-use Rattle.refinement.specs.Links.{ShowsDiskIfIn, LeavesDisk, NoPlugEvents, SameAdapter, DoesNotWrite}
+use Rattle.refinement.specs.PreservedParts.{ShowsDiskIfIn, KeepsDisk, NoPlugEvents, SameAdapter, DoesNotWrite}
 use Rattle.refinement.specs.HaltRecovery.{WorksPlainly}
 use Rattle.refinement.specs.Slots.{Serves, SlotState, SlotStates, set_slot_state, serving_count}
 use Rattle.block_machine.specs.DueRequests.{issued_count}
 use Rattle.block_machine.specs.Histories.{IsReachable}
 use Rattle.block_machine.specs.Expected.{after}
 use Rattle.block_machine.specs.State.{Machine, unanswered}
-use Rattle.block_machine.specs.Steps.{NoneQuarantined, Step}
+use Rattle.block_machine.specs.Steps.{NoneKept, Step}
 use Rattle.host_boot.specs.Reboots.{RebootsPort, RebootsIfPresent, IsCapPiOrBootAccess}
-use Rattle.host_boot.specs.TakeOver.{FoundBadDisk, IsServed, LeavesFoundPort, BacksProbeResult, StillBacksProbeResult}
+use Rattle.host_boot.specs.TakeOver.{FoundUnusableDevice, IsServed, LeavesFoundPort, BacksProbeResult, StillBacksProbeResult}
 use Rattle.host_boot.specs.declared.Booted.{Booted}
 use Rattle.host_boot.specs.declared.ProbeResult.{ProbeResult}
 use Rattle.host_boot.specs.declared.ProbeResult.TheVariants.{Unready}
@@ -37,78 +37,87 @@ use Rattle.port_boot.specs.States.{ShownDiskIsIn}
 
 pub record RecoveryLaws : Type 0 where
   -- where each issued request of a port has a slot, as many slots serve one
-  pub counted : (uses : SlotStates) (m : Machine) (d : Device) → IsReachable m → StateRelation uses m d → (port : Port)
-      → NoneQuarantined m port → (n : ℕ) → HaveSlots uses m port.0 []
+  pub serving_slots_are_issued_count : (uses : SlotStates) (m : Machine) (d : Device) → IsReachable m
+      → StateRelation uses m d → (port : Port)
+      → NoneKept m port → (n : ℕ) → HaveSlotsUnlessParked uses m port.0 []
       → ((slot : ℕ) (id : RequestId) → uses port.0 slot ≡ Serves id → slot < n)
       → serving_count uses port.0 n ≡ issued_count (map unanswered m.book) port
   -- acts lead to a machine that is reached
-  pub gone_reached : (k later : DriverState) (m : Machine) (steps : List Step) → IsReachable m
+  pub advancing_keeps_reachable : (k later : DriverState) (m : Machine) (steps : List Step) → IsReachable m
       → DriverAdvances k m steps later
       → IsReachable (after m steps)
-  pub put_other : (uses : SlotStates) (port slot : ℕ) (u : SlotState) (other_port other_slot : ℕ)
+  pub setting_slot_keeps_others : (uses : SlotStates) (port slot : ℕ) (u : SlotState) (other_port other_slot : ℕ)
       → (other_port ≡ port → other_slot ≡ slot → ⊥) → set_slot_state uses port slot u other_port other_slot
       ≡ uses other_port
       other_slot
   -- what accesses leave
-  pub own_on : (port : ℕ) (accesses : List Access) (old new : Device) → DoesAll accesses old new
+  pub shown_disk_stays_in : (port : ℕ) (accesses : List Access) (old new : Device) → DoesAll accesses old new
       → ShownDiskIsIn (old.port port) → ShownDiskIsIn (new.port port)
-  pub of_recorded : (port : Port) (q : ℕ) (old new : Device) → q ≢ port.0 → IsDrivenBy (SparesOtherPorts port) old new
-      → FaultsOnRecord old.tape (old.port q) q → FaultsOnRecord new.tape (new.port q) q
-  pub of_shown : (port other : Port) (old new : Device) → port.0 ≢ other.0 → IsOn old
+  pub other_port_keeps_record : (port : Port) (q : ℕ) (old new : Device) → q ≢ port.0
+      → IsDrivenBy (SparesOtherPorts port) old new
+      → RecordsFaultsIfSt old.tape (old.port q) q → RecordsFaultsIfSt new.tape (new.port q) q
+  pub other_port_keeps_shown_disk : (port other : Port) (old new : Device) → port.0 ≢ other.0 → IsOn old
       → IsDrivenBy (SparesOtherPorts other) old new
       → ShowsDiskIfIn (old.port port.0) → ShowsDiskIfIn (new.port port.0)
   -- a port that was booted again
-  pub again_driven : (wanted : Wanted) (port : Port) (booted : Booted) (old new : Device)
+  pub reboot_is_of_port : (wanted : Wanted) (port : Port) (booted : Booted) (old new : Device)
       → RebootsPort wanted port booted old new → IsDrivenBy (SparesOtherPorts port) old new
-  pub again_stands : (wanted : Wanted) (port : Port) (booted : Booted) (old new : Device)
+  pub reboot_backs_result : (wanted : Wanted) (port : Port) (booted : Booted) (old new : Device)
       → RebootsPort wanted port booted old new → IsServed wanted port.0 old
       → BacksProbeResult wanted booted.found port.0 new
-  pub again_shown : (wanted : Wanted) (port : Port) (booted : Booted) (state : PortState) (old new : Device) → IsOn old
-      → RebootsPort wanted port booted old new → FoundBadDisk state → booted.found ≡ Unready state
+  pub reboot_shows_bad_disk : (wanted : Wanted) (port : Port) (booted : Booted) (state : PortState) (old new : Device)
+      → IsOn old
+      → RebootsPort wanted port booted old new → FoundUnusableDevice state → booted.found ≡ Unready state
       → ShowsDiskIfIn (new.port port.0)
   -- what stands behind a port still does
-  pub stands_begin : (wanted : Wanted) (found : ProbeResult) (port : ℕ) (d : Device)
+  pub backing_begins : (wanted : Wanted) (found : ProbeResult) (port : ℕ) (d : Device)
       → BacksProbeResult wanted found port d
       → StillBacksProbeResult wanted found port d
-  pub stands_on : (wanted : Wanted) (found : ProbeResult) (port : ℕ) (old new : Device) → SameAdapter old new
+  pub backing_goes_on : (wanted : Wanted) (found : ProbeResult) (port : ℕ) (old new : Device) → SameAdapter old new
       → LeavesFoundPort found (old.port port) (new.port port) → (found ≢ Unready Dead
       → GainsNoMove port Identify old new)
       → StillBacksProbeResult wanted found port old → StillBacksProbeResult wanted found port new
   -- and one that was booted where a device showed
-  pub start_of : (port : Port) (access : Access) → IsCapPiOrBootAccess port access → SparesOtherPorts port access
-  pub there_driven : (wanted : Wanted) (port : Port) (booted : Booted) (old new : Device)
+  pub boot_start_access_is_of_port : (port : Port) (access : Access) → IsCapPiOrBootAccess port access
+      → SparesOtherPorts port access
+  pub conditional_boot_is_of_port : (wanted : Wanted) (port : Port) (booted : Booted) (old new : Device)
       → RebootsIfPresent wanted port booted old new → IsDrivenBy (SparesOtherPorts port) old new
-  pub there_stands : (wanted : Wanted) (port : Port) (booted : Booted) (old new : Device)
+  pub conditional_boot_backs_result : (wanted : Wanted) (port : Port) (booted : Booted) (old new : Device)
       → RebootsIfPresent wanted port booted old new → IsServed wanted port.0 old
       → BacksProbeResult wanted booted.found port.0 new
-  pub there_shown : (wanted : Wanted) (port : Port) (booted : Booted) (state : PortState) (old new : Device) → IsOn old
-      → RebootsIfPresent wanted port booted old new → FoundBadDisk state → booted.found ≡ Unready state
+  pub conditional_boot_shows_bad_disk : (wanted : Wanted) (port : Port) (booted : Booted) (state : PortState)
+      (old new : Device) → IsOn old
+      → RebootsIfPresent wanted port booted old new → FoundUnusableDevice state → booted.found ≡ Unready state
       → ShowsDiskIfIn (new.port port.0)
 
 -- What of a port's trouble is shown.
 pub record PortErrorLaws : Type 0 where
   -- each error, and each disk that goes or comes, is shown until it is cleared
-  pub shows_fatal : (port : Port) (access : Access) (old new : Device) → old.hr ≡ false
+  pub pxis_shows_fatal_errors : (port : Port) (access : Access) (old new : Device) → old.hr ≡ false
       → DoesNotWrite (Px port Is) access → Does access old new
       → ((place : ℕ) → 27 ≤ place → place ≤ 29 → (new.port port.0).is place ≡ false)
-      → ((place : ℕ) → 27 ≤ place → place ≤ 29 → (old.port port.0).is place ≡ false) × NoneFatal port.0 old new
-  pub shows_disk : (port : Port) (access : Access) (old new : Device) → old.hr ≡ false
+      → ((place : ℕ) → 27 ≤ place → place ≤ 29 → (old.port port.0).is place ≡ false) × NoFatalErrors port.0 old new
+  pub serr_n_shows_plug_events : (port : Port) (access : Access) (old new : Device) → old.hr ≡ false
       → DoesNotWrite (Px port Serr) access → Does access old new → (new.port port.0).serr_n ≡ false
       → ((old.port port.0).serr_n ≡ false) × NoPlugEvents port.0 old new
   -- where nothing disturbs a port
-  pub calm_fatal : (port : ℕ) (old new : Device) → Undisturbed port old new → NoneFatal port old new
-  pub calm_plugs : (port : ℕ) (old new : Device) → Undisturbed port old new → NoPlugEvents port old new
+  pub undisturbed_has_no_fatal : (port : ℕ) (old new : Device) → Undisturbed port old new → NoFatalErrors port old new
+  pub undisturbed_has_no_plug_event : (port : ℕ) (old new : Device) → Undisturbed port old new
+      → NoPlugEvents port old new
   -- its disk, and its link, stay
-  pub disk_left : (port : ℕ) (access : Access) (old new : Device) → Does access old new → NoPlugEvents port old new
-      → LeavesDisk (old.port port) (new.port port)
+  pub disk_stays_without_plug_events : (port : ℕ) (access : Access) (old new : Device) → Does access old new
+      → NoPlugEvents port old new
+      → KeepsDisk (old.port port) (new.port port)
   -- and a queued command that has halted it is taken still
-  pub halts_acts : (port : Port) (acts : List Act) (k later : DriverState) (m : Machine) → IsReachable m
+  pub halt_of_taken_stays_over_acts : (port : Port) (acts : List Act) (k later : DriverState) (m : Machine)
+      → IsReachable m
       → DriverRelation m k
       → AreActsDone acts k m later → All (DoesNotWrite (Px port Cmd)) (accesses_of acts)
       → HaltOfTakenIfSt (k.device.port port.0) → HaltOfTakenIfSt (later.device.port port.0)
-  pub halts_access : (uses : SlotStates) (m : Machine) (port : Port) (access : Access) (old new : Device)
+  pub halt_of_taken_stays_over_access : (uses : SlotStates) (m : Machine) (port : Port) (access : Access)
+      (old new : Device)
       → IsReachable m
       → StateRelation uses m old → DoesNotWrite (Px port Cmd) access → Does access old new
       → HaltOfTakenIfSt (old.port port.0) → HaltOfTakenIfSt (new.port port.0)
-  pub halts_calm : (p : DevicePort) → p.halt ≡ NotHalted → HaltIsOfTaken p
-  pub halts_plain : (p : DevicePort) → WorksPlainly p → HaltIsOfTaken p
+  pub unhalted_has_no_halt : (p : DevicePort) → p.halt ≡ NotHalted → HaltIsOfTaken p
+  pub plain_port_halt_is_of_taken : (p : DevicePort) → WorksPlainly p → HaltIsOfTaken p

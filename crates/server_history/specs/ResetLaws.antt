@@ -5,8 +5,8 @@ use Rattle.std.specs.List.{Contains}
 use Rattle.adapter.specs.Device.{Device}
 use Rattle.adapter.specs.Idle.{IsIdle}
 use Rattle.refinement.specs.Driver.{ForgetsAtMostKept, HasNoSlot, DriverState, DriverRelation}
-use Rattle.refinement.specs.PortFacts.{FaultsOnRecord, RunsWell, Undisturbed}
-use Rattle.refinement.specs.Links.{ShowsDiskIfIn}
+use Rattle.refinement.specs.PortFacts.{RecordsFaultsIfSt, RunsWell, Undisturbed}
+use Rattle.refinement.specs.PreservedParts.{ShowsDiskIfIn}
 use Rattle.ata_types.specs.declared.PortState.{PortState}
 use Rattle.ata_types.specs.declared.request.Frame.{Frame}
 use Rattle.ata_types.specs.declared.request.RequestId.{RequestId}
@@ -14,7 +14,7 @@ use Rattle.block_machine.specs.Confinement.{HasFrame}
 use Rattle.block_machine.specs.Histories.{IsReachable}
 use Rattle.block_machine.specs.State.{Machine, Pending}
 use Rattle.block_machine.specs.Steps.{HoldsFrames, Release, after_step}
-use Rattle.host_boot.specs.TakeOver.{FoundBadDisk, TakesOver, probe_result_of}
+use Rattle.host_boot.specs.TakeOver.{FoundUnusableDevice, TakesOver, probe_result_of}
 use Rattle.host_boot.specs.declared.ProbeResult.TheVariants.{Ready, Unready}
 use Rattle.host_boot.specs.declared.Host.{Host}
 use Rattle.identify.specs.declared.DiskInfo.{DiskInfo}
@@ -27,21 +27,26 @@ pub record TakeOverLaws : Type 0 where
   pub port_runs_well : (wanted : List Wanted) (host : Host) (port : ℕ) (info : DiskInfo) (old new : Device) → IsIdle old
       → TakesOver wanted host old new → probe_result_of host.ports port ≡ Ready info → Undisturbed port old new
       → RunsWell (new.port port)
-  pub recorded : (wanted : List Wanted) (host : Host) (port : ℕ) (info : DiskInfo) (old new : Device) → IsIdle old
+  pub faults_are_on_record : (wanted : List Wanted) (host : Host) (port : ℕ) (info : DiskInfo) (old new : Device)
+      → IsIdle old
       → TakesOver wanted host old new → probe_result_of host.ports port ≡ Ready info
-      → FaultsOnRecord new.tape (new.port port) port
-  pub own : (wanted : List Wanted) (host : Host) (port : ℕ) (info : DiskInfo) (old new : Device) → IsIdle old
+      → RecordsFaultsIfSt new.tape (new.port port) port
+  pub shown_disk_is_in : (wanted : List Wanted) (host : Host) (port : ℕ) (info : DiskInfo) (old new : Device)
+      → IsIdle old
       → TakesOver wanted host old new → probe_result_of host.ports port ≡ Ready info → ShownDiskIsIn (new.port port)
-  pub shown : (wanted : List Wanted) (host : Host) (port : ℕ) (state : PortState) (old new : Device) → IsIdle old
-      → TakesOver wanted host old new → FoundBadDisk state → probe_result_of host.ports port ≡ Unready state
+  pub bad_disk_shows_if_in : (wanted : List Wanted) (host : Host) (port : ℕ) (state : PortState) (old new : Device)
+      → IsIdle old
+      → TakesOver wanted host old new → FoundUnusableDevice state → probe_result_of host.ports port ≡ Unready state
       → ShowsDiskIfIn (new.port port)
 
 -- what laws say of an adapter that is taken over again, and of the machine meanwhile
 pub record ResetLaws : Type 0 where
-  pub below : PrerequisiteLaws
-  pub taken : TakeOverLaws
-  pub own_frame : (m : Machine) (frame : Frame) (e : Pending) → IsReachable m → HoldsFrames m e
+  pub prerequisites : PrerequisiteLaws
+  pub take_over : TakeOverLaws
+  pub held_frame_is_of_request : (m : Machine) (frame : Frame) (e : Pending) → IsReachable m → HoldsFrames m e
       → m.lent frame ≡ Some e.request.id → HasFrame e.request frame
-  pub released : (k : DriverState) (m : Machine) (later : ℕ → List RequestId) → IsReachable m → DriverRelation m k
-      → ((e : Pending) → Contains m.kept e → HasNoSlot k.uses e.request.id) → ForgetsAtMostKept m k.parked later
-      → DriverRelation (after_step m Release) (record k { parked = later })
+  pub release_keeps_driver_relation : (k : DriverState) (m : Machine) (later : ℕ → List RequestId) → IsReachable m
+      → DriverRelation m k
+      → ((e : Pending) → Contains m.kept e → HasNoSlot k.slot_states e.request.id)
+      → ForgetsAtMostKept m k.awaiting_disposition later
+      → DriverRelation (after_step m Release) (record k { awaiting_disposition = later })

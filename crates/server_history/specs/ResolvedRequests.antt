@@ -6,7 +6,7 @@ use Rattle.ata_types.specs.declared.request.Outcome.{Outcome}
 use Rattle.ata_types.specs.declared.request.Reply.{Reply}
 use Rattle.ata_types.specs.declared.request.RequestId.{RequestId}
 use Rattle.adapter.specs.Device.{Device}
-use Rattle.refinement.specs.Driver.{HasNoSlot, IsBacked, DriverState, DriverRelation}
+use Rattle.refinement.specs.Driver.{HasNoSlot, TapeBacksSteps, DriverState, DriverRelation}
 use Rattle.block_machine.specs.Events.{AllEnabled, RepliesMatch}
 use Rattle.block_machine.specs.Histories.{IsReachable}
 use Rattle.block_machine.specs.Expected.{after}
@@ -14,7 +14,7 @@ use Rattle.block_machine.specs.State.{Machine, Pending}
 use Rattle.block_machine.specs.Steps.{Step, WaitAgain, Answer}
 use Rattle.dma_frames.specs.Loan.{Lending}
 use Rattle.dma_frames.specs.FrameTables.{lent_to}
-use Rattle.request_queue.specs.BookEntries.{BookEntry, IsAccepted, IsEarlier, BookIsInOrder}
+use Rattle.request_queue.specs.BookEntries.{BookEntry, IsWellFormedEntry, IsEarlier, BookIsWellFormed}
 use Rattle.request_queue.specs.Dispositions.{BookAndLoans, keeps_loan}
 use Rattle.request_queue.specs.BookRelation.{BookRelation, EntryRelation}
 use Rattle.request_queue.specs.declared.PendingRequest.{PendingRequest}
@@ -50,20 +50,21 @@ pub record AreResolvable (port : Port) (disposition : PendingRequest
     (m : Machine) : Type 0 where
   pub reached : IsReachable m
   pub driver_relation : DriverRelation m k
-  pub book : BookRelation now.book m.book
-  pub lent : (frame : Frame) → m.lent frame ≡ lent_to now.table frame
-  pub book_is_in_order : BookIsInOrder now.book
-  pub requests_are_accepted : All (IsAccepted now.table) now.book
-  pub here : (e : BookEntry) → Contains requests e → Contains now.book e × (e.entry.port ≡ port)
-  pub marked : (e : BookEntry) → Contains requests e → RevokedMarkAgrees m.rows e.entry
-  pub earlier : AllPairs IsEarlier requests
-  pub unserved : (e : BookEntry) → Contains requests e → keeps_frames_lent (disposition e.entry) e.entry ≡ false
-      → HasNoSlot k.uses e.entry.id
+  pub book_relation : BookRelation now.book m.book
+  pub loans_agree : (frame : Frame) → m.lent frame ≡ lent_to now.table frame
+  pub book_is_well_formed : BookIsWellFormed now.book
+  pub entries_are_well_formed : All (IsWellFormedEntry now.table) now.book
+  pub are_in_book_of_port : (e : BookEntry) → Contains requests e → Contains now.book e × (e.request.port ≡ port)
+  pub revoked_marks_agree : (e : BookEntry) → Contains requests e → RevokedMarkAgrees m.rows e.request
+  pub are_in_order : AllPairs IsEarlier requests
+  pub released_have_no_slot : (e : BookEntry) → Contains requests e
+      → keeps_frames_lent (disposition e.request) e.request ≡ false
+      → HasNoSlot k.slot_states e.request.id
 
 -- the request is decided on, and its loan isn't kept
-abbrev pub IsDecidedAndReleased : (PendingRequest → Disposition) → BookEntry → Type 0
-IsDecidedAndReleased disposition e = (disposition e.entry ≢ Wait)
-    × (keeps_frames_lent (disposition e.entry) e.entry ≡ false)
+abbrev pub IsResolvedAndReleased : (PendingRequest → Disposition) → BookEntry → Type 0
+IsResolvedAndReleased disposition e = (disposition e.request ≢ Wait)
+    × (keeps_frames_lent (disposition e.request) e.request ≡ false)
 
 -- They are resolved by steps that decide on requests of the port, after which the machine has the book and the
 -- loans that are left. Those whose loans are kept are kept in the machine beside those that were, and each has one more
@@ -74,23 +75,27 @@ pub record AreResolvedInMachine (port : Port) (disposition : PendingRequest → 
   pub steps : List Step
   pub parked : ℕ → List RequestId
   pub steps_are_enabled : AllEnabled m steps
-  pub own : All (IsResolveStep port) steps
-  pub backed : (d : Device) → IsBacked d d m steps
-  pub driver_relation : DriverRelation (after m steps) (record k { parked = parked })
-  pub others : (q : ℕ) → q ≢ port.0 → parked q ≡ k.parked q
-  pub still : (id : RequestId) → Contains (parked port.0) id → Contains (k.parked port.0) id
-      × ((e : BookEntry) → Contains requests e → IsDecidedAndReleased disposition e → e.entry.id ≢ id)
+  pub steps_are_of_port : All (IsResolveStep port) steps
+  pub backed : (d : Device) → TapeBacksSteps d d m steps
+  pub driver_relation : DriverRelation (after m steps) (record k { awaiting_disposition = parked })
+  pub parked_of_others_is_kept : (q : ℕ) → q ≢ port.0 → parked q ≡ k.awaiting_disposition q
+  pub parked_was_parked_and_not_freed : (id : RequestId) → Contains (parked port.0) id
+      → Contains (k.awaiting_disposition port.0) id
+      × ((e : BookEntry) → Contains requests e → IsResolvedAndReleased disposition e → e.request.id ≢ id)
   pub book : BookRelation new.book (after m steps).book
-  pub lent : (frame : Frame) → (after m steps).lent frame ≡ lent_to new.table frame
-  pub held : List Pending
-  pub kept : (after m steps).kept ≡ held ++ m.kept
-  pub loans : new.kept ≡ old.kept ++ loans_of held
-  pub two : AllPairs DifferInRequest (loans_of held)
-  pub whose : (e : Pending) → Contains held e → (request : BookEntry) × Contains requests request
+  pub loans_agree : (frame : Frame) → (after m steps).lent frame ≡ lent_to new.table frame
+  pub newly_kept : List Pending
+  pub newly_kept_are_kept : (after m steps).kept ≡ newly_kept ++ m.kept
+  pub loans_of_newly_kept : new.kept ≡ old.kept ++ loans_of newly_kept
+  pub loans_differ_in_request : AllPairs DifferInRequest (loans_of newly_kept)
+  pub newly_kept_are_of_requests : (e : Pending) → Contains newly_kept e → (request : BookEntry)
+      × Contains requests request
       × EntryRelation request e
-      × (keeps_frames_lent (disposition request.entry) request.entry ≡ true)
-  pub answered : (e : Pending) (outcome : Outcome) → Contains steps (Answer e outcome) → (request : BookEntry)
-      × Contains requests request × EntryRelation request e × (disposition request.entry ≡ Complete outcome)
-  pub again : (e : Pending) → Contains steps (WaitAgain e) → (request : BookEntry) × Contains requests request
-      × EntryRelation request e × (disposition request.entry ≡ Requeue)
+      × (keeps_frames_lent (disposition request.request) request.request ≡ true)
+  pub answers_are_as_decided : (e : Pending) (outcome : Outcome) → Contains steps (Answer e outcome)
+      → (request : BookEntry)
+      × Contains requests request × EntryRelation request e × (disposition request.request ≡ Complete outcome)
+  pub requeues_are_as_decided : (e : Pending) → Contains steps (WaitAgain e) → (request : BookEntry)
+      × Contains requests request
+      × EntryRelation request e × (disposition request.request ≡ Requeue)
   pub replies_match : RepliesMatch steps replies

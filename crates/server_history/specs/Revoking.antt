@@ -4,7 +4,7 @@ use Rattle.ata_types.specs.declared.request.ClientId.{ClientId}
 use Rattle.ata_types.specs.declared.request.Outcome.TheVariants.{Revoked}
 use Rattle.ata_types.specs.declared.request.Reply.{Reply}
 use Rattle.block_machine.specs.Rules.{HasRow, without_row}
-use Rattle.request_queue.specs.BookEntries.{all_marked_under, waits_under}
+use Rattle.request_queue.specs.BookEntries.{all_revoked_under_grant, waits_under}
 use Rattle.request_queue.specs.Dispositions.{CompletesAllWith}
 use Rattle.server_history.specs.ErrorHandling.{book_and_loans_of}
 use Rattle.server_history.specs.ServerState.{ServerState}
@@ -13,14 +13,14 @@ use Rattle.server_history.specs.ServerState.{ServerState}
 abbrev pub with_grant_revoked : ClientId → ℕ → ServerState → ServerState
 with_grant_revoked client number s = record s {
   grants = without_row client number s.grants;
-  book = all_marked_under client number s.book;
+  book = all_revoked_under_grant client number s.book;
 }
 
 -- A client's grant was revoked: its row was there, and is gone; requests that were accepted under it are marked; and
 -- of these the ones that waited were told Revoked. Nothing else changed.
 pub record RevokesGrant (client : ClientId) (number : ℕ) (replies : List Reply) (old new : ServerState) : Type 0 where
   pub has_grant_row : HasRow client number old.grants
-  pub answers : CompletesAllWith (waits_under client number) Revoked replies
+  pub waiting_are_told_revoked : CompletesAllWith (waits_under client number) Revoked replies
       (book_and_loans_of has_grant_row.0.port (with_grant_revoked client number old))
       (book_and_loans_of has_grant_row.0.port new)
   pub server_is : new ≡ record (with_grant_revoked client number old) { table = new.table; book = new.book }

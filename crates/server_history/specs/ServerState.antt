@@ -14,7 +14,7 @@ use Rattle.adapter.specs.Rules.{IsOn, HasPort}
 use Rattle.refinement.specs.Fragments.{driver_state_of}
 use Rattle.refinement.specs.Driver.{DriverRelation}
 use Rattle.refinement.specs.Halting.{HaltIsOfTaken}
-use Rattle.refinement.specs.Links.{ShowsDiskIfIn}
+use Rattle.refinement.specs.PreservedParts.{ShowsDiskIfIn}
 use Rattle.refinement.specs.ReadySlots.{IsStored}
 use Rattle.refinement.specs.Slots.{Free, Serves, SlotState, SlotStates}
 use Rattle.block_machine.specs.DueRequests.{NoneDue, is_plain}
@@ -26,15 +26,15 @@ use Rattle.block_machine.specs.Rules.{DifferInName, HasRow}
 use Rattle.block_machine.specs.State.{Machine, Pending}
 use Rattle.block_machine.specs.declared.due.QueueMode.{QueueMode}
 use Rattle.dma_frames.specs.Loan.{Lending}
-use Rattle.dma_frames.specs.FrameTables.{FrameOwnership, owner_of, lent_to}
-use Rattle.host_boot.specs.TakeOver.{FoundBadDisk, StillBacksProbeResult, probe_result_of, wanted_of}
+use Rattle.dma_frames.specs.FrameTables.{OwnersAndLoans, owner_of, lent_to}
+use Rattle.host_boot.specs.TakeOver.{FoundUnusableDevice, StillBacksProbeResult, probe_result_of, wanted_of}
 use Rattle.host_boot.specs.declared.ProbeResult.{ProbeResult}
 use Rattle.host_boot.specs.declared.ProbeResult.TheVariants.{Unserved, Ready, Unready}
 use Rattle.host_boot.specs.declared.Host.{Host}
 use Rattle.identify.specs.declared.DiskInfo.{DiskInfo}
 use Rattle.identify.specs.declared.wanted.Wanted.{Wanted}
 use Rattle.port_boot.specs.States.{ShownDiskIsIn}
-use Rattle.request_queue.specs.BookEntries.{BookEntry, unanswered_of, entry_count_of_client, IsAccepted, BookIsInOrder}
+use Rattle.request_queue.specs.BookEntries.{BookEntry, unanswered_of, entry_count_of_client, IsWellFormedEntry, BookIsWellFormed}
 use Rattle.request_queue.specs.BookRelation.{BookRelation}
 use Rattle.slots.specs.SlotUses.{PortSlots, use_at, with_use}
 use Rattle.slots.specs.declared.SlotUse.{SlotUse}
@@ -49,13 +49,13 @@ use Rattle.request_queue.specs.declared.PendingRequest.{PendingRequest}
 pub record ServerState : Type 0 where
   pub device : Device
   pub grants : List GrantRow
-  pub table : FrameOwnership
+  pub table : OwnersAndLoans
   pub wanted : List Wanted
-  pub ports : List ProbeResult
+  pub probe_results : List ProbeResult
   pub remembered : List (Option DiskInfo)
   pub modes : List QueueMode
   pub slots : List PortSlots
-  pub kept : List (List Lending)
+  pub kept_loans : List (List Lending)
   pub book : List BookEntry
   pub last_id : ℕ
 
@@ -92,13 +92,13 @@ last_sectors_of None = 0
 last_sectors_of (Some info) = info.sectors
 
 -- whether its disk trims, which is known of a ready port alone
-abbrev pub trims_of : ProbeResult → Bool
-trims_of (Ready info) = info.trim
-trims_of _ = false
+abbrev pub zeroes_after_trim_of : ProbeResult → Bool
+zeroes_after_trim_of (Ready info) = info.trim
+zeroes_after_trim_of _ = false
 
 -- commands are plain, and one slot of a port is used
 abbrev pub plain_mode : QueueMode
-plain_mode = record { queued = false; usable = 1 }
+plain_mode = record { queued = false; usable_slots = 1 }
 
 -- how the port takes commands; one that there isn't takes plain ones
 abbrev pub mode_at : List QueueMode → ℕ → QueueMode
@@ -116,15 +116,15 @@ mode_in s port = mode_at s.modes port.0
 
 -- the disk that the port is ready with, or was last ready with
 abbrev pub last_disk_in : ServerState → Port → Option DiskInfo
-last_disk_in s port = last_disk_of (probe_result_of s.ports port.0) (remembered_at s.remembered port.0)
+last_disk_in s port = last_disk_of (probe_result_of s.probe_results port.0) (remembered_at s.remembered port.0)
 
 abbrev pub ports_of : ServerState → Ports
 ports_of s = record {
-  served = λ port. is_served (probe_result_of s.ports port.0);
-  state = λ port. state_of (probe_result_of s.ports port.0);
+  served = λ port. is_served (probe_result_of s.probe_results port.0);
+  state = λ port. state_of (probe_result_of s.probe_results port.0);
   serial = λ port. last_serial_of (last_disk_in s port);
   sectors = λ port. last_sectors_of (last_disk_in s port);
-  trims = λ port. trims_of (probe_result_of s.ports port.0);
+  zeroes_after_trim = λ port. zeroes_after_trim_of (probe_result_of s.probe_results port.0);
   mode = mode_in s;
 }
 
@@ -136,8 +136,8 @@ admission_context s = record {
   lent = lent_to s.table;
   state = (ports_of s).state;
   sectors = (ports_of s).sectors;
-  trims = (ports_of s).trims;
-  unanswered = λ client. entry_count_of_client s.book client.0;
+  zeroes_after_trim = (ports_of s).zeroes_after_trim;
+  unanswered_count = λ client. entry_count_of_client s.book client.0;
   next_id = s.last_id + 1;
 }
 
@@ -145,7 +145,7 @@ admission_context s = record {
 
 -- a port that there isn't has no slot
 abbrev pub no_slots : PortSlots
-no_slots = record { usable = 0; places = [] }
+no_slots = record { usable_count = 0; slot_uses = [] }
 
 -- the slots of the port
 abbrev pub slots_at : List PortSlots → ℕ → PortSlots
@@ -166,13 +166,13 @@ slot_state_of (Some used) = Serves used.id
 
 -- A slot is used as the server has it, unless its port is dead: there an engine was awaited in vain, or the adapter
 -- isn't on, so that what was in the slot may be there still, and nobody asks for it until the adapter is reset.
-abbrev pub IsUsedAs : ProbeResult → Option SlotUse → SlotState → Type 0
-IsUsedAs found used u = found ≢ Unready Dead → u ≡ slot_state_of used
+abbrev pub SlotUseAgreesUnlessDead : ProbeResult → Option SlotUse → SlotState → Type 0
+SlotUseAgreesUnlessDead found used u = found ≢ Unready Dead → u ≡ slot_state_of used
 
 -- each slot of each port is used so
-abbrev pub AreUsesOf : ServerState → SlotStates → Type 0
-AreUsesOf s uses = (port slot : ℕ)
-    → IsUsedAs (probe_result_of s.ports port) (used_for s.slots port slot) (uses port slot)
+abbrev pub SlotUsesAgreeUnlessDead : ServerState → SlotStates → Type 0
+SlotUsesAgreeUnlessDead s uses = (port slot : ℕ)
+    → SlotUseAgreesUnlessDead (probe_result_of s.probe_results port) (used_for s.slots port slot) (uses port slot)
 
 -- the loans of the port that are kept
 abbrev pub quarantined_at : List (List Lending) → ℕ → List Lending
@@ -189,39 +189,41 @@ DifferInRequest a b = a.request ≢ b.request
 -- The machine's kept requests are those whose loans the server keeps, one loan each, on dead ports alone.
 pub record QuarantineRelation (found : List ProbeResult) (kept : List (List Lending))
     (requests : List Pending) : Type 0 where
-  pub dead : (e : Pending) → Contains requests e → probe_result_of found e.request.port.0 ≡ Unready Dead
-  pub loan : (e : Pending) → Contains requests e → (loan : Lending)
+  pub quarantine_ports_are_dead : (e : Pending) → Contains requests e → probe_result_of found e.request.port.0
+      ≡ Unready Dead
+  pub each_request_has_its_loan : (e : Pending) → Contains requests e → (loan : Lending)
       × Contains (quarantined_at kept e.request.port.0) loan
       × IsLoanOf loan e
-  pub whose : (port : ℕ) (loan : Lending) → Contains (quarantined_at kept port) loan
+  pub each_loan_has_its_request : (port : ℕ) (loan : Lending) → Contains (quarantined_at kept port) loan
       → (e : Pending) × Contains requests e × (e.request.port.0 ≡ port) × IsLoanOf loan e
-  pub apart : (port : ℕ) → AllPairs DifferInRequest (quarantined_at kept port)
+  pub loans_differ_in_request : (port : ℕ) → AllPairs DifferInRequest (quarantined_at kept port)
 
 -- The machine agrees with what the server knows of its device, where only a dead port's requests may have been taken
 -- from their slots; and it has the server's book, the requests whose loans it keeps, its grants, its owners, its loans
 -- and its next id.
 pub record MachineRelation (s : ServerState) (m : Machine) : Type 0 where
   pub uses : SlotStates
-  pub are_uses_of : AreUsesOf s uses
-  pub parked : ℕ → List RequestId
-  pub unparked : (port : ℕ) → probe_result_of s.ports port ≢ Unready Dead → parked port ≡ []
-  pub driver_relation : DriverRelation m (driver_state_of uses parked s.device)
+  pub are_uses_of : SlotUsesAgreeUnlessDead s uses
+  pub awaiting_disposition : ℕ → List RequestId
+  pub only_dead_ports_park : (port : ℕ) → probe_result_of s.probe_results port ≢ Unready Dead
+      → awaiting_disposition port ≡ []
+  pub driver_relation : DriverRelation m (driver_state_of uses awaiting_disposition s.device)
   pub book : BookRelation s.book m.book
-  pub quarantine_relation : QuarantineRelation s.ports s.kept m.kept
+  pub quarantine_relation : QuarantineRelation s.probe_results s.kept_loans m.kept
   pub rows : m.rows ≡ s.grants
   pub owner : (frame : Frame) → m.owner frame ≡ owner_of s.table frame
   pub lent : (frame : Frame) → m.lent frame ≡ lent_to s.table frame
-  pub next : m.next_id ≡ s.last_id + 1
+  pub next_id_is : m.next_id ≡ s.last_id + 1
 
 -- ---- what holds of a server between calls
 
 -- the loan's frames are lent to its request
-abbrev pub IsLentOut : FrameOwnership → Lending → Type 0
+abbrev pub IsLentOut : OwnersAndLoans → Lending → Type 0
 IsLentOut table loan = All (λ f. lent_to table f ≡ Some loan.request) loan.frames
 
 -- frames that have an owner are clients' frames of the memory
-abbrev pub OwnedFramesAreClients : FrameOwnership → ℕ → Type 0
-OwnedFramesAreClients table size = (frame : Frame) (client : ClientId) → owner_of table frame ≡ Some client
+abbrev pub OwnedFramesAreInMemory : OwnersAndLoans → ℕ → Type 0
+OwnedFramesAreInMemory table size = (frame : Frame) (client : ClientId) → owner_of table frame ≡ Some client
     → (DRIVER_FRAMES ≤ frame.0) × (FRAME_BYTES * frame.0 + FRAME_BYTES ≤ size)
 
 -- What stands behind each port, as it was found; a ready one runs, has a disk in if it shows one, and doesn't wait for
@@ -229,22 +231,23 @@ OwnedFramesAreClients table size = (frame : Frame) (client : ClientId) → owner
 -- a device, or has none in.
 pub record PortInvariant (wanted : List Wanted) (found : List ProbeResult) (port : ℕ) (d : Device) : Type 0 where
   pub probe_result_is_backed : StillBacksProbeResult (wanted_of wanted port) (probe_result_of found port) port d
-  pub engine_runs : state_of (probe_result_of found port) ≡ ReadyState → EngineRuns port d
-  pub shows_disk_if_in : FoundBadDisk (state_of (probe_result_of found port)) → ShowsDiskIfIn (d.port port)
-  pub has_disk_if_shown : state_of (probe_result_of found port) ≡ ReadyState → ShownDiskIsIn (d.port port)
-  pub halt_is_of_taken : state_of (probe_result_of found port) ≡ ReadyState → HaltIsOfTaken (d.port port)
+  pub ready_engine_runs : state_of (probe_result_of found port) ≡ ReadyState → EngineRuns port d
+  pub bad_disk_is_shown_if_in : FoundUnusableDevice (state_of (probe_result_of found port))
+      → ShowsDiskIfIn (d.port port)
+  pub ready_has_disk_if_shown : state_of (probe_result_of found port) ≡ ReadyState → ShownDiskIsIn (d.port port)
+  pub queued_halt_has_taken_command : state_of (probe_result_of found port) ≡ ReadyState → HaltIsOfTaken (d.port port)
 
 -- how many slots of a port may be used: those of its mode, if it is ready
 abbrev pub usable_slots_of : ProbeResult → QueueMode → ℕ
-usable_slots_of (Ready info) mode = mode.usable
+usable_slots_of (Ready info) mode = mode.usable_slots
 usable_slots_of _ mode = 0
 
 -- The port may use so many of its 32 slots, and uses no other.
 pub record SlotsInvariant (found : List ProbeResult) (modes : List QueueMode) (slots : List PortSlots)
     (port : ℕ) : Type 0 where
-  pub places : length (slots_at slots port).places ≡ 32
-  pub usable : (slots_at slots port).usable ≡ (mode_at modes port).usable
-  pub unused : (slot : ℕ) → usable_slots_of (probe_result_of found port) (mode_at modes port) ≤ slot
+  pub has_32_slots : length (slots_at slots port).slot_uses ≡ 32
+  pub usable_count_is_of_mode : (slots_at slots port).usable_count ≡ (mode_at modes port).usable_slots
+  pub unusable_are_unused : (slot : ℕ) → usable_slots_of (probe_result_of found port) (mode_at modes port) ≤ slot
       → used_for slots port slot ≡ None
 
 -- header and table of a slot of a port that runs say a command that is queued, or one that isn't
@@ -252,11 +255,11 @@ pub record HasStoredCommand (queued : Bool) (d : Device) (port slot : ℕ) : Typ
   pub command : Meaning
   pub places : List ℕ
   pub stored : IsStored d port slot command places
-  pub kind : is_queued command.operation ≡ queued
+  pub is_queued_as_given : is_queued command.operation ≡ queued
 
 -- the slot is slot 0, and no other one of the port is used
-abbrev pub StandsAlone : List PortSlots → ℕ → ℕ → Type 0
-StandsAlone slots port slot = (slot ≡ 0) × ((other : ℕ) → other ≢ 0 → used_for slots port other ≡ None)
+abbrev pub IsLoneSlot0 : List PortSlots → ℕ → ℕ → Type 0
+IsLoneSlot0 slots port slot = (slot ≡ 0) × ((other : ℕ) → other ≢ 0 → used_for slots port other ≡ None)
 
 -- a request has no mark just while its grant is there
 abbrev pub RevokedMarkAgrees : List GrantRow → PendingRequest → Type 0
@@ -264,8 +267,8 @@ RevokedMarkAgrees rows r = (r.revoked ≡ false) ↔ HasRow r.client r.grant row
 
 -- so it is of each, and one that waits has none
 pub record RevokedMarkInvariant (rows : List GrantRow) (e : BookEntry) : Type 0 where
-  pub tells : RevokedMarkAgrees rows e.entry
-  pub waiting : e.entry.issued ≡ false → e.entry.revoked ≡ false
+  pub revoked_mark_agrees : RevokedMarkAgrees rows e.request
+  pub waiting_is_unmarked : e.request.issued ≡ false → e.request.revoked ≡ false
 
 -- What holds of a server at each moment of a call. The adapter is on and has the memory of the driver and of the
 -- clients, and each port that is served; each port is as it was found, and runs if that was ready; of each of the four
@@ -275,31 +278,33 @@ pub record RevokedMarkInvariant (rows : List GrantRow) (e : BookEntry) : Type 0 
 -- of ready ports; and some machine that a history leads to stands for the server.
 pub record InCallInvariant (s : ServerState) : Type 0 where
   pub adapter_is_on : IsOn s.device
-  pub driver_memory_fits : DRIVER_BYTES ≤ s.device.size
-  pub served_ports_exist : (port : ℕ) → is_served (probe_result_of s.ports port) ≡ true → HasPort s.device port
-  pub port_invariant : (port : ℕ) → port < 4 → PortInvariant s.wanted s.ports port s.device
-  pub four_slots : length s.slots ≡ 4
-  pub four_modes : length s.modes ≡ 4
-  pub four_remembered : length s.remembered ≡ 4
-  pub four_kept : length s.kept ≡ 4
-  pub few_kept : (port : ℕ) → length (quarantined_at s.kept port) ≤ 32
-  pub modes : (port : ℕ) → port < 4 → mode_at s.modes port ≡ probed_mode s.device.cap (probe_result_of s.ports port)
-  pub slots : (port : ℕ) → port < 4 → SlotsInvariant s.ports s.modes s.slots port
+  pub driver_memory_fits : DRIVER_BYTES ≤ s.device.memory_size
+  pub served_ports_exist : (port : ℕ) → is_served (probe_result_of s.probe_results port) ≡ true → HasPort s.device port
+  pub port_invariant : (port : ℕ) → port < 4 → PortInvariant s.wanted s.probe_results port s.device
+  pub slots_are_of_four_ports : length s.slots ≡ 4
+  pub modes_are_of_four_ports : length s.modes ≡ 4
+  pub remembered_is_of_four_ports : length s.remembered ≡ 4
+  pub kept_loans_are_of_four_ports : length s.kept_loans ≡ 4
+  pub at_most_32_loans_kept_by_port : (port : ℕ) → length (quarantined_at s.kept_loans port) ≤ 32
+  pub modes_are_probed : (port : ℕ) → port < 4
+      → mode_at s.modes port ≡ probed_mode s.device.cap (probe_result_of s.probe_results port)
+  pub slots_invariant : (port : ℕ) → port < 4 → SlotsInvariant s.probe_results s.modes s.slots port
   pub slots_queue_as_asked : (port : Port) (slot : ℕ) (used : SlotUse) (e : BookEntry) → used_for s.slots port.0 slot
       ≡ Some used
-      → Contains s.book e → e.entry.id ≡ used.id → used.queued ≡ not (is_plain (mode_in s port) e.entry.op)
+      → Contains s.book e → e.request.id ≡ used.id → used.queued ≡ not (is_plain (mode_in s port) e.request.op)
   pub slots_store_commands : (port slot : ℕ) (used : SlotUse) → used_for s.slots port slot ≡ Some used
       → HasStoredCommand used.queued s.device port slot
   pub plain_stands_alone : (port slot : ℕ) (used : SlotUse) → used_for s.slots port slot ≡ Some used → used.queued
       ≡ false
-      → StandsAlone s.slots port slot
+      → IsLoneSlot0 s.slots port slot
   pub rows_are_valid : All IsValidRow s.grants
-  pub owned_frames_are_clients : OwnedFramesAreClients s.table s.device.size
-  pub requests_are_accepted : All (IsAccepted s.table) s.book
-  pub book_is_in_order : BookIsInOrder s.book
+  pub owned_frames_are_clients : OwnedFramesAreInMemory s.table s.device.memory_size
+  pub entries_are_well_formed : All (IsWellFormedEntry s.table) s.book
+  pub book_is_well_formed : BookIsWellFormed s.book
   pub revoked_marks_agree : All (RevokedMarkInvariant s.grants) s.book
-  pub ids_were_handed_out : All (λ e. e.entry.id.0 ≤ s.last_id) s.book
-  pub requests_are_of_ready_ports : All (λ e. state_of (probe_result_of s.ports e.entry.port.0) ≡ ReadyState) s.book
+  pub ids_were_handed_out : All (λ e. e.request.id.0 ≤ s.last_id) s.book
+  pub requests_are_of_ready_ports : All (λ e. state_of (probe_result_of s.probe_results e.request.port.0) ≡ ReadyState)
+      s.book
   pub machine : Machine
   pub reached : IsReachable machine
   pub machine_relation : MachineRelation s machine
@@ -313,25 +318,27 @@ pub record SettledInvariant (s : ServerState) : Type 0 where
 -- grants that differ in name, owners that are clients 1 to 8, no frame lent, nothing asked or kept, and no id handed
 -- out.
 pub record IsNewServer (host : Host) (s : ServerState) : Type 0 where
-  pub ports : s.ports ≡ host.ports
-  pub four : length host.ports ≡ 4
-  pub four_remembered : length s.remembered ≡ 4
-  pub forgotten : (port : ℕ) → remembered_at s.remembered port ≡ None
-  pub four_kept : length s.kept ≡ 4
-  pub unkept : (port : ℕ) → quarantined_at s.kept port ≡ []
+  pub probe_results_are_of_host : s.probe_results ≡ host.ports
+  pub host_has_four_ports : length host.ports ≡ 4
+  pub remembered_is_of_four_ports : length s.remembered ≡ 4
+  pub no_disk_is_remembered : (port : ℕ) → remembered_at s.remembered port ≡ None
+  pub kept_loans_are_of_four_ports : length s.kept_loans ≡ 4
+  pub no_loan_is_kept : (port : ℕ) → quarantined_at s.kept_loans port ≡ []
   pub rows_are_valid : All IsValidRow s.grants
-  pub names : AllPairs DifferInName s.grants
-  pub few : length s.grants ≤ 64
-  pub owned_frames_are_clients : OwnedFramesAreClients s.table s.device.size
-  pub clients : (frame : Frame) (client : ClientId) → owner_of s.table frame ≡ Some client → (1 ≤ client.0)
+  pub grants_differ_in_name : AllPairs DifferInName s.grants
+  pub at_most_64_grants : length s.grants ≤ 64
+  pub owned_frames_are_clients : OwnedFramesAreInMemory s.table s.device.memory_size
+  pub owners_are_clients : (frame : Frame) (client : ClientId) → owner_of s.table frame ≡ Some client → (1 ≤ client.0)
       × (client.0 ≤ 8) × (frame.0 < MOST_FRAMES)
-  pub driver_memory_fits : DRIVER_BYTES ≤ s.device.size
-  pub lent : (frame : Frame) → lent_to s.table frame ≡ None
-  pub four_slots : length s.slots ≡ 4
-  pub four_modes : length s.modes ≡ 4
-  pub places : (port : ℕ) → port < 4 → length (slots_at s.slots port).places ≡ 32
-  pub modes : (port : ℕ) → port < 4 → mode_at s.modes port ≡ probed_mode s.device.cap (probe_result_of s.ports port)
-  pub usable : (port : ℕ) → port < 4 → (slots_at s.slots port).usable ≡ (mode_at s.modes port).usable
-  pub unused : (port slot : ℕ) → used_for s.slots port slot ≡ None
-  pub book : s.book ≡ []
-  pub last_id : s.last_id ≡ 0
+  pub driver_memory_fits : DRIVER_BYTES ≤ s.device.memory_size
+  pub no_frame_is_lent : (frame : Frame) → lent_to s.table frame ≡ None
+  pub slots_are_of_four_ports : length s.slots ≡ 4
+  pub modes_are_of_four_ports : length s.modes ≡ 4
+  pub has_32_slots : (port : ℕ) → port < 4 → length (slots_at s.slots port).slot_uses ≡ 32
+  pub modes_are_probed : (port : ℕ) → port < 4
+      → mode_at s.modes port ≡ probed_mode s.device.cap (probe_result_of s.probe_results port)
+  pub usable_count_is_of_mode : (port : ℕ) → port < 4
+      → (slots_at s.slots port).usable_count ≡ (mode_at s.modes port).usable_slots
+  pub no_slot_is_used : (port slot : ℕ) → used_for s.slots port slot ≡ None
+  pub book_is_empty : s.book ≡ []
+  pub no_id_was_handed_out : s.last_id ≡ 0

@@ -14,9 +14,9 @@ use Rattle.host_boot.specs.Resets.{ResetStaysPending}
 use Rattle.host_boot.specs.TakeOver.{IsServed, probe_result_of, wanted_of}
 use Rattle.host_boot.specs.declared.ProbeResult.{ProbeResult}
 use Rattle.host_boot.specs.declared.ProbeResult.TheVariants.{Unserved, Unready}
-use Rattle.request_queue.specs.BookEntries.{BookEntry, IsAccepted, BookIsInOrder}
+use Rattle.request_queue.specs.BookEntries.{BookEntry, IsWellFormedEntry, BookIsWellFormed}
 use Rattle.server_history.specs.ErrorHandling.{requests_of}
-use Rattle.server_history.specs.ServerState.{ServerState, MachineRelation, RevokedMarkInvariant, OwnedFramesAreClients, last_disk_in, is_served, quarantined_at, mode_at, plain_mode, remembered_at, slots_at, used_for}
+use Rattle.server_history.specs.ServerState.{ServerState, MachineRelation, RevokedMarkInvariant, OwnedFramesAreInMemory, last_disk_in, is_served, quarantined_at, mode_at, plain_mode, remembered_at, slots_at, used_for}
 
 -- What holds of a server whether or not its adapter is on. The adapter has the memory of the driver and of the clients.
 -- Ports are served in which a disk is wanted, and which the adapter has; another one is idle, has no slot that is used,
@@ -25,33 +25,37 @@ use Rattle.server_history.specs.ServerState.{ServerState, MachineRelation, Revok
 -- are as they were accepted, in order, with marks that tell of their grants, of served ports, and by ids that were
 -- handed out; and some machine that a history leads to stands for the server.
 pub record ServerInvariant (s : ServerState) : Type 0 where
-  pub driver_memory_fits : DRIVER_BYTES ≤ s.device.size
-  pub served : (port : ℕ) → port < 4 → (is_served (probe_result_of s.ports port) ≡ true)
+  pub driver_memory_fits : DRIVER_BYTES ≤ s.device.memory_size
+  pub served_iff_wanted_and_there : (port : ℕ) → port < 4 → (is_served (probe_result_of s.probe_results port) ≡ true)
       ↔ IsServed (wanted_of s.wanted port) port s.device
-  pub few_are_served : (port : ℕ) → is_served (probe_result_of s.ports port) ≡ true → port < 4
-  pub unserved_are_idle : (port : ℕ) → port < 4 → probe_result_of s.ports port ≡ Unserved
+  pub served_are_below_4 : (port : ℕ) → is_served (probe_result_of s.probe_results port) ≡ true → port < 4
+  pub unserved_are_idle : (port : ℕ) → port < 4 → probe_result_of s.probe_results port ≡ Unserved
       → IsIdlePort (s.device.port port)
-  pub unused : (port slot : ℕ) → probe_result_of s.ports port ≡ Unserved → used_for s.slots port slot ≡ None
-  pub four_slots : length s.slots ≡ 4
-  pub four_modes : length s.modes ≡ 4
-  pub four_remembered : length s.remembered ≡ 4
-  pub four_kept : length s.kept ≡ 4
-  pub places : (port : Port) → length (quarantined_at s.kept port.0) + count_by (λ (e : BookEntry). e.entry.issued)
+  pub unserved_use_no_slot : (port slot : ℕ) → probe_result_of s.probe_results port ≡ Unserved
+      → used_for s.slots port slot ≡ None
+  pub slots_are_of_four_ports : length s.slots ≡ 4
+  pub modes_are_of_four_ports : length s.modes ≡ 4
+  pub remembered_is_of_four_ports : length s.remembered ≡ 4
+  pub kept_loans_are_of_four_ports : length s.kept_loans ≡ 4
+  pub kept_loans_have_room : (port : Port)
+      → length (quarantined_at s.kept_loans port.0) + count_by (λ (e : BookEntry). e.request.issued)
       (requests_of port s.book) ≤ 32
   pub rows_are_valid : All IsValidRow s.grants
-  pub owned_frames_are_clients : OwnedFramesAreClients s.table s.device.size
-  pub requests_are_accepted : All (IsAccepted s.table) s.book
-  pub book_is_in_order : BookIsInOrder s.book
+  pub owned_frames_are_clients : OwnedFramesAreInMemory s.table s.device.memory_size
+  pub entries_are_well_formed : All (IsWellFormedEntry s.table) s.book
+  pub book_is_well_formed : BookIsWellFormed s.book
   pub revoked_marks_agree : All (RevokedMarkInvariant s.grants) s.book
-  pub ids_were_handed_out : All (λ e. e.entry.id.0 ≤ s.last_id) s.book
-  pub requests_are_of_served_ports : All (λ e. is_served (probe_result_of s.ports e.entry.port.0) ≡ true) s.book
+  pub ids_were_handed_out : All (λ e. e.request.id.0 ≤ s.last_id) s.book
+  pub requests_are_of_served_ports : All (λ e. is_served (probe_result_of s.probe_results e.request.port.0) ≡ true)
+      s.book
   pub machine : Machine
   pub reached : IsReachable machine
   pub machine_relation : MachineRelation s machine
 
 -- each port that is served is dead
-abbrev pub AreDead : List ProbeResult → Type 0
-AreDead found = (port : ℕ) → is_served (probe_result_of found port) ≡ true → probe_result_of found port ≡ Unready Dead
+abbrev pub ServedPortsAreDead : List ProbeResult → Type 0
+ServedPortsAreDead found = (port : ℕ) → is_served (probe_result_of found port) ≡ true
+    → probe_result_of found port ≡ Unready Dead
 
 -- What holds of a server between calls since a reset that got stuck: the adapter isn't on (HR is still one, or AE fell
 -- when the reset ended unseen), and each port that is served is dead. Requests from before that reset may wait for the
@@ -59,7 +63,7 @@ AreDead found = (port : ℕ) → is_served (probe_result_of found port) ≡ true
 pub record StuckInvariant (s : ServerState) : Type 0 where
   pub server_invariant : ServerInvariant s
   pub adapter_is_not_on : IsOn s.device → ⊥
-  pub served_ports_are_dead : AreDead s.ports
+  pub served_ports_are_dead : ServedPortsAreDead s.probe_results
 
 -- the port as it is after that: dead, if it is served
 abbrev pub found_after_stuck_reset : ProbeResult → ProbeResult
@@ -69,19 +73,21 @@ found_after_stuck_reset _ = Unready Dead
 -- A reset got stuck: each served port is dead, its last disk is remembered, it takes plain commands and uses no slot.
 -- No request is answered and no frame given back.
 pub record ResetGetsStuck (old new : ServerState) : Type 0 where
-  pub stays : ResetStaysPending old.device new.device
-  pub found : (port : ℕ) → probe_result_of new.ports port ≡ found_after_stuck_reset (probe_result_of old.ports port)
-  pub remembered : (port : ℕ) → remembered_at new.remembered port ≡ last_disk_in old (port_at port)
-  pub four : length new.remembered ≡ 4
-  pub four_modes : length new.modes ≡ 4
-  pub modes : (port : ℕ) → port < 4 → mode_at new.modes port ≡ plain_mode
-  pub four_slots : length new.slots ≡ 4
-  pub places : (port : ℕ) → port < 4 → length (slots_at new.slots port).places ≡ 32
-  pub usable : (port : ℕ) → port < 4 → (slots_at new.slots port).usable ≡ (mode_at new.modes port).usable
-  pub unused : (port slot : ℕ) → used_for new.slots port slot ≡ None
+  pub reset_stays_pending : ResetStaysPending old.device new.device
+  pub served_ports_become_dead : (port : ℕ) → probe_result_of new.probe_results port
+      ≡ found_after_stuck_reset (probe_result_of old.probe_results port)
+  pub last_disks_are_remembered : (port : ℕ) → remembered_at new.remembered port ≡ last_disk_in old (port_at port)
+  pub remembered_is_of_four_ports : length new.remembered ≡ 4
+  pub modes_are_of_four_ports : length new.modes ≡ 4
+  pub modes_are_plain : (port : ℕ) → port < 4 → mode_at new.modes port ≡ plain_mode
+  pub slots_are_of_four_ports : length new.slots ≡ 4
+  pub has_32_slots : (port : ℕ) → port < 4 → length (slots_at new.slots port).slot_uses ≡ 32
+  pub usable_count_is_of_mode : (port : ℕ) → port < 4 → (slots_at new.slots port).usable_count
+      ≡ (mode_at new.modes port).usable_slots
+  pub no_slot_is_used : (port slot : ℕ) → used_for new.slots port slot ≡ None
   pub server_is : new ≡ record old {
     device = new.device;
-    ports = new.ports;
+    probe_results = new.probe_results;
     remembered = new.remembered;
     modes = new.modes;
     slots = new.slots;

@@ -11,30 +11,30 @@ use Rattle.adapter.specs.declared.command.Operation.TheVariants.{ReadLog}
 use Rattle.adapter.specs.declared.tape.Fault as tape_fault
 use Rattle.refinement.specs.Relation.{port_at}
 use Rattle.refinement.specs.Fragments.{SparesOtherPorts, GainsNoMove}
-use Rattle.refinement.specs.Driver.{IsBacked}
-use Rattle.block_machine.specs.Events.{AbstractCall, AllAnswersLawful, AllEnabled, AnswersEnded, AreStepsOfCall, UnpluggedLostDisk, ShownDiskWasInOrCame, IsByDevice, IssuesLast, AbstractState, NoneStaysIssued, Served, Service, RepliesMatch, Tick, AnswersAllUnplugged}
+use Rattle.refinement.specs.Driver.{TapeBacksSteps}
+use Rattle.block_machine.specs.Events.{AbstractCall, AnswersAndWaitsLawful, AllEnabled, AnswersEnded, AreStepsOfCall, UnpluggedLostDisk, ShownDiskWasInOrCame, IsByDevice, IssueIsLastOfRequest, AbstractState, NoneStaysIssued, Replied, Service, RepliesMatch, Tick, UnpluggedEmptiesPort}
 use Rattle.block_machine.specs.DueRequests.{requests_of_port}
 use Rattle.block_machine.specs.Histories.{JointEvent, JointState, IsReachable}
 use Rattle.block_machine.specs.Expected.{after}
-use Rattle.block_machine.specs.Ports.{Evidence, RequestFault, IsStoppedOrStuck, IsServiced, Ports, SameDisk, SamePort}
+use Rattle.block_machine.specs.Ports.{Evidence, RequestFault, IsStoppedOrStuck, IsServiced, Ports, SameSerialAndSize, SamePort}
 use Rattle.block_machine.specs.State.{Machine, Pending}
 use Rattle.block_machine.specs.Steps.{Step, WaitAgain, Answer, Issue}
-use Rattle.driver_history.specs.EvidenceHandling.{OnlyFailedPortsRequeue}
+use Rattle.driver_history.specs.EvidenceHandling.{OnlyFailedPortsRequeueOrFault}
 use Rattle.driver_history.specs.Evidence.{IsEvidencedOf}
 use Rattle.error_recovery.specs.Evidence.{BringsLog, HasFailed}
-use Rattle.identify.specs.Log.{TellsError}
+use Rattle.identify.specs.ErrorLog.{NamesQueuedCommand}
 use Rattle.driver_history.specs.Histories.{FindsDone, IsIssuedOn, IssuesDue, LosesNoPortError, RunsWellAnew, PortCorresponds}
 use Rattle.driver_history.specs.PortInvariants.{HasNoUnanswered}
-use Rattle.driver_history.specs.AccessTrace.{IsDriversOwn, ResetsLink}
+use Rattle.driver_history.specs.AccessTrace.{StaysInDriverFrames, ResetsLink}
 use Rattle.driver_history.specs.PortTurn.{EndsNoLinkDue}
 use Rattle.host_boot.specs.TakeOver.{probe_result_of}
 use Rattle.host_boot.specs.declared.ProbeResult.{ProbeResult}
 use Rattle.host_boot.specs.declared.ProbeResult.TheVariants.{Ready, Unready, Unserved}
-use Rattle.request_queue.specs.BookEntries.{BookEntry, IsOverdue, aged_entries, unanswered_of}
+use Rattle.request_queue.specs.BookEntries.{BookEntry, HasOverdueOn, aged_entries, unanswered_of}
 use Rattle.port_control.specs.declared.events.PortError.TheVariants.{TimedOut}
 use Rattle.server_history.specs.ErrorHandling.{HandlesPortError}
 use Rattle.server_history.specs.Probing.{ProbesPort}
-use Rattle.server_history.specs.IssuingAndAnswering.{TurnAnswers, HasTurnWithoutError}
+use Rattle.server_history.specs.IssuingAndAnswering.{TurnAnswers, PollsInTurnWithoutEvent}
 use Rattle.server_history.specs.ServerState.{ServerState, MachineRelation, SettledInvariant, mode_at, mode_in, ports_of, remembered_at, slots_at, state_of, used_for}
 use Rattle.slots.specs.declared.SlotUse.{SlotUse}
 
@@ -46,22 +46,22 @@ abbrev pub joint_state_of : ServerState → Machine → JointState Device
 joint_state_of s m = record { device = s.device; abstract = abstract_state_of s m }
 
 -- the step is the device's own, or the server's with a request of such a port
-abbrev pub IsStepOf : (Port → Type 0) → Step → Type 0
-IsStepOf Such (Issue mode e) = Such e.request.port
-IsStepOf Such (WaitAgain e) = Such e.request.port
-IsStepOf Such (Answer e outcome) = Such e.request.port
-IsStepOf Such step = IsByDevice step
+abbrev pub IsByDeviceOrOnSuchPort : (Port → Type 0) → Step → Type 0
+IsByDeviceOrOnSuchPort Such (Issue mode e) = Such e.request.port
+IsByDeviceOrOnSuchPort Such (WaitAgain e) = Such e.request.port
+IsByDeviceOrOnSuchPort Such (Answer e outcome) = Such e.request.port
+IsByDeviceOrOnSuchPort Such step = IsByDevice step
 
 -- of this port
-abbrev pub IsOfTurn : Port → Step → Type 0
-IsOfTurn port step = IsStepOf (λ q. q ≡ port) step
+abbrev pub IsTurnOrDeviceStep : Port → Step → Type 0
+IsTurnOrDeviceStep port step = IsByDeviceOrOnSuchPort (λ q. q ≡ port) step
 
 -- the evidence names this port and no other
-pub record NamesOnly (port : Port) (evidence : Evidence) : Type 0 where
+pub record PortListsNameOnly (port : Port) (evidence : Evidence) : Type 0 where
   pub lost : All (λ q. q ≡ port) evidence.lost
   pub link_changed : All (λ q. q ≡ port) evidence.link_changed
-  pub failed : All (λ q. q ≡ port) evidence.failed
-  pub fatal : All (λ q. q ≡ port) evidence.fatal
+  pub showing_error : All (λ q. q ≡ port) evidence.showing_error
+  pub showing_fatal_error : All (λ q. q ≡ port) evidence.showing_fatal_error
   pub stopped : All (λ q. q ≡ port) evidence.stopped
   pub stuck : All (λ q. q ≡ port) evidence.stuck
 
@@ -74,40 +74,40 @@ IsFaultOfCommand false port accesses old new slot told =
     × (fault.status ≡ told.status) × (fault.error ≡ told.error)
 IsFaultOfCommand true port accesses old new slot told =
     ((fault : tape_fault.Fault) × HasFailed port accesses old new fault)
-    × ((page : List ℕ) × BringsLog port old new page × TellsError page slot told.status told.error)
+    × ((page : List ℕ) × BringsLog port old new page × NamesQueuedCommand page slot told.status told.error)
 
 -- The fault that is told is of a request that had a slot of the port when the turn began. (Where the log's page told
 -- it, the port doesn't end dead.)
-pub record TellsFault (port : Port) (accesses : List Access) (old new : ServerState)
+pub record IsFaultOfUsedSlot (port : Port) (accesses : List Access) (old new : ServerState)
     (told : RequestFault) : Type 0 where
   pub slot : ℕ
   pub used : SlotUse
   pub slot_use_is : used_for old.slots port.0 slot ≡ Some used
   pub id_is : used.id ≡ told.id
   pub is_fault_of_command : IsFaultOfCommand used.queued port accesses old.device new.device slot told
-  pub port_is_not_dead : used.queued ≡ true → state_of (probe_result_of new.ports port.0) ≢ Dead
+  pub port_is_not_dead : used.queued ≡ true → state_of (probe_result_of new.probe_results port.0) ≢ Dead
 
 -- ---- a turn
 
 -- A port's turn: in a service a ready port is served, and another one probed; in a tick a ready one is restarted, or
 -- rests.
 pub data Turn : Type 0 where
-  InService InProbe InRestart AtRest : Turn
+  ServingReady InProbe InRestart RestingInTick : Turn
 
 -- the call that the turn is a part of
 abbrev pub ask_of_turn : Turn → AbstractCall DeviceStep
-ask_of_turn InService = Service
+ask_of_turn ServingReady = Service
 ask_of_turn InProbe = Service
 ask_of_turn InRestart = Tick
-ask_of_turn AtRest = Tick
+ask_of_turn RestingInTick = Tick
 
 -- a turn, as though it were a call of its own
 abbrev pub joint_event_of_turn : Turn → List Reply → ServerState → Evidence → List Step → JointEvent Device DeviceStep
 joint_event_of_turn turn replies new evidence steps = record {
   event =
       record {
-        ask = ask_of_turn turn;
-        said = Served replies;
+        call = ask_of_turn turn;
+        result = Replied replies;
         evidence = evidence;
         steps = steps;
         ports = ports_of new;
@@ -126,22 +126,23 @@ pub record HandlesShownErrors (port : Port) (accesses : List Access) (old : Join
 -- trouble.
 abbrev pub TurnCorresponds : Turn → Port → List Reply → List Access → ServerState → ServerState → Machine → Evidence
     → List Step → Type 0
-TurnCorresponds InService port replies accesses old new m evidence steps =
-    PortCorresponds (joint_state_of old m) (joint_event_of_turn InService replies new evidence steps) accesses port
+TurnCorresponds ServingReady port replies accesses old new m evidence steps =
+    PortCorresponds (joint_state_of old m) (joint_event_of_turn ServingReady replies new evidence steps) accesses port
 TurnCorresponds InRestart port replies accesses old new m evidence steps =
     HandlesShownErrors port accesses (joint_state_of old m) evidence (ports_of new) new.device
 TurnCorresponds InProbe port replies accesses old new m evidence steps =
     PortCorresponds (joint_state_of old m) (joint_event_of_turn InProbe replies new evidence steps) accesses port
     × EndsNoLinkDue port (joint_state_of old m) (ports_of new) new.device
-TurnCorresponds AtRest port replies accesses old new m evidence steps = Unit {0}
+TurnCorresponds RestingInTick port replies accesses old new m evidence steps = Unit {0}
 
 -- What was done was found by a reading of the masks, in which the bits of each slot that wasn't used when the turn
 -- began were clear. (The bytes of such a slot may say still the command of a request that has ended.)
 pub record FindsDoneInTurn (port : Port) (accesses : List Access) (old : ServerState) (m : Machine)
     (steps : List Step) : Type 0 where
-  pub done : FindsDone port accesses (joint_state_of old m) steps
-  pub unused : (slot : ℕ) → slot < 32 → used_for old.slots port.0 slot ≡ None → (bit done.ci slot ≡ false)
-      × (bit done.sact slot ≡ false)
+  pub finds_done : FindsDone port accesses (joint_state_of old m) steps
+  pub unused_slots_are_clear : (slot : ℕ) → slot < 32 → used_for old.slots port.0 slot ≡ None
+      → (bit finds_done.ci slot ≡ false)
+      × (bit finds_done.sact slot ≡ false)
 
 -- What a tick does of a port that it restarts. What was done was found by a reading of the masks, and the port was
 -- booted anew, unless it got stuck. What had ended is answered; the port was stopped, or got stuck; and none of its
@@ -150,8 +151,8 @@ pub record FindsDoneInTurn (port : Port) (accesses : List Access) (old : ServerS
 pub record RestartsPort (port : Port) (accesses : List Access) (old new : ServerState) (m : Machine)
     (evidence : Evidence)
     (steps : List Step) : Type 0 where
-  pub finds : FindsDoneInTurn port accesses old m steps
-  pub boots : (state_of (probe_result_of new.ports port.0) ≡ Dead) ⊎ ResetsLink port accesses
+  pub finds_done : FindsDoneInTurn port accesses old m steps
+  pub is_dead_or_link_is_reset : (state_of (probe_result_of new.probe_results port.0) ≡ Dead) ⊎ ResetsLink port accesses
   pub answers_ended : AnswersEnded m steps port
   pub is_interrupted : IsStoppedOrStuck evidence port
   pub none_stays_issued : NoneStaysIssued steps (after m steps) port
@@ -164,13 +165,14 @@ pub record RestartsPort (port : Port) (accesses : List Access) (old new : Server
 -- Where a port rests nothing is done.
 abbrev pub MeetsTurnDuty : Turn → Port → List Access → ServerState → ServerState → Machine → Evidence → List Step
     → Type 0
-MeetsTurnDuty InService port accesses old new m evidence steps = OnlyFailedPortsRequeue evidence steps
-MeetsTurnDuty InProbe port accesses old new m evidence steps = OnlyFailedPortsRequeue evidence steps
+MeetsTurnDuty ServingReady port accesses old new m evidence steps = OnlyFailedPortsRequeueOrFault evidence steps
+MeetsTurnDuty InProbe port accesses old new m evidence steps = OnlyFailedPortsRequeueOrFault evidence steps
     × (evidence.faults ≡ [])
     × (evidence.lost ≡ [])
 MeetsTurnDuty InRestart port accesses old new m evidence steps = RestartsPort port accesses old new m evidence steps
     × (evidence.faults ≡ [])
-MeetsTurnDuty AtRest port accesses old new m evidence steps = (accesses ≡ []) × (steps ≡ []) × (evidence.faults ≡ [])
+MeetsTurnDuty RestingInTick port accesses old new m evidence steps = (accesses ≡ []) × (steps ≡ [])
+    × (evidence.faults ≡ [])
     × (IsStoppedOrStuck evidence port → ⊥)
 
 -- What a turn that made these accesses and said these replies has made of the machine: its steps may come, and lead to
@@ -184,26 +186,28 @@ pub record SimulatesTurn (turn : Turn) (port : Port) (replies : List Reply) (acc
   pub evidence : Evidence
   pub steps_are_enabled : AllEnabled m steps
   pub machine_relation : MachineRelation new (after m steps)
-  pub is_backed : IsBacked old.device new.device m steps
-  pub steps_are_of_turn : All (IsOfTurn port) steps
+  pub is_backed : TapeBacksSteps old.device new.device m steps
+  pub steps_are_of_turn : All (IsTurnOrDeviceStep port) steps
   pub steps_are_of_call : AreStepsOfCall (ask_of_turn turn) (ports_of new) steps
-  pub issues_are_last : IssuesLast steps
-  pub names_only_port : NamesOnly port evidence
-  pub answers_are_lawful : AllAnswersLawful (abstract_state_of old m) evidence (ports_of new) steps
+  pub issues_are_last : IssueIsLastOfRequest steps
+  pub names_only_port : PortListsNameOnly port evidence
+  pub answers_are_lawful : AnswersAndWaitsLawful (abstract_state_of old m) evidence (ports_of new) steps
   pub meets_turn_duty : MeetsTurnDuty turn port accesses old new m evidence steps
   pub replies_match : RepliesMatch steps replies
-  pub answers_all_unplugged : AnswersAllUnplugged steps (after m steps)
+  pub unplugged_empties_port : UnpluggedEmptiesPort steps (after m steps)
   pub port_is_serviced : IsServiced (ports_of old) evidence (ports_of new) port
   pub shown_disk_was_in_or_came : SamePort (ports_of old) (ports_of new) port
       ⊎ ShownDiskWasInOrCame (abstract_state_of old m) steps (abstract_state_of new (after m steps)) port
-  pub disk_is_kept_or_none_waits : SameDisk (ports_of old) (ports_of new) port ⊎ HasNoUnanswered (after m steps) port
+  pub same_disk_or_none_unanswered : SameSerialAndSize (ports_of old) (ports_of new) port
+      ⊎ HasNoUnanswered (after m steps) port
   pub issues_due : (ports_of new).state port ≡ ReadyState → IssuesDue (mode_in new port) steps (after m steps) port
-  pub is_evidenced : IsEvidencedOf (ask_of_turn turn) (Served replies) accesses (joint_state_of old m)
+  pub is_evidenced : IsEvidencedOf (ask_of_turn turn) (Replied replies) accesses (joint_state_of old m)
       (ports_of new) new.device
       evidence port
-  pub faults : (told : RequestFault) → Contains evidence.faults told → TellsFault port accesses old new told
+  pub faults_are_told : (told : RequestFault) → Contains evidence.faults told
+      → IsFaultOfUsedSlot port accesses old new told
   pub turn_corresponds : TurnCorresponds turn port replies accesses old new m evidence steps
-  pub finds_done : turn ≡ InService → (e : Pending) → IsIssuedOn port m e → FindsDoneInTurn port accesses old m steps
+  pub finds_done : turn ≡ ServingReady → (e : Pending) → IsIssuedOn port m e → FindsDoneInTurn port accesses old m steps
 
 -- what a turn of the port leaves of the server: its grants, the disks that are wanted, the id that was handed out last,
 -- and what it has of other ports and their requests (the machine that stands for it has the owners, and the loans that
@@ -212,11 +216,12 @@ pub record LeavesOthers (port : Port) (old new : ServerState) : Type 0 where
   pub grants : new.grants ≡ old.grants
   pub wanted : new.wanted ≡ old.wanted
   pub last_id : new.last_id ≡ old.last_id
-  pub found : (q : ℕ) → q ≢ port.0 → probe_result_of new.ports q ≡ probe_result_of old.ports q
-  pub remembered : (q : ℕ) → q ≢ port.0 → remembered_at new.remembered q ≡ remembered_at old.remembered q
-  pub modes : (q : ℕ) → q ≢ port.0 → mode_at new.modes q ≡ mode_at old.modes q
-  pub slots : (q : ℕ) → q ≢ port.0 → slots_at new.slots q ≡ slots_at old.slots q
-  pub book : (q : Port) → q ≢ port → requests_of_port q (unanswered_of new.book)
+  pub other_probe_results_are_same : (q : ℕ) → q ≢ port.0
+      → probe_result_of new.probe_results q ≡ probe_result_of old.probe_results q
+  pub other_remembered_are_same : (q : ℕ) → q ≢ port.0 → remembered_at new.remembered q ≡ remembered_at old.remembered q
+  pub other_modes_are_same : (q : ℕ) → q ≢ port.0 → mode_at new.modes q ≡ mode_at old.modes q
+  pub other_slots_are_same : (q : ℕ) → q ≢ port.0 → slots_at new.slots q ≡ slots_at old.slots q
+  pub others_requests_are_same : (q : Port) → q ≢ port → requests_of_port q (unanswered_of new.book)
       ≡ requests_of_port q (unanswered_of old.book)
 
 -- A port's turn, in which these replies were given: its accesses are of the port, and those of memory in the driver's
@@ -226,25 +231,25 @@ pub record IsPortTurn (turn : Turn) (port : Port) (replies : List Reply) (old ne
   pub accesses : List Access
   pub accesses_are_done : DoesAll accesses old.device new.device
   pub accesses_are_of_port : All (SparesOtherPorts port) accesses
-  pub accesses_are_drivers_own : All IsDriversOwn accesses
+  pub accesses_are_drivers_own : All StaysInDriverFrames accesses
   pub leaves_others : LeavesOthers port old new
-  pub others_get_no_log : (q : ℕ) → q ≢ port.0 → state_of (probe_result_of old.ports q) ≢ Dead
+  pub others_get_no_log : (q : ℕ) → q ≢ port.0 → state_of (probe_result_of old.probe_results q) ≢ Dead
       → GainsNoMove q ReadLog old.device new.device
   pub simulates_turn : (m : Machine) → IsReachable m → MachineRelation old m
       → SimulatesTurn turn port replies accesses old new m
 
 -- The port's error was handled, where a look told of one; else those of its requests were answered that were found
 -- done.
-abbrev pub DoesTurn : Port → List Reply → ServerState → ServerState → Type 0
-DoesTurn port replies old new =
-    ((turn : HasTurnWithoutError port (slots_at old.slots port.0) replies old.device new.device)
+abbrev pub DoesServiceTurn : Port → List Reply → ServerState → ServerState → Type 0
+DoesServiceTurn port replies old new =
+    ((turn : PollsInTurnWithoutEvent port (slots_at old.slots port.0) replies old.device new.device)
     × TurnAnswers port replies old new turn)
-    ⊎ ((handling : HandlesPortError port replies old new) × (handling.settled.error_handled.port_error ≢ TimedOut))
+    ⊎ ((handling : HandlesPortError port replies old new) × (handling.has_resolved.error_handled.port_error ≢ TimedOut))
 
 -- What serving a port does: the port has its turn, which is a part of a service.
 pub record ServicesPort (port : Port) (replies : List Reply) (old new : ServerState) : Type 0 where
-  pub does_turn : DoesTurn port replies old new
-  pub is_port_turn : IsPortTurn InService port replies old new
+  pub does_turn : DoesServiceTurn port replies old new
+  pub is_port_turn : IsPortTurn ServingReady port replies old new
 
 -- What serving a port that isn't ready does: it is looked at, and probed where it may have a disk, which is a part of a
 -- service.
@@ -269,8 +274,8 @@ EachPortTakesTurn Such Other port (Unserved ∷ rest) replies old new =
     EachPortTakesTurn Such Other (port + 1) rest replies old new
 
 -- so they are served
-abbrev pub ServicePorts : ℕ → List ProbeResult → List Reply → ServerState → ServerState → Type 0
-ServicePorts port found replies old new = EachPortTakesTurn ServicesPort ProbesUnready port found replies old new
+abbrev pub ServicesEachPort : ℕ → List ProbeResult → List Reply → ServerState → ServerState → Type 0
+ServicesEachPort port found replies old new = EachPortTakesTurn ServicesPort ProbesUnready port found replies old new
 
 -- ---- a tick
 
@@ -281,19 +286,19 @@ is_ready found = false
 
 -- the server, with each issued request of a ready port a tick older
 abbrev pub a_tick_older : ServerState → ServerState
-a_tick_older s = record s { book = aged_entries (λ port. is_ready (probe_result_of s.ports port.0)) s.book }
+a_tick_older s = record s { book = aged_entries (λ port. is_ready (probe_result_of s.probe_results port.0)) s.book }
 
 -- A ready port's turn in a tick, where the book was this when requests had got older: its error was handled, where one
 -- was overdue; else it rests.
-abbrev pub TicksPort : List BookEntry → Port → List Reply → ServerState → ServerState → Type 0
-TicksPort book port replies old new =
-    (IsOverdue port book × (handling : HandlesPortError port replies old new)
-    × (handling.settled.error_handled.port_error ≡ TimedOut)
+abbrev pub TakesTickTurn : List BookEntry → Port → List Reply → ServerState → ServerState → Type 0
+TakesTickTurn book port replies old new =
+    (HasOverdueOn port book × (handling : HandlesPortError port replies old new)
+    × (handling.has_resolved.error_handled.port_error ≡ TimedOut)
     × IsPortTurn InRestart port replies old new)
-    ⊎ ((IsOverdue port book → ⊥) × (replies ≡ []) × (new ≡ old))
+    ⊎ ((HasOverdueOn port book → ⊥) × (replies ≡ []) × (new ≡ old))
 
 -- What a tick does: requests get older, and then each ready port has its turn, in rising number; nothing is done of
 -- another one.
 abbrev pub Ticks : List Reply → ServerState → ServerState → Type 0
-Ticks replies old new = EachPortTakesTurn (TicksPort (a_tick_older old).book) (λ port one other. other ≡ one) 0
-    old.ports replies (a_tick_older old) new
+Ticks replies old new = EachPortTakesTurn (TakesTickTurn (a_tick_older old).book) (λ port one other. other ≡ one) 0
+    old.probe_results replies (a_tick_older old) new

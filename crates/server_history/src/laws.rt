@@ -1,61 +1,24 @@
 // Laws of the definitions, for callers: the clause is the theorem. Nothing comes of calling these functions.
 ghost use Rattle.std.specs.Prelude.{ℕ, Bool, true, false, ◌≡◌, ◌≢◌, ◌<◌, ◌≤◌, ◌+◌, ◌*◌, ◌/◌, ◌%◌, ◌++◌, List, [], ◌∷◌, Some, None, Ok, Err, length, All, Contains, count_by, not};
-ghost use Rattle.ata_types.specs.declared.Port.{Port};
-ghost use Rattle.ata_types.specs.declared.PortState.TheVariants.{Dead, Ready as ReadyState};
-ghost use Rattle.ata_types.specs.declared.grant.GrantRow.{GrantRow};
-ghost use Rattle.ata_types.specs.declared.memory.TheConstants.{FRAME_BYTES};
-ghost use Rattle.ata_types.specs.declared.refusal.MemFault.{MemFault};
-ghost use Rattle.ata_types.specs.declared.refusal.Refusal.{Refusal};
-ghost use Rattle.ata_types.specs.declared.request.ClientId.{ClientId};
-ghost use Rattle.ata_types.specs.declared.request.Frame.{Frame};
-ghost use Rattle.ata_types.specs.declared.request.Reply.{Reply};
-ghost use Rattle.ata_types.specs.declared.request.Request.{Request};
-ghost use Rattle.ata_types.specs.declared.request.RequestId.{RequestId};
-ghost use Rattle.adapter.specs.Access.{Loads, Stores};
-ghost use Rattle.adapter.specs.ToldSteps.{DoesOrFailsStep};
-ghost use Rattle.adapter.specs.Device.{Device};
-ghost use Rattle.adapter.specs.Idle.{IsIdle, TellsDisks};
-ghost use Rattle.adapter.specs.Rules.{HasPort, IsUnowned, IsOn, IsStable};
-ghost use Rattle.adapter.specs.Steps.{Steps};
-ghost use Rattle.adapter.specs.declared.access.DeviceStep.{DeviceStep};
-ghost use Rattle.refinement.specs.Fragments.{RelatesWith, AnyUse, IsSimulated};
-ghost use Rattle.refinement.specs.PortFacts.{RunsWell, Undisturbed};
-ghost use Rattle.refinement.specs.Slots.{IsOver};
-ghost use Rattle.block_machine.specs.DueRequests.{IsDue, is_plain};
-ghost use Rattle.block_machine.specs.Events.{Submit, StoreAt, LoadAt, RevokeOf, Service, State, Tick, Device as Told, Submitted, Served, Shown, Stepped, WasRevoked};
-ghost use Rattle.block_machine.specs.Refusals.{IsAcceptable, IsFirstRefusal, MayAccessFrame, IsFirstMemFault};
-ghost use Rattle.block_machine.specs.Rules.{HasRow, IsNamed};
+ghost use Rattle.ata_types.specs.{declared.Port.{Port}, declared.PortState.TheVariants.{Dead, Ready as ReadyState}, declared.grant.GrantRow.{GrantRow}, declared.memory.TheConstants.{FRAME_BYTES}, declared.refusal.MemFault.{MemFault}, declared.refusal.Refusal.{Refusal}, declared.request.ClientId.{ClientId}, declared.request.Frame.{Frame}, declared.request.Reply.{Reply}, declared.request.Request.{Request}};
+ghost use Rattle.ata_types.specs.{declared.request.RequestId.{RequestId}, declared.PortState.{PortState}};
+ghost use Rattle.adapter.specs.{Access.{Loads, Stores}, AskedSteps.{DoesOrFailsStep}, Device.{Device}, Idle.{IsIdle, TellsDisks}, Rules.{HasPort, IsUnowned, IsOn, IsStable}, Steps.{Steps}, declared.access.DeviceStep.{DeviceStep}};
+ghost use Rattle.refinement.specs.{Fragments.{SomeMachineAgreesWith, AnySlotStates, IsSimulated}, PortFacts.{RunsWell, Undisturbed}, Slots.{IsOver}};
+ghost use Rattle.block_machine.specs.{DueRequests.{IsDue, is_plain}, Events.{Submit, StoreAt, LoadAt, RevokeOf, Service, State, Tick, StepDevice as Told, Submitted, Replied, PortStateShown, Stepped, WasRevoked}, Refusals.{IsAcceptable, IsFirstRefusal, MayAccessFrame, IsFirstMemFault}, Rules.{HasRow, IsNamed}};
 ghost use Rattle.command_table.specs.TableStores.{IsUnused};
-ghost use Rattle.dma_frames.specs.FrameTables.{FrameOwnership, LendsOnly, owner_of, lent_to};
-ghost use Rattle.host_boot.specs.TakeOver.{probe_result_of, TakesOver};
-ghost use Rattle.host_boot.specs.declared.ProbeResult.TheVariants.{Ready, Unready};
+ghost use Rattle.dma_frames.specs.FrameTables.{OwnersAndLoans, SetsLoanOnly, owner_of, lent_to};
+ghost use Rattle.host_boot.specs.{TakeOver.{probe_result_of, TakesOver}, declared.ProbeResult.TheVariants.{Ready, Unready}, declared.Host.{Host}};
 ghost use Rattle.identify.specs.declared.DiskInfo.{DiskInfo};
-ghost use Rattle.host_boot.specs.declared.Host.{Host};
 ghost use Rattle.hba_regs.specs.Bits.{bit};
-ghost use Rattle.commands.specs.Batches.{PlacedTask};
-ghost use Rattle.commands.specs.Masks.{ReadsDone, SeesClear};
+ghost use Rattle.commands.specs.{Batches.{PlacedTask}, Masks.{ReadsDone, FindsEachClearSlot}};
 ghost use Rattle.request_queue.specs.BookEntries.{BookEntry, as_unanswered, unanswered_of, due_ids};
-ghost use Rattle.server_history.specs.Histories.{ExtendsSettled, ExtendsByStuck, ExtendsHistory, StartsHistory, InvariantByStuck, load_said, store_said};
-ghost use Rattle.server_history.specs.KeptLoans.{LoansEndInTurn};
-ghost use Rattle.server_history.specs.Revoking.{RevokesGrant};
-ghost use Rattle.server_history.specs.IssuingAndAnswering.{Accepts, AnswersDone, AnswersOne, IsEmptyMask, IsMaskOf, IssuesAll, IssuesTogetherIfAny, ChangesSlotsAndBook, FindsSlotFor, PutsInSlot, PutsInSlots, with_accepted};
-ghost use Rattle.server_history.specs.StuckServer.{ServerInvariant};
-ghost use Rattle.server_history.specs.Probing.{ProbesPort};
-ghost use Rattle.server_history.specs.Turns.{IsPortTurn, InRestart, ServicePorts, ServicesPort, Ticks, ProbesUnready, a_tick_older};
-ghost use Rattle.port_control.specs.declared.events.PortError.TheVariants.{TimedOut};
-ghost use Rattle.server_history.specs.ServerState.{ServerState, probed_mode, InCallInvariant, IsNewServer, SettledInvariant, quarantined_at, mode_in, ports_of, admission_context, slots_at, state_of, used_for};
-ghost use Rattle.slots.specs.SlotUses.{IsLowestFree, IsTaken};
-ghost use Rattle.slots.specs.declared.SlotUse.{SlotUse};
-ghost use Rattle.port_control.specs.PortEvents.{IsEventAccess, TakesEvent};
-ghost use Rattle.port_control.specs.declared.events.PortEvent.TheVariants.{TaskFileError, NoEvent};
-ghost use Rattle.ata_types.specs.declared.PortState.{PortState};
-ghost use Rattle.error_recovery.specs.Recovery.{PlainUsesSlot0, StopsForReset, PlainIsSlot0, MayRecover};
-ghost use Rattle.error_recovery.specs.declared.Recovered.{Recovered};
-ghost use Rattle.error_recovery.specs.declared.Next.TheVariants.{Restart};
-ghost use Rattle.port_boot.specs.States.{IsBootable};
-ghost use Rattle.port_control.specs.Ports.{IsStopped};
-ghost use Rattle.port_control.specs.declared.Stopped.{Stopped};
+ghost use Rattle.server_history.specs.{Histories.{ExtendsSettled, ExtendsByStuck, ExtendsHistory, StartsHistory, InvariantBetweenCalls, load_result, store_result}, KeptLoans.{LoansEndInTurn}, Revoking.{RevokesGrant}, IssuingAndAnswering.{AcceptsAndIssues, AnswersDoneAndIssues, AnswersOne, IsEmptyMask, IsMaskOf, IssuesDueOfPort, IssuesTogetherIfAny, ChangesOnlySlotsAndBook, FindsSlotFor, PutsInSlot, PutsInSlots, with_accepted}};
+ghost use Rattle.server_history.specs.{StuckServer.{ServerInvariant}, Probing.{ProbesPort}, Turns.{IsPortTurn, InRestart, ServicesEachPort, ServicesPort, Ticks, ProbesUnready, a_tick_older}, ServerState.{ServerState, probed_mode, InCallInvariant, IsNewServer, SettledInvariant, quarantined_at, mode_in, ports_of, admission_context, slots_at, state_of, used_for}};
 ghost use Rattle.server_history.specs.ErrorHandling.{AreAllQueuedAs, IsErrorHandled, HasResolved, HandlesPortError, requests_of};
+ghost use Rattle.port_control.specs.{declared.events.PortError.TheVariants.{TimedOut}, PortEvents.{IsEventAccess, TakesEvent}, declared.events.PortEvent.TheVariants.{TaskFileError, NoEvent}, Ports.{IsStopped}, declared.Stopped.{Stopped}};
+ghost use Rattle.slots.specs.{SlotUses.{IsLowestFree, IsTaken}, declared.SlotUse.{SlotUse}};
+ghost use Rattle.error_recovery.specs.{Recovery.{PlainUsesSlot0, StopsForReset, PlainIsSlot0, PortMayRecover}, declared.Recovered.{Recovered}, declared.Next.TheVariants.{Restart}};
+ghost use Rattle.port_boot.specs.States.{IsBootable};
 
 use super::prerequisites::{law_frame_holder_prerequisites, law_history_prerequisites};
 use ata_types::MOST_READINGS;
@@ -64,15 +27,15 @@ use host_boot::laws::law_what_was_taken_over_may_be_served;
 /// A ready port of a new server runs well, if nothing went wrong on it since the adapter was idle.
 pub fn law_new_ready_ports_run_well()
     ensures { (s : ServerState) (host : Host) (idle : Device) (port : Port) → InCallInvariant s → IsIdle idle
-        → TakesOver s.wanted host idle s.device → s.ports ≡ host.ports
-        → state_of (probe_result_of s.ports port.0) ≡ ReadyState
+        → TakesOver s.wanted host idle s.device → s.probe_results ≡ host.ports
+        → state_of (probe_result_of s.probe_results port.0) ≡ ReadyState
         → Undisturbed port.0 idle s.device → RunsWell (s.device.port port.0) }
 {
     law_what_was_taken_over_may_be_served();
 }
 
 /// A server of an adapter that was taken over holds what a server keeps, and a history without calls leads to it.
-pub fn law_a_new_server_has_begun()
+pub fn law_new_server_starts_history()
     ensures { (s : ServerState) (host : Host) (idle : Device) → IsIdle idle → TellsDisks idle
         → TakesOver s.wanted host idle s.device → IsNewServer host s → SettledInvariant s × StartsHistory s }
 {
@@ -83,10 +46,10 @@ pub fn law_a_new_server_has_begun()
 /// A device that does what it is told adds an event, and so does one that can't. Where the adapter isn't on, it isn't
 /// switched on.
 pub fn law_device_steps_extend_history()
-    ensures done { (stuck : Bool) (s : ServerState) (new : Device) (step : DeviceStep) → InvariantByStuck stuck s
+    ensures did { (stuck : Bool) (s : ServerState) (new : Device) (step : DeviceStep) → InvariantBetweenCalls stuck s
         → DoesOrFailsStep step s.device new → Steps s.device new
         → ExtendsByStuck stuck s (record s { device = new }) (Told step) (Stepped true) }
-    ensures refused { (stuck : Bool) (s : ServerState) (step : DeviceStep) → InvariantByStuck stuck s
+    ensures did_not { (stuck : Bool) (s : ServerState) (step : DeviceStep) → InvariantBetweenCalls stuck s
         → ExtendsHistory s s (Told step) (Stepped false) }
 {
     law_history_prerequisites();
@@ -95,21 +58,21 @@ pub fn law_device_steps_extend_history()
 /// A call that is refused adds an event, and so does asking for a port's state, whether or not the adapter is on:
 /// nothing changes.
 pub fn law_refusals_extend_history()
-    ensures submit { (stuck : Bool) (s : ServerState) (r : Request) (refusal : Refusal) → InvariantByStuck stuck s
+    ensures submit { (stuck : Bool) (s : ServerState) (r : Request) (refusal : Refusal) → InvariantBetweenCalls stuck s
         → IsFirstRefusal (admission_context s) r refusal → ExtendsHistory s s (Submit r) (Submitted (Err refusal)) }
     ensures store { (stuck : Bool) (s : ServerState) (client : ClientId) (frame : Frame) (offset : ℕ) (bytes : List ℕ)
-        (fault : MemFault) → InvariantByStuck stuck s
+        (fault : MemFault) → InvariantBetweenCalls stuck s
         → IsFirstMemFault (owner_of s.table) (lent_to s.table) client frame offset (length bytes) fault
-        → ExtendsHistory s s (StoreAt client frame offset bytes) (store_said (Err fault)) }
+        → ExtendsHistory s s (StoreAt client frame offset bytes) (store_result (Err fault)) }
     ensures load { (stuck : Bool) (s : ServerState) (client : ClientId) (frame : Frame) (offset count : ℕ)
         (bytes : List ℕ)
-        (fault : MemFault) → InvariantByStuck stuck s
+        (fault : MemFault) → InvariantBetweenCalls stuck s
         → IsFirstMemFault (owner_of s.table) (lent_to s.table) client frame offset count fault
-        → ExtendsHistory s s (LoadAt client frame offset count) (load_said (Err fault) bytes) }
-    ensures revoke { (stuck : Bool) (s : ServerState) (client : ClientId) (number : ℕ) → InvariantByStuck stuck s
+        → ExtendsHistory s s (LoadAt client frame offset count) (load_result (Err fault) bytes) }
+    ensures revoke { (stuck : Bool) (s : ServerState) (client : ClientId) (number : ℕ) → InvariantBetweenCalls stuck s
         → (HasRow client number s.grants → ⊥) → ExtendsHistory s s (RevokeOf client number) (WasRevoked None) }
-    ensures state { (stuck : Bool) (s : ServerState) (port : Port) → InvariantByStuck stuck s
-        → ExtendsHistory s s (State port) (Shown ((ports_of s).state port)) }
+    ensures state { (stuck : Bool) (s : ServerState) (port : Port) → InvariantBetweenCalls stuck s
+        → ExtendsHistory s s (State port) (PortStateShown ((ports_of s).state port)) }
 {
     law_history_prerequisites();
 }
@@ -127,16 +90,17 @@ pub fn law_open_frames_are_accessible()
 /// Bytes of an open frame that a client stores or loads add an event, whether or not the adapter is on.
 pub fn law_client_bytes_extend_history()
     ensures store { (stuck : Bool) (s : ServerState) (new : Device) (client : ClientId) (frame : Frame) (offset : ℕ)
-        (bytes : List ℕ) → InvariantByStuck stuck s
+        (bytes : List ℕ) → InvariantBetweenCalls stuck s
         → MayAccessFrame (owner_of s.table) (lent_to s.table) client frame offset (length bytes)
         → Stores (FRAME_BYTES * frame.0 + offset) bytes s.device new
-        → ExtendsByStuck stuck s (record s { device = new }) (StoreAt client frame offset bytes) (store_said (Ok tt)) }
+        → ExtendsByStuck stuck s (record s { device = new }) (StoreAt client frame offset bytes)
+        (store_result (Ok tt)) }
     ensures load { (stuck : Bool) (s : ServerState) (new : Device) (client : ClientId) (frame : Frame)
         (offset count : ℕ)
-        (bytes : List ℕ) → InvariantByStuck stuck s → length bytes ≡ count
+        (bytes : List ℕ) → InvariantBetweenCalls stuck s → length bytes ≡ count
         → MayAccessFrame (owner_of s.table) (lent_to s.table) client frame offset count
         → Loads (FRAME_BYTES * frame.0 + offset) bytes s.device new
-        → ExtendsByStuck stuck s (record s { device = new }) (LoadAt client frame offset count) (load_said (Ok tt)
+        → ExtendsByStuck stuck s (record s { device = new }) (LoadAt client frame offset count) (load_result (Ok tt)
         bytes) }
 {
     law_history_prerequisites();
@@ -145,16 +109,18 @@ pub fn law_client_bytes_extend_history()
 /// A due request of a server finds a free slot. The lowest is usable, one of the adapter's, and slot 0 for a plain
 /// command; and some machine agrees with a driver that doesn't use it.
 pub fn law_a_due_request_may_issue()
-    ensures lowest { (s : ServerState) (request : BookEntry) → InCallInvariant s → Contains s.book request
-        → IsDue (mode_in s request.entry.port) (unanswered_of s.book) (as_unanswered request.entry)
-        → (slot : ℕ) → IsLowestFree (slots_at s.slots request.entry.port.0) slot
-        → (slot < (mode_in s request.entry.port).usable) × (slot < 32) × (slot ≤ s.device.cap / 256 % 32)
-        × (is_plain (mode_in s request.entry.port) request.entry.op ≡ true → slot ≡ 0)
-        × RelatesWith (IsUnused request.entry.port.0 slot) s.device }
-    ensures full { (s : ServerState) (request : BookEntry) → InCallInvariant s → Contains s.book request
-        → IsDue (mode_in s request.entry.port) (unanswered_of s.book) (as_unanswered request.entry)
-        → ((slot : ℕ) → slot < (slots_at s.slots request.entry.port.0).usable
-        → IsTaken (slots_at s.slots request.entry.port.0) slot) → ⊥ }
+    ensures lowest_free_slot_fits { (s : ServerState) (request : BookEntry) → InCallInvariant s
+        → Contains s.book request
+        → IsDue (mode_in s request.request.port) (unanswered_of s.book) (as_unanswered request.request)
+        → (slot : ℕ) → IsLowestFree (slots_at s.slots request.request.port.0) slot
+        → (slot < (mode_in s request.request.port).usable_slots) × (slot < 32) × (slot ≤ s.device.cap / 256 % 32)
+        × (is_plain (mode_in s request.request.port) request.request.op ≡ true → slot ≡ 0)
+        × SomeMachineAgreesWith (IsUnused request.request.port.0 slot) s.device }
+    ensures not_all_usable_are_taken { (s : ServerState) (request : BookEntry) → InCallInvariant s
+        → Contains s.book request
+        → IsDue (mode_in s request.request.port) (unanswered_of s.book) (as_unanswered request.request)
+        → ((slot : ℕ) → slot < (slots_at s.slots request.request.port.0).usable_count
+        → IsTaken (slots_at s.slots request.request.port.0) slot) → ⊥ }
 {
     law_history_prerequisites();
 }
@@ -163,21 +129,26 @@ pub fn law_a_due_request_may_issue()
 /// may take the lowest, which makes one more of them; several are due only where all are queued; and of the server they
 /// leave all but book and slots.
 pub fn law_due_requests_get_slots()
-    ensures lowest { (s mid : ServerState) (port : Port) (ids : List RequestId) (tasks : List PlacedTask)
+    ensures lowest_free_slot_fits { (s mid : ServerState) (port : Port) (ids : List RequestId) (tasks : List PlacedTask)
         (request : BookEntry) → InCallInvariant s → PutsInSlots port ids tasks s mid → Contains mid.book request
-        → request.entry.port ≡ port → IsDue (mode_in mid port) (unanswered_of mid.book) (as_unanswered request.entry)
+        → request.request.port ≡ port → IsDue (mode_in mid port) (unanswered_of mid.book)
+        (as_unanswered request.request)
         → (slot : ℕ) → IsLowestFree (slots_at mid.slots port.0) slot → FindsSlotFor s port tasks request slot }
-    ensures full { (s mid : ServerState) (port : Port) (ids : List RequestId) (tasks : List PlacedTask)
+    ensures not_all_usable_are_taken { (s mid : ServerState) (port : Port) (ids : List RequestId)
+        (tasks : List PlacedTask)
         (request : BookEntry) → InCallInvariant s → PutsInSlots port ids tasks s mid → Contains mid.book request
-        → request.entry.port ≡ port → IsDue (mode_in mid port) (unanswered_of mid.book) (as_unanswered request.entry)
-        → ((slot : ℕ) → slot < (slots_at mid.slots port.0).usable → IsTaken (slots_at mid.slots port.0) slot) → ⊥ }
-    ensures together { (s mid : ServerState) (port : Port) (ids : List RequestId) (tasks : List PlacedTask)
+        → request.request.port ≡ port → IsDue (mode_in mid port) (unanswered_of mid.book)
+        (as_unanswered request.request)
+        → ((slot : ℕ) → slot < (slots_at mid.slots port.0).usable_count → IsTaken (slots_at mid.slots port.0) slot)
+        → ⊥ }
+    ensures several_are_queued { (s mid : ServerState) (port : Port) (ids : List RequestId) (tasks : List PlacedTask)
         (request : BookEntry) → InCallInvariant s → PutsInSlots port ids tasks s mid → Contains mid.book request
-        → request.entry.port ≡ port → IsDue (mode_in mid port) (unanswered_of mid.book) (as_unanswered request.entry)
-        → (tasks ≡ [] → ⊥) → (is_plain (mode_in s port) request.entry.op ≡ false)
+        → request.request.port ≡ port → IsDue (mode_in mid port) (unanswered_of mid.book)
+        (as_unanswered request.request)
+        → (tasks ≡ [] → ⊥) → (is_plain (mode_in s port) request.request.op ≡ false)
         × All (λ t. t.task.queued ≡ true) tasks }
     ensures invariant_goes_on { (s mid : ServerState) (port : Port) (ids : List RequestId) (tasks : List PlacedTask)
-        → InCallInvariant s → PutsInSlots port ids tasks s mid → ChangesSlotsAndBook s mid }
+        → InCallInvariant s → PutsInSlots port ids tasks s mid → ChangesOnlySlotsAndBook s mid }
     ensures one_more_gets_a_slot { (s mid new : ServerState) (port : Port) (ids : List RequestId)
         (tasks : List PlacedTask)
         (id : RequestId) (t : PlacedTask) → PutsInSlots port ids tasks s mid → PutsInSlot port id t mid new
@@ -189,25 +160,27 @@ pub fn law_due_requests_get_slots()
 /// A slot of a ready port that is used has an unanswered request of the port, which is issued.
 pub fn law_a_used_slot_has_its_request()
     ensures { (s : ServerState) (port : Port) (slot : ℕ) (used : SlotUse) → InCallInvariant s
-        → state_of (probe_result_of s.ports port.0)
+        → state_of (probe_result_of s.probe_results port.0)
         ≡ ReadyState
         → used_for s.slots port.0 slot ≡ Some used
-        → (request : BookEntry) × Contains s.book request × (request.entry.id ≡ used.id) × (request.entry.port ≡ port)
-        × (request.entry.issued ≡ true) }
+        → (request : BookEntry) × Contains s.book request × (request.request.id ≡ used.id)
+        × (request.request.port ≡ port)
+        × (request.request.issued ≡ true) }
 {}
 
 /// An acceptable request is of a ready port; and a server goes on while requests are accepted, answered and issued, and
 /// a grant is revoked.
 pub fn law_requests_preserve_invariant()
-    ensures ready { (s : ServerState) (r : Request) (row : GrantRow) → IsAcceptable (admission_context s) r
-        → IsNamed s.grants r row → state_of (probe_result_of s.ports row.port.0) ≡ ReadyState }
+    ensures acceptable_is_of_ready_port { (s : ServerState) (r : Request) (row : GrantRow)
+        → IsAcceptable (admission_context s) r
+        → IsNamed s.grants r row → state_of (probe_result_of s.probe_results row.port.0) ≡ ReadyState }
     ensures accepted { (s : ServerState) (port : Port) (r : Request) (row : GrantRow) (id : RequestId)
-        (table : FrameOwnership)
+        (table : OwnersAndLoans)
         → InCallInvariant s → IsAcceptable (admission_context s) r → IsNamed s.grants r row → row.port ≡ port
         → id.0 ≡ s.last_id + 1
-        → LendsOnly s.table table r.frames.items (Some id) → InCallInvariant (with_accepted port r id table s) }
+        → SetsLoanOnly s.table table r.frames.items (Some id) → InCallInvariant (with_accepted port r id table s) }
     ensures answered { (s new : ServerState) (port : Port) (request : BookEntry) → InCallInvariant s
-        → state_of (probe_result_of s.ports port.0)
+        → state_of (probe_result_of s.probe_results port.0)
         ≡ ReadyState
         → (one : AnswersOne port request s new) → IsOver (s.device.port port.0) one.slot → InCallInvariant new }
     ensures issued { (s new : ServerState) (port : Port) (ids : List RequestId) → InCallInvariant s
@@ -219,11 +192,11 @@ pub fn law_requests_preserve_invariant()
 }
 
 /// Once requests are answered whose commands are over, and then what is due on their port is issued, nothing is due.
-pub fn law_a_finished_port_settles()
+pub fn law_answer_and_issue_settle()
     ensures { (s new : ServerState) (port : Port) (done : ℕ) (replies : List Reply) → SettledInvariant s
-        → state_of (probe_result_of s.ports port.0) ≡ ReadyState
+        → state_of (probe_result_of s.probe_results port.0) ≡ ReadyState
         → ((slot : ℕ) → slot < 32 → bit done slot ≡ true → IsOver (s.device.port port.0) slot)
-        → AnswersDone port done replies s new → SettledInvariant new }
+        → AnswersDoneAndIssues port done replies s new → SettledInvariant new }
 {
     law_history_prerequisites();
 }
@@ -233,17 +206,20 @@ pub fn law_a_finished_port_settles()
 /// though the port had been looked at without an access.
 pub fn law_looks_preserve_invariant()
     ensures looking { (s : ServerState) (new : Device) (port : Port) → InCallInvariant s
-        → state_of (probe_result_of s.ports port.0)
+        → state_of (probe_result_of s.probe_results port.0)
         ≡ ReadyState
-        → IsSimulated (IsEventAccess port) AnyUse s.device new
+        → IsSimulated (IsEventAccess port) AnySlotStates s.device new
         → InCallInvariant (record s { device = new }) }
     ensures finding { (s : ServerState) (new : Device) (port : Port) (mask done : ℕ) → InCallInvariant s
-        → state_of (probe_result_of s.ports port.0) ≡ ReadyState → ReadsDone port mask done s.device new
+        → state_of (probe_result_of s.probe_results port.0) ≡ ReadyState → ReadsDone port mask done s.device new
         → InCallInvariant (record s { device = new }) }
-    ensures found { (s : ServerState) (new : Device) (port : Port) (mask done slot : ℕ) → InCallInvariant s
-        → state_of (probe_result_of s.ports port.0) ≡ ReadyState → IsMaskOf (slots_at s.slots port.0) mask → slot < 32
+    ensures done_slots_are_over { (s : ServerState) (new : Device) (port : Port) (mask done slot : ℕ)
+        → InCallInvariant s
+        → state_of (probe_result_of s.probe_results port.0) ≡ ReadyState → IsMaskOf (slots_at s.slots port.0) mask
+        → slot < 32
         → ReadsDone port mask done s.device new → bit done slot ≡ true → IsOver (new.port port.0) slot }
-    ensures no_look_is_one { (port : Port) (device : Device) → IsSimulated (IsEventAccess port) AnyUse device device }
+    ensures no_look_is_one { (port : Port) (device : Device)
+        → IsSimulated (IsEventAccess port) AnySlotStates device device }
 {
     law_history_prerequisites();
 }
@@ -252,26 +228,28 @@ pub fn law_looks_preserve_invariant()
 /// no slot, that is all; else the slots that it uses are checked, those that are found done are answered, and what is
 /// due then is issued.
 pub fn law_a_port_is_served()
-    ensures idle { (s : ServerState) (seen : Device) (port : Port) → SettledInvariant s
-        → state_of (probe_result_of s.ports port.0)
+    ensures no_slot_is_used { (s : ServerState) (seen : Device) (port : Port) → SettledInvariant s
+        → state_of (probe_result_of s.probe_results port.0)
         ≡ ReadyState
-        → TakesEvent port NoEvent s.device seen → IsSimulated (IsEventAccess port) AnyUse s.device seen
+        → TakesEvent port NoEvent s.device seen → IsSimulated (IsEventAccess port) AnySlotStates s.device seen
         → IsMaskOf (slots_at s.slots port.0) 0 → ServicesPort port [] s (record s { device = seen }) }
-    ensures unfinished { (s : ServerState) (seen new : Device) (port : Port) (mask : ℕ) → SettledInvariant s
-        → state_of (probe_result_of s.ports port.0) ≡ ReadyState → TakesEvent port NoEvent s.device seen
-        → IsSimulated (IsEventAccess port) AnyUse s.device seen → IsMaskOf (slots_at s.slots port.0) mask
-        → (IsEmptyMask mask → ⊥) → (done : ℕ) → ReadsDone port mask done seen new → SeesClear port mask done seen
+    ensures none_is_done { (s : ServerState) (seen new : Device) (port : Port) (mask : ℕ) → SettledInvariant s
+        → state_of (probe_result_of s.probe_results port.0) ≡ ReadyState → TakesEvent port NoEvent s.device seen
+        → IsSimulated (IsEventAccess port) AnySlotStates s.device seen → IsMaskOf (slots_at s.slots port.0) mask
+        → (IsEmptyMask mask → ⊥) → (done : ℕ) → ReadsDone port mask done seen new
+        → FindsEachClearSlot port mask done seen
         → IsEmptyMask done → ServicesPort port [] s (record s { device = new }) }
-    ensures finished { (s new : ServerState) (seen found : Device) (port : Port) (mask done : ℕ) (replies : List Reply)
-        → SettledInvariant s → state_of (probe_result_of s.ports port.0) ≡ ReadyState
-        → TakesEvent port NoEvent s.device seen → IsSimulated (IsEventAccess port) AnyUse s.device seen
+    ensures some_are_done { (s new : ServerState) (seen found : Device) (port : Port) (mask done : ℕ)
+        (replies : List Reply)
+        → SettledInvariant s → state_of (probe_result_of s.probe_results port.0) ≡ ReadyState
+        → TakesEvent port NoEvent s.device seen → IsSimulated (IsEventAccess port) AnySlotStates s.device seen
         → IsMaskOf (slots_at s.slots port.0) mask → (IsEmptyMask mask → ⊥) → ReadsDone port mask done seen found
-        → SeesClear port mask done seen → (IsEmptyMask done → ⊥)
-        → AnswersDone port done replies (record s { device = found }) new → ServicesPort port replies s new }
+        → FindsEachClearSlot port mask done seen → (IsEmptyMask done → ⊥)
+        → AnswersDoneAndIssues port done replies (record s { device = found }) new → ServicesPort port replies s new }
     ensures error_handled { (s new : ServerState) (port : Port) (replies : List Reply) → SettledInvariant s
-        → state_of (probe_result_of s.ports port.0) ≡ ReadyState → (r : HandlesPortError port replies s new)
-        → r.settled.error_handled.port_error ≢ TimedOut
-        → IsSimulated (IsEventAccess port) AnyUse s.device r.settled.error_handled.seen
+        → state_of (probe_result_of s.probe_results port.0) ≡ ReadyState → (r : HandlesPortError port replies s new)
+        → r.has_resolved.error_handled.port_error ≢ TimedOut
+        → IsSimulated (IsEventAccess port) AnySlotStates s.device r.has_resolved.error_handled.device_after_look
         → ServicesPort port replies s new × SettledInvariant new }
 {
     law_history_prerequisites();
@@ -280,9 +258,9 @@ pub fn law_a_port_is_served()
 /// How a port is restarted of which a request is hung: its error is handled, and that is its turn in a tick.
 pub fn law_a_timed_out_port_is_restarted()
     ensures { (s new : ServerState) (port : Port) (replies : List Reply) → SettledInvariant s
-        → state_of (probe_result_of s.ports port.0)
+        → state_of (probe_result_of s.probe_results port.0)
         ≡ ReadyState
-        → (r : HandlesPortError port replies s new) → r.settled.error_handled.port_error ≡ TimedOut
+        → (r : HandlesPortError port replies s new) → r.has_resolved.error_handled.port_error ≡ TimedOut
         → IsPortTurn InRestart port replies s new
         × SettledInvariant new }
 {
@@ -293,13 +271,14 @@ pub fn law_a_timed_out_port_is_restarted()
 /// shows a device. Of plain commands a port has one alone, in slot 0.
 pub fn law_port_errors_may_be_handled()
     ensures may_recover { (s : ServerState) (seen found : Device) (port : Port) (mask done : ℕ) → InCallInvariant s
-        → state_of (probe_result_of s.ports port.0) ≡ ReadyState → TakesEvent port TaskFileError s.device seen
-        → IsSimulated (IsEventAccess port) AnyUse s.device seen → ReadsDone port mask done seen found
-        → MayRecover port.0 found }
-    ensures agreed { (s : ServerState) (port : Port) (queued : Bool) → InCallInvariant s
-        → state_of (probe_result_of s.ports port.0)
+        → state_of (probe_result_of s.probe_results port.0) ≡ ReadyState → TakesEvent port TaskFileError s.device seen
+        → IsSimulated (IsEventAccess port) AnySlotStates s.device seen → ReadsDone port mask done seen found
+        → PortMayRecover port.0 found }
+    ensures plain_uses_slot_0 { (s : ServerState) (port : Port) (queued : Bool) → InCallInvariant s
+        → state_of (probe_result_of s.probe_results port.0)
         ≡ ReadyState
-        → AreAllQueuedAs queued (slots_at s.slots port.0) → RelatesWith (PlainUsesSlot0 queued port.0) s.device }
+        → AreAllQueuedAs queued (slots_at s.slots port.0)
+        → SomeMachineAgreesWith (PlainUsesSlot0 queued port.0) s.device }
     ensures are_queued_alike { (s : ServerState) (port : Port) (slot : ℕ) (used : SlotUse) → InCallInvariant s
         → used_for s.slots port.0 slot ≡ Some used → AreAllQueuedAs used.queued (slots_at s.slots port.0) }
     ensures plain_is_alone { (s : ServerState) (port : Port) (queued : Bool) (outstanding : ℕ) → InCallInvariant s
@@ -314,24 +293,26 @@ pub fn law_port_errors_may_be_handled()
 /// were resolved, the server goes on; and nothing is due on a port that isn't ready.
 pub fn law_a_port_goes_on_after_its_errors()
     ensures bootable { (s mid : ServerState) (device : Device) (port : Port) (token : Stopped) → InCallInvariant s
-        → state_of (probe_result_of s.ports port.0) ≡ ReadyState → (r : IsErrorHandled port s mid device)
-        → IsSimulated (IsEventAccess port) AnyUse s.device r.seen → r.result.next ≡ Restart token
+        → state_of (probe_result_of s.probe_results port.0) ≡ ReadyState → (r : IsErrorHandled port s mid device)
+        → IsSimulated (IsEventAccess port) AnySlotStates s.device r.device_after_look → r.result.next ≡ Restart token
         → IsBootable port device
-        × IsStopped (device.port port.0) × ((device.port port.0).notes.link_count ≡ MOST_READINGS) }
-    ensures mode { (s mid : ServerState) (device : Device) (port : Port) → InCallInvariant s
-        → state_of (probe_result_of s.ports port.0)
+        × IsStopped (device.port port.0) × ((device.port port.0).notes.link_wait_count ≡ MOST_READINGS) }
+    ensures mode_is_kept { (s mid : ServerState) (device : Device) (port : Port) → InCallInvariant s
+        → state_of (probe_result_of s.probe_results port.0)
         ≡ ReadyState
-        → (r : IsErrorHandled port s mid device) → IsSimulated (IsEventAccess port) AnyUse s.device r.seen
-        → mode_in s port ≡ probed_mode device.cap (probe_result_of s.ports port.0) }
-    ensures places { (s : ServerState) (port : Port) → InCallInvariant s
-        → state_of (probe_result_of s.ports port.0) ≡ ReadyState
-        → (quarantined_at s.kept port.0 ≡ []) × (count_by (λ (e : BookEntry). e.entry.issued)
+        → (r : IsErrorHandled port s mid device)
+        → IsSimulated (IsEventAccess port) AnySlotStates s.device r.device_after_look
+        → mode_in s port ≡ probed_mode device.cap (probe_result_of s.probe_results port.0) }
+    ensures issued_loans_have_room { (s : ServerState) (port : Port) → InCallInvariant s
+        → state_of (probe_result_of s.probe_results port.0) ≡ ReadyState
+        → (quarantined_at s.kept_loans port.0 ≡ []) × (count_by (λ (e : BookEntry). e.request.issued)
         (requests_of port s.book) ≤ 32) }
-    ensures settled { (s new : ServerState) (port : Port) (later : List Reply) → InCallInvariant s
-        → state_of (probe_result_of s.ports port.0) ≡ ReadyState → (a : HasResolved port later s new)
-        → IsSimulated (IsEventAccess port) AnyUse s.device a.error_handled.seen → InCallInvariant new }
-    ensures undue { (s : ServerState) (port : Port) → InCallInvariant s
-        → ((info : DiskInfo) → probe_result_of s.ports port.0 ≡ Ready info
+    ensures resolved_has_invariant { (s new : ServerState) (port : Port) (later : List Reply) → InCallInvariant s
+        → state_of (probe_result_of s.probe_results port.0) ≡ ReadyState → (a : HasResolved port later s new)
+        → IsSimulated (IsEventAccess port) AnySlotStates s.device a.error_handled.device_after_look
+        → InCallInvariant new }
+    ensures unready_has_none_due { (s : ServerState) (port : Port) → InCallInvariant s
+        → ((info : DiskInfo) → probe_result_of s.probe_results port.0 ≡ Ready info
         → ⊥) → due_ids (mode_in s port) port (unanswered_of s.book) ≡ [] }
 {
     law_history_prerequisites();
@@ -340,7 +321,7 @@ pub fn law_a_port_goes_on_after_its_errors()
 /// A request that is accepted adds an event.
 pub fn law_acceptances_extend_history()
     ensures { (s new : ServerState) (port : Port) (r : Request) (id : RequestId) → SettledInvariant s
-        → IsAcceptable (admission_context s) r → Accepts port r id s new
+        → IsAcceptable (admission_context s) r → AcceptsAndIssues port r id s new
         → ExtendsSettled s new (Submit r) (Submitted (Ok id)) }
 {
     law_history_prerequisites();
@@ -350,7 +331,7 @@ pub fn law_acceptances_extend_history()
 /// its port is issued.
 pub fn law_revocations_extend_history()
     ensures { (s mid new : ServerState) (client : ClientId) (number : ℕ) (replies : List Reply) → SettledInvariant s
-        → (revokes : RevokesGrant client number replies s mid) → IssuesAll revokes.has_grant_row.0.port mid new
+        → (revokes : RevokesGrant client number replies s mid) → IssuesDueOfPort revokes.has_grant_row.0.port mid new
         → ExtendsSettled s new (RevokeOf client number) (WasRevoked (Some replies)) }
 {
     law_history_prerequisites();
@@ -358,8 +339,9 @@ pub fn law_revocations_extend_history()
 
 /// Ports that have their turns in a service one after another add an event: ready ones are served, and others probed.
 pub fn law_services_extend_history()
-    ensures { (s new : ServerState) (replies : List Reply) → SettledInvariant s → ServicePorts 0 s.ports replies s new
-        → ExtendsSettled s new Service (Served replies) }
+    ensures { (s new : ServerState) (replies : List Reply) → SettledInvariant s
+        → ServicesEachPort 0 s.probe_results replies s new
+        → ExtendsSettled s new Service (Replied replies) }
 {
     law_history_prerequisites();
 }
@@ -369,18 +351,20 @@ pub fn law_services_extend_history()
 /// after which the server goes on. (In between it needn't: a look at an absent port that finds a device has read a
 /// value of PxSSTS that no absent port was left with.)
 pub fn law_an_unready_port_is_probed()
-    ensures looked { (s : ServerState) (seen : Device) (port : Port) (state : PortState) → InCallInvariant s
-        → probe_result_of s.ports port.0 ≡ Unready state → state ≢ Dead
-        → IsSimulated (IsEventAccess port) AnyUse s.device seen
-        → IsOn seen × HasPort seen port.0 × RelatesWith AnyUse seen }
+    ensures look_keeps_relation { (s : ServerState) (seen : Device) (port : Port) (state : PortState)
+        → InCallInvariant s
+        → probe_result_of s.probe_results port.0 ≡ Unready state → state ≢ Dead
+        → IsSimulated (IsEventAccess port) AnySlotStates s.device seen
+        → IsOn seen × HasPort seen port.0 × SomeMachineAgreesWith AnySlotStates seen }
     ensures bootable { (s : ServerState) (seen stopped : Device) (port : Port) (state : PortState) (result : Recovered)
         (token : Stopped) → InCallInvariant s
-        → probe_result_of s.ports port.0 ≡ Unready state → state ≢ Dead
-        → IsSimulated (IsEventAccess port) AnyUse s.device seen
+        → probe_result_of s.probe_results port.0 ≡ Unready state → state ≢ Dead
+        → IsSimulated (IsEventAccess port) AnySlotStates s.device seen
         → StopsForReset port 0 true result seen stopped → result.next ≡ Restart token
         → (token.port ≡ port) × IsBootable port stopped × IsStopped (stopped.port port.0) }
-    ensures tried { (s new : ServerState) (port : Port) → SettledInvariant s → (probes : ProbesPort port s new)
-        → (probes.state ≢ Dead → IsSimulated (IsEventAccess port) AnyUse s.device probes.seen)
+    ensures probe_is_a_turn { (s new : ServerState) (port : Port) → SettledInvariant s
+        → (probes : ProbesPort port s new)
+        → (probes.state ≢ Dead → IsSimulated (IsEventAccess port) AnySlotStates s.device probes.device_after_look)
         → ProbesUnready port s new
         × SettledInvariant new }
 {
@@ -397,7 +381,7 @@ pub fn law_aging_keeps_invariant()
 /// A tick adds an event: requests get older, and ready ports have their turns one after another.
 pub fn law_ticks_extend_history()
     ensures { (s new : ServerState) (replies : List Reply) → SettledInvariant s → Ticks replies s new
-        → ExtendsSettled s new Tick (Served replies) }
+        → ExtendsSettled s new Tick (Replied replies) }
 {
     law_history_prerequisites();
 }

@@ -1,8 +1,5 @@
 // What laws of the crates below say, for this crate's proofs. Nothing comes of calling these functions.
-ghost use Rattle.server_history.specs.RecoveryLaws.{RecoveryLaws, PortErrorLaws};
-ghost use Rattle.server_history.specs.BasicLaws.{AgeLaws, BasicLaws, FrameHolderLaws, SlotLaws};
-ghost use Rattle.server_history.specs.Prerequisites.{PrerequisiteLaws};
-ghost use Rattle.server_history.specs.CallLaws.{CallLaws, LookLaws};
+ghost use Rattle.server_history.specs.{RecoveryLaws.{RecoveryLaws, PortErrorLaws}, BasicLaws.{AgeLaws, BasicLaws, FrameHolderLaws, SlotLaws}, Prerequisites.{PrerequisiteLaws}, CallLaws.{CallLaws, LookLaws}};
 
 use adapter::laws::law_accesses_compose;
 use adapter::laws::law_decoding_is_unique;
@@ -17,6 +14,7 @@ use block_machine::laws::law_due_is_exact;
 use block_machine::laws::law_ended_is_issued;
 use block_machine::laws::law_frame_holder_was_accepted;
 use block_machine::laws::law_frames_are_their_clients;
+use block_machine::laws::law_kept_is_not_in_book;
 use block_machine::laws::law_lent_frame_is_its_own;
 use block_machine::laws::law_limits_hold;
 use block_machine::laws::law_one_id_is_in_the_book_once;
@@ -25,7 +23,6 @@ use block_machine::laws::law_other_ports_requests_stay;
 use block_machine::laws::law_ready_ports_are_served;
 use block_machine::laws::law_rows_shrink_and_owners_stay;
 use block_machine::laws::law_step_lists_compose;
-use block_machine::laws::law_what_is_kept_was_answered;
 use commands::laws::law_batch_issues_come_last;
 use commands::laws::law_calls_are_of_one_port;
 use commands::laws::law_finding_is_followed;
@@ -58,8 +55,8 @@ use port_control::events::prerequisites::law_prerequisites;
 use port_control::laws::law_what_is_told_of_engines_stays;
 use refinement::access_kinds::law_fragment_prerequisites;
 use refinement::acts::law_acts_advance_driver;
-use refinement::disks::law_no_disk_comes_in;
-use refinement::fragments::law_other_ports_are_left;
+use refinement::disks::law_where_no_disk_comes;
+use refinement::fragments::law_other_ports_are_untouched;
 use refinement::giving_up::law_fault_is_outstanding;
 use refinement::giving_up::law_given_up_requests_are_parked;
 use refinement::giving_up::law_slots_are_given_up;
@@ -68,7 +65,7 @@ use refinement::laws::law_advances_compose;
 use refinement::laws::law_an_idle_device_agrees;
 use refinement::laws::law_answering_agrees;
 use refinement::laws::law_backing_composes;
-use refinement::laws::law_client_bytes_are_free;
+use refinement::laws::law_client_bytes_are_accessible;
 use refinement::laws::law_client_load_is_followed;
 use refinement::laws::law_client_store_is_followed;
 use refinement::laws::law_device_steps_are_parts;
@@ -79,8 +76,8 @@ use refinement::laws::law_own_steps_are_backed;
 use refinement::laws::law_pages_come_when_asked;
 use refinement::laws::law_parking_agrees;
 use refinement::laws::law_parking_frees;
-use refinement::laws::law_putting_is_of_one_slot;
 use refinement::laws::law_revoking_agrees;
+use refinement::laws::law_setting_changes_one_slot;
 use refinement::laws::law_slots_are_counted;
 use refinement::laws::law_steps_spare_the_book;
 use refinement::laws::law_ticking_agrees;
@@ -91,20 +88,20 @@ use refinement::port_facts::law_ended_is_clear;
 use refinement::port_facts::law_errors_are_shown;
 use refinement::port_facts::law_notes_are_set;
 use refinement::port_facts::law_over_stays;
-use refinement::port_facts::law_plugging_is_found;
+use refinement::port_facts::law_plug_events_are_found;
 use refinement::port_facts::law_undisturbed_ports_tell_nothing;
 use refinement::port_facts::law_writing_ghc_switches_on;
 use refinement::readying::law_stored_stays;
 use refinement::readying::law_stored_stays_over_acts;
 use refinement::recovering::law_halts_are_of_taken_commands;
-use request_queue::laws::law_accepted_is_preserved;
 use request_queue::laws::law_an_id_is_one_request;
 use request_queue::laws::law_answers_of_one_outcome_are_one_change;
+use request_queue::laws::law_book_stays_well_formed;
 use request_queue::laws::law_client_counts_agree;
 use request_queue::laws::law_operations_change_one_request;
 use request_queue::laws::law_operations_change_what_is_due;
 use request_queue::laws::law_steps_change_the_book;
-use request_queue::laws::law_the_book_stays_in_order;
+use request_queue::laws::law_well_formed_entries_stay;
 use std::marker::Brand;
 
 /// What steps and accesses do, one after another.
@@ -135,7 +132,7 @@ pub fn law_frame_holder_prerequisites()
     law_a_name_is_of_one_row();
     law_lent_frame_is_its_own();
     law_one_id_is_one_request();
-    law_what_is_kept_was_answered();
+    law_kept_is_not_in_book();
 }
 
 /// What becomes of slots, and of the requests in them.
@@ -155,7 +152,7 @@ fn law_slots()
     law_over_stays();
     law_slots_are_given_up();
     law_given_up_requests_are_parked();
-    law_putting_is_of_one_slot();
+    law_setting_changes_one_slot();
     law_waiting_has_no_slot();
     law_decoding_is_unique();
     law_stored_stays_over_acts();
@@ -169,8 +166,8 @@ fn law_ages()
 {
     law_ticking_agrees();
     law_steps_change_the_book();
-    law_the_book_stays_in_order();
-    law_accepted_is_preserved();
+    law_book_stays_well_formed();
+    law_well_formed_entries_stay();
     law_operations_change_what_is_due();
 }
 
@@ -182,7 +179,7 @@ fn law_looks()
     law_notes_are_set();
     law_disk_in_stays_shown();
     law_fragment_prerequisites::<Brand>();
-    law_other_ports_are_left();
+    law_other_ports_are_untouched();
     law_failures_are_found();
     law_errors_are_seen();
     law_port_events_tell();
@@ -199,8 +196,8 @@ fn law_recoveries()
 {
     law_slots_are_counted();
     law_advances_compose();
-    law_putting_is_of_one_slot();
-    law_other_ports_are_left();
+    law_setting_changes_one_slot();
+    law_other_ports_are_untouched();
     law_a_disk_is_in_where_one_shows();
     law_what_was_booted_again_may_be_served();
     law_what_was_found_still_stands();
@@ -211,7 +208,7 @@ fn law_port_errors()
     ensures { PortErrorLaws }
 {
     law_errors_are_shown();
-    law_plugging_is_found();
+    law_plug_events_are_found();
     law_undisturbed_ports_tell_nothing();
     law_disk_stays();
     law_halts_are_of_taken_commands();
@@ -246,9 +243,9 @@ pub fn law_history_prerequisites()
     law_steps_change_the_book();
     law_client_counts_agree();
     law_an_id_is_one_request();
-    law_the_book_stays_in_order();
+    law_book_stays_well_formed();
     law_operations_change_one_request();
-    law_accepted_is_preserved();
+    law_well_formed_entries_stay();
     law_answers_of_one_outcome_are_one_change();
     law_backing_composes();
     law_own_steps_are_backed();
@@ -262,17 +259,17 @@ pub fn law_history_prerequisites()
     law_calls_are_of_one_port();
     law_finding_is_followed();
     law_writing_ghc_switches_on();
-    law_other_ports_are_left();
+    law_other_ports_are_untouched();
     law_a_port_runs_on();
     law_recovery_is_of_its_port();
     law_a_boot_is_of_its_port();
     law_what_is_told_of_engines_stays();
     law_what_stands_behind_a_fault_stays();
-    law_no_disk_comes_in();
+    law_where_no_disk_comes();
     law_disks_are_told();
     law_an_idle_device_agrees();
     law_frames_are_their_clients();
     law_client_store_is_followed();
     law_client_load_is_followed();
-    law_client_bytes_are_free();
+    law_client_bytes_are_accessible();
 }

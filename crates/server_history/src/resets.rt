@@ -2,11 +2,7 @@
 ghost use Rattle.std.specs.Prelude.{List, Some};
 ghost use Rattle.ata_types.specs.declared.request.Reply.{Reply};
 ghost use Rattle.block_machine.specs.Events.{Reset, WasReset};
-ghost use Rattle.server_history.specs.ResetLaws.{ResetLaws};
-ghost use Rattle.server_history.specs.Histories.{ExtendsSettled};
-ghost use Rattle.server_history.specs.Resets.{IsReinitialized, IssuePorts, MayResolve, ResetsServer, ResolvePorts};
-ghost use Rattle.server_history.specs.ServerState.{InCallInvariant, SettledInvariant, ServerState};
-ghost use Rattle.server_history.specs.StuckServer.{ServerInvariant};
+ghost use Rattle.server_history.specs.{ResetLaws.{ResetLaws}, Histories.{ExtendsSettled}, Resets.{IsReinitialized, IssuesOnEachReadyPort, MayResolve, ResetsServer, ResolvesEachPort}, ServerState.{InCallInvariant, SettledInvariant, ServerState}, StuckServer.{ServerInvariant}};
 
 use super::prerequisites::law_history_prerequisites;
 use block_machine::laws::law_lent_frame_is_its_own;
@@ -25,13 +21,15 @@ fn law_reset_prerequisites()
 
 /// A server goes on once its adapter was taken over again and its requests were resolved; and once what is due was
 /// issued, nothing is due.
-pub fn law_a_reset_server_goes_on()
-    ensures settle { (s taken : ServerState) → ServerInvariant s → IsReinitialized s taken → MayResolve taken }
-    ensures kept { (s taken settled : ServerState) (replies : List Reply) → ServerInvariant s → IsReinitialized s taken
-        → ResolvePorts 0 taken.ports replies taken settled → InCallInvariant settled }
-    ensures settled { (s taken settled new : ServerState) (replies : List Reply) → ServerInvariant s
+pub fn law_reset_leads_to_settled()
+    ensures may_resolve { (s taken : ServerState) → ServerInvariant s → IsReinitialized s taken → MayResolve taken }
+    ensures resolved_has_invariant { (s taken settled : ServerState) (replies : List Reply) → ServerInvariant s
         → IsReinitialized s taken
-        → ResolvePorts 0 taken.ports replies taken settled → IssuePorts 0 taken.ports settled new
+        → ResolvesEachPort 0 taken.probe_results replies taken settled → InCallInvariant settled }
+    ensures issued_is_settled { (s taken settled new : ServerState) (replies : List Reply) → ServerInvariant s
+        → IsReinitialized s taken
+        → ResolvesEachPort 0 taken.probe_results replies taken settled
+        → IssuesOnEachReadyPort 0 taken.probe_results settled new
         → SettledInvariant new }
 {
     law_reset_prerequisites();

@@ -5,12 +5,12 @@ use Rattle.slots.specs.declared.SlotUse.{SlotUse}
 
 -- how many slots are usable, and what each of the 32 is used for
 pub record PortSlots : Type 0 where
-  pub usable : ℕ
-  pub places : List (Option SlotUse)
+  pub usable_count : ℕ
+  pub slot_uses : List (Option SlotUse)
 
 -- what the slot is used for; a slot past the 32 for nothing
 abbrev pub use_at : PortSlots → ℕ → Option SlotUse
-use_at uses slot = slice_index_or uses.places slot None
+use_at uses slot = slice_index_or uses.slot_uses slot None
 
 -- the slot is taken
 abbrev pub IsTaken : PortSlots → ℕ → Type 0
@@ -18,11 +18,11 @@ IsTaken uses slot = IsSome (use_at uses slot)
 
 -- the uses with this one of the slot
 abbrev pub with_use : PortSlots → ℕ → Option SlotUse → PortSlots
-with_use uses slot used = record uses { places = slice_set uses.places slot used }
+with_use uses slot used = record uses { slot_uses = slice_set uses.slot_uses slot used }
 
 -- the lowest usable slot that isn't taken
 abbrev pub IsLowestFree : PortSlots → ℕ → Type 0
-IsLowestFree uses slot = (slot < uses.usable) × (use_at uses slot ≡ None) × ((k : ℕ) → k < slot → IsTaken uses k)
+IsLowestFree uses slot = (slot < uses.usable_count) × (use_at uses slot ≡ None) × ((k : ℕ) → k < slot → IsTaken uses k)
 
 -- the bit isn't set, and each below it is
 abbrev pub IsLowestClear : ℕ → ℕ → Type 0
@@ -40,7 +40,7 @@ pub record HasLeastIdOf (places : List (Option SlotUse)) (mask slot : ℕ) : Typ
 
 -- the same of the slots of a port
 abbrev pub HasLeastId : PortSlots → ℕ → ℕ → Type 0
-HasLeastId uses mask slot = HasLeastIdOf uses.places mask slot
+HasLeastId uses mask slot = HasLeastIdOf uses.slot_uses mask slot
 
 -- it has the bits of the slots that are used for something, and no other
 abbrev pub IsTakenMask : List (Option SlotUse) → ℕ → Type 0

@@ -4,9 +4,8 @@
 //! It knows no register.
 #![tactic(auto)]
 
-ghost use Rattle.std.specs.Prelude.{◌≡◌, ◌↔◌, ℕ, ◌<◌, ◌≤◌, length, IfSome, IfNone, Some, None, IsSome, true, slice_index_or};
+ghost use Rattle.std.specs.{Prelude.{◌≡◌, ◌↔◌, ℕ, ◌<◌, ◌≤◌, length, IfSome, IfNone, Some, None, IsSome, true, slice_index_or}, Int.{bit_at}};
 ghost use Rattle.slots.specs.SlotUses.{HasLeastId, HasLeastIdOf, IsTaken, IsLowestClear, IsLowestFree, use_at, with_use};
-ghost use Rattle.std.specs.Int.{bit_at};
 
 use ata_types::{RequestId, SLOTS, Slot};
 use std::marker::Model;
@@ -34,7 +33,7 @@ impl Model for Slots {
 
     ghost Value = { PortSlots };
 
-    ghost view = { λ s. record { usable = s.usable; places = s.places } };
+    ghost view = { λ s. record { usable_count = s.usable; slot_uses = s.places } };
 
     ghost invariant = { λ s. (s.usable ≤ 32) × (length s.places ≡ 32) × IsTakenMask s.places s.taken };
 }
@@ -43,7 +42,7 @@ impl Slots {
     /// Slots of which none is taken; `usable` of them, 32 at most, may be.
     pub fn new(usable: u8) -> Self
         requires { usable ≤ 32 }
-        ensures usable { result.usable ≡ usable }
+        ensures usable { result.usable_count ≡ usable }
         ensures free { (slot : ℕ) → use_at result slot ≡ None }
     {
         Slots {
@@ -59,8 +58,8 @@ impl Slots {
         ensures lowest { IfSome result (λ slot. IsLowestFree self.old slot.0) }
         ensures taken { IfSome result
             (λ slot. self.new ≡ with_use self.old slot.0 (Some (record { id = id; queued = queued }))) }
-        ensures full { IfNone result ((slot : ℕ) → slot < self.old.usable → IsTaken self.old slot) }
-        ensures none { IfNone result (self.new ≡ self.old) }
+        ensures all_are_allocated { IfNone result ((slot : ℕ) → slot < self.old.usable_count → IsTaken self.old slot) }
+        ensures unchanged { IfNone result (self.new ≡ self.old) }
     {
         let Some(place) = lowest_free(self.taken, self.usable) else {
             return None;
@@ -73,7 +72,7 @@ impl Slots {
     /// Frees a slot, and tells what it was used for.
     pub fn free(&mut self, slot: Slot) -> Option<SlotUse>
         requires { slot.0 < 32 }
-        ensures was { result ≡ use_at self.old slot.0 }
+        ensures previous_use { result ≡ use_at self.old slot.0 }
         ensures freed { self.new ≡ with_use self.old slot.0 None }
     {
         let used = self.places[slot.0 as usize];
@@ -103,7 +102,8 @@ impl Slots {
     /// there is none.
     pub fn earliest(&self, mask: u32) -> Option<Slot>
         ensures found { IfSome result (λ slot. HasLeastId self.now mask slot.0) }
-        ensures none { IfNone result ((slot : ℕ) → slot < 32 → bit_at mask slot ≡ 1 → use_at self.now slot ≡ None) }
+        ensures no_such_slot { IfNone result ((slot : ℕ) → slot < 32 → bit_at mask slot ≡ 1
+            → use_at self.now slot ≡ None) }
     {
         let place = earliest_of(&self.places, mask & self.taken)?;
         Some(Slot(place))
@@ -111,8 +111,8 @@ impl Slots {
 
     /// How many slots may be used.
     pub fn usable(&self) -> u8
-        ensures value { result ≡ self.now.usable }
-        ensures few { result ≤ 32 }
+        ensures value { result ≡ self.now.usable_count }
+        ensures count_is_allowed { result ≤ 32 }
     {
         self.usable
     }

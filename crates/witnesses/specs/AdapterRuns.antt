@@ -1,6 +1,6 @@
 -- Runs of an adapter with its driver: accesses that keep to the rules, and steps of the device (this project's own).
 use Rattle.std.specs.Prelude.{ℕ, Bool, true, false, ◌++◌, ◌≡◌, List, [], ◌∷◌, Some, length}
-use Rattle.adapter.specs.Access.{Access, Shows, noted, written}
+use Rattle.adapter.specs.Access.{Access, Shows, device_after_reading, device_after_write}
 use Rattle.adapter.specs.Access.Access.{Reading, Writing, Loading, Storing}
 use Rattle.adapter.specs.Commands.{is_queued}
 use Rattle.adapter.specs.Device.{FetchedCommand, DevicePort, Device}
@@ -16,50 +16,50 @@ use Rattle.adapter.specs.Steps.DeviceTransition.{Fetch as Fetching, FetchFault a
 
 -- an access of the driver, or a step of the device
 pub data AccessOrStep : Type 0 where
-  Made : Access → AccessOrStep
-  Came : DeviceTransition → AccessOrStep
+  MadeAccess : Access → AccessOrStep
+  DeviceStepCame : DeviceTransition → AccessOrStep
 
 -- the access keeps to the rules in the state in which it is made, and what it gives is what is there
-abbrev pub IsAllowedEvent : Access → Device → Type 0
-IsAllowedEvent (Reading r v) d = MayRead r d × Shows r v d
-IsAllowedEvent (Writing r v) d = MayWrite r v d
-IsAllowedEvent (Loading at bytes) d = IsUnowned at (length bytes) d × (bytes ≡ bytes_at d.memory at (length bytes))
-IsAllowedEvent (Storing at bytes) d = IsUnowned at (length bytes) d
+abbrev pub IsAllowedInState : Access → Device → Type 0
+IsAllowedInState (Reading r v) d = MayRead r d × Shows r v d
+IsAllowedInState (Writing r v) d = MayWrite r v d
+IsAllowedInState (Loading at bytes) d = IsUnowned at (length bytes) d × (bytes ≡ bytes_at d.memory at (length bytes))
+IsAllowedInState (Storing at bytes) d = IsUnowned at (length bytes) d
 
 abbrev pub after_access : Access → Device → Device
-after_access (Reading r v) d = noted r v d
-after_access (Writing r v) d = written r v d
+after_access (Reading r v) d = device_after_reading r v d
+after_access (Writing r v) d = device_after_write r v d
 after_access (Loading at bytes) d = d
 after_access (Storing at bytes) d = record d { memory = patched d.memory at bytes }
 
 abbrev pub MayCome : AccessOrStep → Device → Type 0
-MayCome (Made access) d = IsAllowedEvent access d
-MayCome (Came step) d = Can step d
+MayCome (MadeAccess access) d = IsAllowedInState access d
+MayCome (DeviceStepCame step) d = Can step d
 
-abbrev pub after_event : AccessOrStep → Device → Device
-after_event (Made access) d = after_access access d
-after_event (Came step) d = device_after step d
+abbrev pub after_access_or_step : AccessOrStep → Device → Device
+after_access_or_step (MadeAccess access) d = after_access access d
+after_access_or_step (DeviceStepCame step) d = device_after step d
 
 -- what events, the first of them first, lead to, and that each of them may come where it does
-abbrev pub device_after_events : List AccessOrStep → Device → Device
-device_after_events [] d = d
-device_after_events (event ∷ events) d = device_after_events events (after_event event d)
+abbrev pub device_after_run : List AccessOrStep → Device → Device
+device_after_run [] d = d
+device_after_run (event ∷ events) d = device_after_run events (after_access_or_step event d)
 
 abbrev pub AllMayCome : List AccessOrStep → Device → Type 0
 AllMayCome [] d = Unit {0}
-AllMayCome (event ∷ events) d = MayCome event d × AllMayCome events (after_event event d)
+AllMayCome (event ∷ events) d = MayCome event d × AllMayCome events (after_access_or_step event d)
 
 -- A port as a reset of the adapter leaves it, with a disk in it or without: no link is due, nothing halts it, and
 -- nothing was programmed, set or read yet (AHCI 1.3.1, 10.4.3).
 pub record IsAsReset (p : DevicePort) : Type 0 where
-  pub bases : p.bases ≡ empty_port.bases
-  pub control : p.sctl_det ≡ 0
-  pub link : p.ssts_det ≡ 0
-  pub due : p.link_due ≡ false
-  pub fresh : p.fresh ≡ false
-  pub halt : p.halt ≡ NotHalted
-  pub broken : p.broken ≡ false
-  pub notes : p.notes ≡ no_notes
+  pub bases_are_unprogrammed : p.bases ≡ empty_port.bases
+  pub sctl_det_is_zero : p.sctl_det ≡ 0
+  pub ssts_det_is_zero : p.ssts_det ≡ 0
+  pub no_link_is_due : p.link_due ≡ false
+  pub is_not_fresh : p.fresh ≡ false
+  pub is_not_halted : p.halt ≡ NotHalted
+  pub is_not_broken : p.broken ≡ false
+  pub nothing_is_noted : p.notes ≡ no_notes
 
 -- An idle adapter that is switched off, handed over to its driver as after a reset, has come to this state.
 pub record IsReachableByRun (d : Device) : Type 0 where
@@ -67,16 +67,16 @@ pub record IsReachableByRun (d : Device) : Type 0 where
   pub starts_idle : IsIdle initial_device
   pub is_off : initial_device.ae ≡ false
   pub ports_are_as_reset : (port : ℕ) → IsAsReset (initial_device.port port)
-  pub is_sane : HoldsBytesAndTellsDisks initial_device
+  pub holds_bytes_and_tells_disks : HoldsBytesAndTellsDisks initial_device
   pub events : List AccessOrStep
   pub events_may_come : AllMayCome events initial_device
-  pub device_is : d ≡ device_after_events events initial_device
+  pub device_is : d ≡ device_after_run events initial_device
 
 -- Its commands stand on bytes that no step of the device changes.
 pub record CommandsAreSafe (d : Device) : Type 0 where
   pub tables : ℕ → Bool
-  pub kept : ℕ → Bool
-  pub guarded : IsGuarded (PassesTest tables) (PassesTest kept) d
+  pub kept_addresses : ℕ → Bool
+  pub guarded : IsGuarded (PassesTest tables) (PassesTest kept_addresses) d
 
 -- ---- the kinds of steps
 
@@ -100,16 +100,16 @@ kind_of EndingReset = ResetEnds
 kind_of (Scribbling port slot at bytes) = Scribble
 
 -- a step of the kind can come, in a state that an idle adapter comes to
-pub record StepComes (kind : TransitionKind) : Type 0 where
+pub record StepCanCome (kind : TransitionKind) : Type 0 where
   pub device : Device
   pub reached : IsReachableByRun device
   pub step : DeviceTransition
   pub kind_is : kind_of step ≡ kind
-  pub can : Can step device
+  pub step_can_come : Can step device
 
 -- the same in a state in which the commands are safe
 pub record ComesSafely (kind : TransitionKind) : Type 0 where
-  pub comes : StepComes kind
+  pub comes : StepCanCome kind
   pub safe : CommandsAreSafe comes.device
 
 -- ---- what runs come to
@@ -119,12 +119,13 @@ pub record SecondEndsFirst : Type 0 where
   pub device : Device
   pub reached : IsReachableByRun device
   pub safe : CommandsAreSafe device
-  pub one : FetchedCommand
-  pub other : FetchedCommand
-  pub queued : (is_queued one.meaning.operation ≡ true) × (is_queued other.meaning.operation ≡ true)
-  pub taken : (device.port 0).taken 0 ≡ Some one
-  pub ends : Can (Ending 0 1 3 other) device
-  pub stays : ((device_after (Ending 0 1 3 other) device).port 0).taken 0 ≡ Some one
+  pub first_command : FetchedCommand
+  pub second_command : FetchedCommand
+  pub both_are_queued : (is_queued first_command.meaning.operation ≡ true)
+      × (is_queued second_command.meaning.operation ≡ true)
+  pub first_is_taken : (device.port 0).taken 0 ≡ Some first_command
+  pub second_may_end : Can (Ending 0 1 3 second_command) device
+  pub first_stays_taken : ((device_after (Ending 0 1 3 second_command) device).port 0).taken 0 ≡ Some first_command
 
 -- Two queued commands are taken, in slots 0 and 1, and the first of them has failed.
 pub record FirstHasFailed : Type 0 where
@@ -133,18 +134,18 @@ pub record FirstHasFailed : Type 0 where
   pub safe : CommandsAreSafe device
   pub one : FetchedCommand
   pub other : FetchedCommand
-  pub queued : (is_queued one.meaning.operation ≡ true) × (is_queued other.meaning.operation ≡ true)
-  pub failed : (device.port 0).taken 0 ≡ Some one
-  pub beside : (device.port 0).taken 1 ≡ Some other
+  pub both_are_queued : (is_queued one.meaning.operation ≡ true) × (is_queued other.meaning.operation ≡ true)
+  pub failed_is_taken : (device.port 0).taken 0 ≡ Some one
+  pub other_is_taken : (device.port 0).taken 1 ≡ Some other
   pub halted : (device.port 0).halt ≡ HaltedQueued
-  pub told : (device.port 0).is 30 ≡ true
-  pub entry : (before : List Entry) × (device.tape ≡ before ++ fault_entry 0 0 0x40 0 ∷ [])
+  pub tfes_is_set : (device.port 0).is 30 ≡ true
+  pub fault_is_on_tape : (before : List Entry) × (device.tape ≡ before ++ fault_entry 0 0 0x40 0 ∷ [])
 
 -- A reset of the adapter is pending, and two ports have commands in use.
 pub record IsBeingReset : Type 0 where
   pub device : Device
   pub reached : IsReachableByRun device
   pub safe : CommandsAreSafe device
-  pub pending : device.hr ≡ true
+  pub reset_is_pending : device.hr ≡ true
   pub first_used : InUse (device.port 0) 0
   pub second_used : InUse (device.port 1) 0

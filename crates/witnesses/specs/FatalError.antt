@@ -17,7 +17,7 @@ use Rattle.adapter.specs.declared.access.DeviceStep.TheVariants.{Fatal}
 use Rattle.adapter.specs.declared.access.FatalError.TheVariants.{Interface}
 use Rattle.refinement.specs.Relation.{port_at}
 use Rattle.refinement.specs.ReadWitness.{first_id}
-use Rattle.block_machine.specs.Events.{Submit, Service, Device as Told, Submitted, Served, Stepped}
+use Rattle.block_machine.specs.Events.{Submit, Service, StepDevice as Told, Submitted, Replied, Stepped}
 use Rattle.block_machine.specs.Histories.{JointState, JointEvent, joint_state_after}
 use Rattle.block_machine.specs.Ports.{Evidence}
 use Rattle.identify.specs.declared.wanted.Wanted.TheVariants.{Any}
@@ -47,23 +47,26 @@ pub record FatalErrorIsAHistory : Type 0 where
   pub initial_state : JointState Device
   pub submit : JointEvent Device DeviceStep
   pub asked : Request
-  pub reads : asked.op ≡ Read
-  pub submits : (submit.event.ask ≡ Submit asked) × (submit.event.said ≡ Submitted (Ok first_id))
-  pub told : JointEvent Device DeviceStep
-  pub tells : (told.event.ask ≡ Told (Fatal (port_at 0) Interface)) × (told.event.said ≡ Stepped true)
-  pub shows : ShowsFatal (told.device.port 0)
-  pub ready : told.event.ports.state (port_at 0) ≡ Ready
+  pub asked_is_read : asked.op ≡ Read
+  pub submits : (submit.event.call ≡ Submit asked) × (submit.event.result ≡ Submitted (Ok first_id))
+  pub fatal_step : JointEvent Device DeviceStep
+  pub device_is_told : (fatal_step.event.call ≡ Told (Fatal (port_at 0) Interface))
+      × (fatal_step.event.result ≡ Stepped true)
+  pub shows : ShowsFatal (fatal_step.device.port 0)
+  pub ready : fatal_step.event.ports.state (port_at 0) ≡ Ready
   pub service : JointEvent Device DeviceStep
-  pub asks_for_service : (service.event.ask ≡ Service)
-      × (service.event.said ≡ Served (record { id = first_id; client = asked.client; outcome = Unplugged } ∷ []))
+  pub asks_for_service : (service.event.call ≡ Service)
+      × (service.event.result ≡ Replied (record { id = first_id; client = asked.client; outcome = Unplugged } ∷ []))
   pub evidence : service.event.evidence ≡ fatal_evidence
   pub unfit : service.event.ports.state (port_at 0) ≡ Unfit 8
-  pub does : DoesAll fatal_accesses told.device service.device
-  pub allowed : AreAllowed fatal_accesses told.device service.device does
-  pub history : IsDriverHistory (Any ∷ Any ∷ []) initial_state (service ∷ told ∷ submit ∷ [])
+  pub service_makes_accesses : DoesAll fatal_accesses fatal_step.device service.device
+  pub accesses_are_allowed : AreAllowed fatal_accesses fatal_step.device service.device service_makes_accesses
+  pub history : IsDriverHistory (Any ∷ Any ∷ []) initial_state (service ∷ fatal_step ∷ submit ∷ [])
   pub accesses : history.2.accesses ≡ fatal_accesses
-  pub submit_parts : (port : Port) → PortCorresponds initial_state submit history.0.0.2.accesses port
-  pub told_parts : (port : Port) → PortCorresponds (joint_state_after initial_state (submit ∷ [])) told
+  pub submit_corresponds : (port : Port) → PortCorresponds initial_state submit history.0.0.2.accesses port
+  pub fatal_step_corresponds : (port : Port)
+      → PortCorresponds (joint_state_after initial_state (submit ∷ [])) fatal_step
       history.0.2.accesses port
-  pub service_parts : (port : Port) → PortCorresponds (joint_state_after initial_state (told ∷ submit ∷ [])) service
+  pub service_corresponds : (port : Port)
+      → PortCorresponds (joint_state_after initial_state (fatal_step ∷ submit ∷ [])) service
       history.2.accesses port

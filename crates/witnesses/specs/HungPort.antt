@@ -12,7 +12,7 @@ use Rattle.adapter.specs.declared.access.DeviceStep.{DeviceStep}
 use Rattle.refinement.specs.Relation.{port_at}
 use Rattle.refinement.specs.PortFacts.{RunsWell}
 use Rattle.refinement.specs.ReadWitness.{first_id}
-use Rattle.block_machine.specs.Events.{Submit, Tick, Submitted, Served, HasTimedOut}
+use Rattle.block_machine.specs.Events.{Submit, Tick, Submitted, Replied, TimesOutAtTick}
 use Rattle.block_machine.specs.Histories.{JointState, JointEvent, joint_state_after}
 use Rattle.identify.specs.declared.wanted.Wanted.TheVariants.{Any}
 use Rattle.driver_history.specs.Histories.{IsDriverHistory, PortCorresponds}
@@ -20,8 +20,8 @@ use Rattle.witnesses.specs.AllowedAccesses.{AreAllowed}
 use Rattle.witnesses.specs.Restart.{restart_evidence, restart_accesses}
 
 -- the tick answers nothing
-abbrev pub TellsNothing : JointEvent Device DeviceStep → Type 0
-TellsNothing tick = (tick.event.ask ≡ Tick) × (tick.event.said ≡ Served [])
+abbrev pub IsTickWithoutReplies : JointEvent Device DeviceStep → Type 0
+IsTickWithoutReplies tick = (tick.event.call ≡ Tick) × (tick.event.result ≡ Replied [])
 
 -- A read of port 0 is accepted and issued, and the device never takes it, though the port runs well and shows no
 -- trouble. Two ticks make no access, since no port is hung when they begin. When the third one begins, port 0 is, and
@@ -32,32 +32,39 @@ pub record HungPortIsAHistory : Type 0 where
   pub initial_state : JointState Device
   pub submit : JointEvent Device DeviceStep
   pub asked : Request
-  pub reads : asked.op ≡ Read
-  pub submits : (submit.event.ask ≡ Submit asked) × (submit.event.said ≡ Submitted (Ok first_id))
-  pub tick : JointEvent Device DeviceStep
-  pub ticks : TellsNothing tick
-  pub young : (port : Port) → HasTimedOut (joint_state_after initial_state (submit ∷ [])).abstract port → ⊥
-  pub second : JointEvent Device DeviceStep
-  pub ticks_again : TellsNothing second
-  pub young_then : (port : Port) → HasTimedOut (joint_state_after initial_state (tick ∷ submit ∷ [])).abstract port → ⊥
-  pub ready : second.event.ports.state (port_at 0) ≡ Ready
-  pub port_runs_well : RunsWell (second.device.port 0)
-  pub hung : HasTimedOut (joint_state_after initial_state (second ∷ tick ∷ submit ∷ [])).abstract (port_at 0)
-  pub alone : (port : Port) → HasTimedOut (joint_state_after initial_state (second ∷ tick ∷ submit ∷ [])).abstract port
+  pub asked_is_read : asked.op ≡ Read
+  pub submits : (submit.event.call ≡ Submit asked) × (submit.event.result ≡ Submitted (Ok first_id))
+  pub first_tick : JointEvent Device DeviceStep
+  pub first_tick_is_silent : IsTickWithoutReplies first_tick
+  pub none_timed_out_at_first : (port : Port)
+      → TimesOutAtTick (joint_state_after initial_state (submit ∷ [])).abstract port → ⊥
+  pub second_tick : JointEvent Device DeviceStep
+  pub second_tick_is_silent : IsTickWithoutReplies second_tick
+  pub none_timed_out_at_second : (port : Port)
+      → TimesOutAtTick (joint_state_after initial_state (first_tick ∷ submit ∷ [])).abstract port → ⊥
+  pub ready : second_tick.event.ports.state (port_at 0) ≡ Ready
+  pub port_runs_well : RunsWell (second_tick.device.port 0)
+  pub port_0_has_timed_out : TimesOutAtTick
+      (joint_state_after initial_state (second_tick ∷ first_tick ∷ submit ∷ [])).abstract (port_at 0)
+  pub only_port_0_has_timed_out : (port : Port)
+      → TimesOutAtTick (joint_state_after initial_state (second_tick ∷ first_tick ∷ submit ∷ [])).abstract port
       → port ≡ port_at 0
-  pub restart : JointEvent Device DeviceStep
-  pub restarts : (restart.event.ask ≡ Tick)
-      × (restart.event.said ≡ Served (record { id = first_id; client = asked.client; outcome = Unplugged } ∷ []))
-  pub evidence : restart.event.evidence ≡ restart_evidence []
-  pub unfit : restart.event.ports.state (port_at 0) ≡ Unfit 8
-  pub does : DoesAll restart_accesses second.device restart.device
-  pub allowed : AreAllowed restart_accesses second.device restart.device does
-  pub history : IsDriverHistory (Any ∷ Any ∷ []) initial_state (restart ∷ second ∷ tick ∷ submit ∷ [])
+  pub third_tick : JointEvent Device DeviceStep
+  pub third_tick_tells_unplugged : (third_tick.event.call ≡ Tick)
+      × (third_tick.event.result ≡ Replied (record { id = first_id; client = asked.client; outcome = Unplugged } ∷ []))
+  pub evidence : third_tick.event.evidence ≡ restart_evidence []
+  pub unfit : third_tick.event.ports.state (port_at 0) ≡ Unfit 8
+  pub third_tick_makes_accesses : DoesAll restart_accesses second_tick.device third_tick.device
+  pub accesses_are_allowed : AreAllowed restart_accesses second_tick.device third_tick.device third_tick_makes_accesses
+  pub history : IsDriverHistory (Any ∷ Any ∷ []) initial_state (third_tick ∷ second_tick ∷ first_tick ∷ submit ∷ [])
   pub accesses : (history.0.0.2.accesses ≡ []) × (history.0.2.accesses ≡ []) × (history.2.accesses ≡ restart_accesses)
-  pub submit_parts : (port : Port) → PortCorresponds initial_state submit history.0.0.0.2.accesses port
-  pub tick_parts : (port : Port) → PortCorresponds (joint_state_after initial_state (submit ∷ [])) tick
+  pub submit_corresponds : (port : Port) → PortCorresponds initial_state submit history.0.0.0.2.accesses port
+  pub first_tick_corresponds : (port : Port)
+      → PortCorresponds (joint_state_after initial_state (submit ∷ [])) first_tick
       history.0.0.2.accesses port
-  pub second_parts : (port : Port) → PortCorresponds (joint_state_after initial_state (tick ∷ submit ∷ [])) second
+  pub second_tick_corresponds : (port : Port)
+      → PortCorresponds (joint_state_after initial_state (first_tick ∷ submit ∷ [])) second_tick
       history.0.2.accesses port
-  pub restart_parts : (port : Port)
-      → PortCorresponds (joint_state_after initial_state (second ∷ tick ∷ submit ∷ [])) restart history.2.accesses port
+  pub third_tick_corresponds : (port : Port)
+      → PortCorresponds (joint_state_after initial_state (second_tick ∷ first_tick ∷ submit ∷ [])) third_tick
+      history.2.accesses port

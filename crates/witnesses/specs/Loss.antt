@@ -14,7 +14,7 @@ use Rattle.adapter.specs.Device.{Device}
 use Rattle.adapter.specs.declared.access.DeviceStep.{DeviceStep}
 use Rattle.refinement.specs.Relation.{port_at}
 use Rattle.refinement.specs.ReadWitness.{first_id}
-use Rattle.block_machine.specs.Events.{Submit, Service, Submitted, Served}
+use Rattle.block_machine.specs.Events.{Submit, Service, Submitted, Replied}
 use Rattle.block_machine.specs.Histories.{JointState, JointEvent, joint_state_after}
 use Rattle.block_machine.specs.Ports.{Evidence}
 use Rattle.identify.specs.declared.wanted.Wanted.TheVariants.{Any}
@@ -38,8 +38,8 @@ loss_evidence = record {
   faults = [];
   lost = port_at 1 ∷ [];
   link_changed = port_at 1 ∷ [];
-  failed = [];
-  fatal = [];
+  showing_error = [];
+  showing_fatal_error = [];
   stopped = port_at 1 ∷ [];
   stuck = [];
 }
@@ -54,22 +54,22 @@ pub record LossIsAHistory : Type 0 where
       × (initial_state.abstract.ports.state (port_at 1) ≡ Ready)
   pub submit : JointEvent Device DeviceStep
   pub asked : Request
-  pub reads : asked.op ≡ Read
-  pub submits : (submit.event.ask ≡ Submit asked) × (submit.event.said ≡ Submitted (Ok first_id))
+  pub asked_is_read : asked.op ≡ Read
+  pub submits : (submit.event.call ≡ Submit asked) × (submit.event.result ≡ Submitted (Ok first_id))
   pub service : JointEvent Device DeviceStep
-  pub asks_for_service : (service.event.ask ≡ Service)
-      × (service.event.said ≡ Served (record { id = first_id; client = asked.client; outcome = outcome.Ok } ∷ []))
+  pub asks_for_service : (service.event.call ≡ Service)
+      × (service.event.result ≡ Replied (record { id = first_id; client = asked.client; outcome = outcome.Ok } ∷ []))
   pub between : Device
-  pub finding : DoesAll completing_turn submit.device between
-  pub finding_allowed : AreAllowed completing_turn submit.device between finding
-  pub in_then : (between.port 1).present ≡ true
-  pub losing : DoesAll losing_turn between service.device
-  pub losing_allowed : AreAllowed losing_turn between service.device losing
+  pub completing_turn_is_made : DoesAll completing_turn submit.device between
+  pub completing_turn_is_allowed : AreAllowed completing_turn submit.device between completing_turn_is_made
+  pub disk_1_is_in_between : (between.port 1).present ≡ true
+  pub losing_turn_is_made : DoesAll losing_turn between service.device
+  pub losing_turn_is_allowed : AreAllowed losing_turn between service.device losing_turn_is_made
   pub evidence : service.event.evidence ≡ loss_evidence
-  pub still : service.event.ports.state (port_at 0) ≡ Ready
-  pub absent : service.event.ports.state (port_at 1) ≡ Absent
+  pub port_0_stays_ready : service.event.ports.state (port_at 0) ≡ Ready
+  pub port_1_becomes_absent : service.event.ports.state (port_at 1) ≡ Absent
   pub history : IsDriverHistory (Any ∷ Any ∷ []) initial_state (service ∷ submit ∷ [])
-  pub turns : history.2.accesses ≡ completing_turn ++ losing_turn
-  pub submit_parts : (port : Port) → PortCorresponds initial_state submit history.0.2.accesses port
-  pub service_parts : (port : Port) → PortCorresponds (joint_state_after initial_state (submit ∷ [])) service
+  pub accesses_are : history.2.accesses ≡ completing_turn ++ losing_turn
+  pub submit_corresponds : (port : Port) → PortCorresponds initial_state submit history.0.2.accesses port
+  pub service_corresponds : (port : Port) → PortCorresponds (joint_state_after initial_state (submit ∷ [])) service
       history.2.accesses port

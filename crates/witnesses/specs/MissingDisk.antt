@@ -10,7 +10,7 @@ use Rattle.adapter.specs.Device.{Device}
 use Rattle.adapter.specs.declared.access.DeviceStep.{DeviceStep}
 use Rattle.adapter.specs.declared.access.DeviceStep.TheVariants as asked
 use Rattle.refinement.specs.Relation.{port_at}
-use Rattle.block_machine.specs.Events.{Device as Told, Service, Stepped, Served}
+use Rattle.block_machine.specs.Events.{StepDevice as Told, Service, Stepped, Replied}
 use Rattle.block_machine.specs.Histories.{JointState, JointEvent, joint_state_after}
 use Rattle.identify.specs.declared.wanted.Wanted.TheVariants.{Any}
 use Rattle.driver_history.specs.Histories.{IsDriverHistory, PortCorresponds}
@@ -35,20 +35,22 @@ unfit_look_accesses = Reading (Px (port_at 1) Is) 0 ∷ Reading (Px (port_at 1) 
 pub record MissingDiskIsAHistory : Type 0 where
   pub initial_state : JointState Device
   pub past : List (JointEvent Device DeviceStep)
-  pub unfit : ((joint_state_after initial_state past).abstract.ports.state (port_at 0) ≡ Unfit 8)
+  pub both_are_unfit : ((joint_state_after initial_state past).abstract.ports.state (port_at 0) ≡ Unfit 8)
       × ((joint_state_after initial_state past).abstract.ports.state (port_at 1) ≡ Unfit 8)
   pub unplug : JointEvent Device DeviceStep
-  pub disk_is_unplugged : (unplug.event.ask ≡ Told (asked.Unplug (port_at 0))) × (unplug.event.said ≡ Stepped true)
-  pub unseen : unplug.event.ports.state (port_at 0) ≡ Unfit 8
+  pub disk_is_unplugged : (unplug.event.call ≡ Told (asked.Unplug (port_at 0))) × (unplug.event.result ≡ Stepped true)
+  pub port_0_shows_unfit_still : unplug.event.ports.state (port_at 0) ≡ Unfit 8
   pub service : JointEvent Device DeviceStep
-  pub asks_for_service : (service.event.ask ≡ Service) × (service.event.said ≡ Served [])
-  pub absent : service.event.ports.state (port_at 0) ≡ Absent
-  pub stays : service.event.ports.state (port_at 1) ≡ Unfit 8
-  pub does : DoesAll (missing_look_accesses ++ unfit_look_accesses) unplug.device service.device
-  pub allowed : AreAllowed (missing_look_accesses ++ unfit_look_accesses) unplug.device service.device does
+  pub asks_for_service : (service.event.call ≡ Service) × (service.event.result ≡ Replied [])
+  pub port_0_becomes_absent : service.event.ports.state (port_at 0) ≡ Absent
+  pub port_1_stays_unfit : service.event.ports.state (port_at 1) ≡ Unfit 8
+  pub service_makes_accesses : DoesAll (missing_look_accesses ++ unfit_look_accesses) unplug.device service.device
+  pub accesses_are_allowed : AreAllowed (missing_look_accesses ++ unfit_look_accesses) unplug.device service.device
+      service_makes_accesses
   pub history : IsDriverHistory (Any ∷ Any ∷ []) initial_state (service ∷ unplug ∷ past)
   pub accesses : history.2.accesses ≡ missing_look_accesses ++ unfit_look_accesses
-  pub unplug_parts : (port : Port) → PortCorresponds (joint_state_after initial_state past) unplug history.0.2.accesses
+  pub unplug_corresponds : (port : Port)
+      → PortCorresponds (joint_state_after initial_state past) unplug history.0.2.accesses
       port
-  pub service_parts : (port : Port) → PortCorresponds (joint_state_after initial_state (unplug ∷ past)) service
+  pub service_corresponds : (port : Port) → PortCorresponds (joint_state_after initial_state (unplug ∷ past)) service
       history.2.accesses port

@@ -9,10 +9,10 @@ use Rattle.driver_history.specs.Histories.{IsDriverHistory}
 use Rattle.witnesses.specs.RunningAdapter.{fit_page, page_entry}
 
 -- Any disk is wanted in ports 0 and 1. Both are ready, and the pages of their disks stand on the tape.
-pub record ReadyPortHasBegun : Type 0 where
+pub record HistoryBeginsReady : Type 0 where
   pub initial_state : JointState Device
   pub ready : (initial_state.abstract.ports.state (port_at 0) ≡ Ready)
       × (initial_state.abstract.ports.state (port_at 1) ≡ Ready)
-  pub asked : Contains initial_state.device.tape (page_entry fit_page 0)
+  pub pages_are_on_tape : Contains initial_state.device.tape (page_entry fit_page 0)
       × Contains initial_state.device.tape (page_entry fit_page 1)
-  pub begun : IsDriverHistory (Any ∷ Any ∷ []) initial_state []
+  pub history_begins : IsDriverHistory (Any ∷ Any ∷ []) initial_state []

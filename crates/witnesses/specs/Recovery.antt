@@ -15,7 +15,7 @@ use Rattle.adapter.specs.Device.{Device}
 use Rattle.adapter.specs.declared.access.DeviceStep.{DeviceStep}
 use Rattle.refinement.specs.Relation.{port_at}
 use Rattle.refinement.specs.ReadWitness.{first_id}
-use Rattle.block_machine.specs.Events.{Submit, Service, Submitted, Served}
+use Rattle.block_machine.specs.Events.{Submit, Service, Submitted, Replied}
 use Rattle.block_machine.specs.Histories.{JointState, JointEvent, joint_state_after}
 use Rattle.block_machine.specs.Ports.{RequestFault, Evidence}
 use Rattle.identify.specs.declared.wanted.Wanted.TheVariants.{Any}
@@ -40,8 +40,8 @@ fault_evidence = record {
   faults = told_fault ∷ [];
   lost = [];
   link_changed = [];
-  failed = port_at 0 ∷ [];
-  fatal = [];
+  showing_error = port_at 0 ∷ [];
+  showing_fatal_error = [];
   stopped = port_at 0 ∷ [];
   stuck = [];
 }
@@ -53,20 +53,24 @@ pub record RecoveryIsAHistory : Type 0 where
   pub initial_state : JointState Device
   pub submit : JointEvent Device DeviceStep
   pub asked : Request
-  pub reads : asked.op ≡ Read
-  pub submits : (submit.event.ask ≡ Submit asked) × (submit.event.said ≡ Submitted (Ok first_id))
+  pub asked_is_read : asked.op ≡ Read
+  pub submits : (submit.event.call ≡ Submit asked) × (submit.event.result ≡ Submitted (Ok first_id))
   pub ready : submit.event.ports.state (port_at 0) ≡ Ready
   pub service : JointEvent Device DeviceStep
-  pub asks_for_service : (service.event.ask ≡ Service)
-      × (service.event.said ≡ Served (record { id = first_id; client = asked.client; outcome = DeviceError 0x41 0x40 }
+  pub asks_for_service : (service.event.call ≡ Service)
+      × (service.event.result ≡ Replied (record {
+        id = first_id;
+        client = asked.client;
+        outcome = DeviceError 0x41 0x40;
+      }
       ∷ []))
   pub evidence : service.event.evidence ≡ fault_evidence
-  pub still : service.event.ports.state (port_at 0) ≡ Ready
+  pub port_0_stays_ready : service.event.ports.state (port_at 0) ≡ Ready
   pub port_runs_well : RunsWell (service.device.port 0)
-  pub does : DoesAll recovery_accesses submit.device service.device
-  pub allowed : AreAllowed recovery_accesses submit.device service.device does
+  pub service_makes_accesses : DoesAll recovery_accesses submit.device service.device
+  pub accesses_are_allowed : AreAllowed recovery_accesses submit.device service.device service_makes_accesses
   pub history : IsDriverHistory (Any ∷ Any ∷ []) initial_state (service ∷ submit ∷ [])
   pub accesses : history.2.accesses ≡ recovery_accesses
-  pub submit_parts : (port : Port) → PortCorresponds initial_state submit history.0.2.accesses port
-  pub service_parts : (port : Port) → PortCorresponds (joint_state_after initial_state (submit ∷ [])) service
+  pub submit_corresponds : (port : Port) → PortCorresponds initial_state submit history.0.2.accesses port
+  pub service_corresponds : (port : Port) → PortCorresponds (joint_state_after initial_state (submit ∷ [])) service
       history.2.accesses port

@@ -43,8 +43,8 @@ restart_evidence failed = record {
   faults = [];
   lost = port_at 0 ∷ [];
   link_changed = [];
-  failed = failed;
-  fatal = failed;
+  showing_error = failed;
+  showing_fatal_error = failed;
   stopped = port_at 0 ∷ [];
   stuck = [];
 }

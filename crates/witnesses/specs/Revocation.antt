@@ -19,15 +19,15 @@ pub record RevocationIsAHistory : Type 0 where
   pub initial_state : JointState Device
   pub submit : JointEvent Device DeviceStep
   pub asked : Request
-  pub submits : (submit.event.ask ≡ Submit asked) × (submit.event.said ≡ Submitted (Ok first_id))
+  pub submits : (submit.event.call ≡ Submit asked) × (submit.event.result ≡ Submitted (Ok first_id))
   pub revoke : JointEvent Device DeviceStep
-  pub revokes : (revoke.event.ask ≡ RevokeOf asked.client asked.grant) × (revoke.event.said ≡ WasRevoked (Some []))
+  pub revokes : (revoke.event.call ≡ RevokeOf asked.client asked.grant) × (revoke.event.result ≡ WasRevoked (Some []))
   pub issued : Pending
   pub book : (joint_state_after initial_state (revoke ∷ submit ∷ [])).abstract.machine.book ≡ issued ∷ []
-  pub goes_on : (issued.request.asked ≡ asked) × (issued.issued ≡ true)
-  pub gone : HasGrant (joint_state_after initial_state (revoke ∷ submit ∷ [])).abstract.machine issued → ⊥
+  pub read_stays_issued : (issued.request.asked ≡ asked) × (issued.issued ≡ true)
+  pub grant_is_gone : HasGrant (joint_state_after initial_state (revoke ∷ submit ∷ [])).abstract.machine issued → ⊥
   pub history : IsDriverHistory (Any ∷ Any ∷ []) initial_state (revoke ∷ submit ∷ [])
   pub accesses : history.2.accesses ≡ []
-  pub submit_parts : (port : Port) → PortCorresponds initial_state submit history.0.2.accesses port
-  pub revoke_parts : (port : Port) → PortCorresponds (joint_state_after initial_state (submit ∷ [])) revoke
+  pub submit_corresponds : (port : Port) → PortCorresponds initial_state submit history.0.2.accesses port
+  pub revoke_corresponds : (port : Port) → PortCorresponds (joint_state_after initial_state (submit ∷ [])) revoke
       history.2.accesses port

@@ -3,7 +3,7 @@ use Rattle.std.specs.Prelude.{ℕ, Bool, false, List, ◌∷◌, ◌++◌, repli
 use Rattle.ata_types.specs.declared.PortState as shown
 use Rattle.ata_types.specs.declared.PortState.TheVariants.{Absent}
 use Rattle.ata_types.specs.declared.limits.TheConstants.{MOST_READINGS}
-use Rattle.adapter.specs.Access.{named_causes}
+use Rattle.adapter.specs.Access.{named_causes_mask}
 use Rattle.adapter.specs.Device.{DevicePort, Device}
 use Rattle.adapter.specs.FirstRead.{first_read_device, no_notes, empty_port, reading_port}
 use Rattle.adapter.specs.Steps.{snapshot_of_bytes}
@@ -12,22 +12,22 @@ use Rattle.adapter.specs.declared.command.Operation.TheVariants.{Identify}
 use Rattle.adapter.specs.declared.tape.Entry.{Entry}
 use Rattle.adapter.specs.declared.tape.Entry.TheVariants as entry
 use Rattle.adapter.specs.declared.tape.Move as tape_move
-use Rattle.refinement.specs.MemoryLayout.{scratch_of}
+use Rattle.refinement.specs.MemoryLayout.{scratch_frame_address}
 use Rattle.block_machine.specs.Ports.{Ports}
 use Rattle.block_machine.specs.declared.due.QueueMode.{QueueMode}
 use Rattle.driver_history.specs.PortInvariants.{mode_of_disk}
 use Rattle.identify.specs.declared.DiskInfo.{DiskInfo}
-use Rattle.port_control.specs.Ports.{programmed}
+use Rattle.port_control.specs.Ports.{programmed_bases}
 
 -- ---- disks
 
 -- The page of a disk with 256 sectors: word 83 is 6400h, and word 100 is 0100h. Word 75 tells a queue depth less one,
 -- and the high byte of word 76 whether commands are queued. All else is zero.
-abbrev pub page_rest : List ℕ
-page_rest = 0x64 ∷ (replicate 33 0 ++ (1 ∷ replicate 310 0))
+abbrev pub page_from_word_83 : List ℕ
+page_from_word_83 = 0x64 ∷ (replicate 33 0 ++ (1 ∷ replicate 310 0))
 
 abbrev pub identify_page : ℕ → ℕ → List ℕ
-identify_page depth queues = replicate 150 0 ++ (depth ∷ 0 ∷ 0 ∷ queues ∷ (replicate 13 0 ++ page_rest))
+identify_page depth queues = replicate 150 0 ++ (depth ∷ 0 ∷ 0 ∷ queues ∷ (replicate 13 0 ++ page_from_word_83))
 
 -- that of a disk with no queue, and that of one which queues 32 commands
 abbrev pub fit_page : List ℕ
@@ -43,7 +43,7 @@ page_move page port = record {
   slot = record { 0 = 0 };
   operation = Identify;
   sector = 0;
-  address = scratch_of port;
+  address = scratch_frame_address port;
   direction = ToMemory;
   bytes = snapshot_of_bytes page;
 }
@@ -57,10 +57,10 @@ page_entry page port = entry.Move (page_move page port)
 -- command is in a slot.
 abbrev pub running_port : ℕ → DevicePort
 running_port port = record reading_port {
-  bases = programmed port;
+  bases = programmed_bases port;
   ci = λ _. false;
-  ie = named_causes;
-  notes = record no_notes { last_ssts = 3; link_count = MOST_READINGS };
+  ie = named_causes_mask;
+  notes = record no_notes { last_ssts = 3; link_wait_count = MOST_READINGS };
 }
 
 -- these are the first ports, and the others are as after a reset
@@ -80,10 +80,10 @@ running_device tape memory ports =
 
 -- commands are plain, one at a time; or queued, 32 at a time
 abbrev pub plain_disk_mode : QueueMode
-plain_disk_mode = record { queued = false; usable = 1 }
+plain_disk_mode = record { queued = false; usable_slots = 1 }
 
 abbrev pub queued_disk_mode : QueueMode
-queued_disk_mode = record { queued = true; usable = 32 }
+queued_disk_mode = record { queued = true; usable_slots = 32 }
 
 -- These ports are served, and in these states; their disks are alike, and this is what their page says.
 abbrev pub ports_with_disks : DiskInfo → List Bool → List shown.PortState → Ports
@@ -92,6 +92,6 @@ ports_with_disks info served states = record {
   state = λ port. slice_index_or states port.0 Absent;
   serial = λ port. info.serial;
   sectors = λ port. info.sectors;
-  trims = λ port. info.trim;
+  zeroes_after_trim = λ port. info.trim;
   mode = λ port. mode_of_disk queueing_cap info;
 }

@@ -12,15 +12,15 @@ use Rattle.adapter.specs.Device.{Device}
 use Rattle.adapter.specs.declared.access.DeviceStep.{DeviceStep}
 use Rattle.refinement.specs.Relation.{port_at}
 use Rattle.refinement.specs.ReadWitness.{first_id}
-use Rattle.block_machine.specs.Events.{Submit, Service, Reset, Submitted, Served, WasReset}
+use Rattle.block_machine.specs.Events.{Submit, Service, Reset, Submitted, Replied, WasReset}
 use Rattle.block_machine.specs.Histories.{JointState, JointEvent, joint_state_after}
 use Rattle.block_machine.specs.State.{Pending}
 use Rattle.identify.specs.declared.wanted.Wanted.TheVariants.{Any}
 use Rattle.driver_history.specs.Histories.{IsDriverHistory, PortCorresponds}
 
 -- HR of GHC is set, and is read 1 still
-abbrev pub reset_accesses : List Access
-reset_accesses = Writing Ghc 0x80000001 ∷ Reading Ghc 0x80000001 ∷ []
+abbrev pub stuck_reset_accesses : List Access
+stuck_reset_accesses = Writing Ghc 0x80000001 ∷ Reading Ghc 0x80000001 ∷ []
 
 -- A request is accepted; then a reset doesn't end, which leaves both ports dead and answers nobody; and a service that
 -- makes no access answers the request PortDead: its frames are kept. Each port's part in the reset and in the service
@@ -29,19 +29,21 @@ pub record StuckResetIsAHistory : Type 0 where
   pub initial_state : JointState Device
   pub submit : JointEvent Device DeviceStep
   pub asked : Request
-  pub submits : (submit.event.ask ≡ Submit asked) × (submit.event.said ≡ Submitted (Ok first_id))
+  pub submits : (submit.event.call ≡ Submit asked) × (submit.event.result ≡ Submitted (Ok first_id))
   pub reset : JointEvent Device DeviceStep
-  pub resets : (reset.event.ask ≡ Reset) × (reset.event.said ≡ WasReset None)
-  pub dead : (reset.event.ports.state (port_at 0) ≡ Dead) × (reset.event.ports.state (port_at 1) ≡ Dead)
+  pub resets : (reset.event.call ≡ Reset) × (reset.event.result ≡ WasReset None)
+  pub both_become_dead : (reset.event.ports.state (port_at 0) ≡ Dead) × (reset.event.ports.state (port_at 1) ≡ Dead)
   pub service : JointEvent Device DeviceStep
-  pub asks_for_service : (service.event.ask ≡ Service)
-      × (service.event.said ≡ Served (record { id = first_id; client = asked.client; outcome = PortDead } ∷ []))
+  pub asks_for_service : (service.event.call ≡ Service)
+      × (service.event.result ≡ Replied (record { id = first_id; client = asked.client; outcome = PortDead } ∷ []))
   pub history : IsDriverHistory (Any ∷ Any ∷ []) initial_state (service ∷ reset ∷ submit ∷ [])
   pub kept : Pending
-  pub keeps : Contains (joint_state_after initial_state (service ∷ reset ∷ submit ∷ [])).abstract.machine.kept kept
+  pub read_is_kept : Contains (joint_state_after initial_state (service ∷ reset ∷ submit ∷ [])).abstract.machine.kept
+      kept
       × (kept.request.id ≡ first_id)
-  pub accesses : (history.0.2.accesses ≡ reset_accesses) × (history.2.accesses ≡ [])
-  pub reset_parts : (port : Port) → PortCorresponds (joint_state_after initial_state (submit ∷ [])) reset
+  pub accesses : (history.0.2.accesses ≡ stuck_reset_accesses) × (history.2.accesses ≡ [])
+  pub reset_corresponds : (port : Port) → PortCorresponds (joint_state_after initial_state (submit ∷ [])) reset
       history.0.2.accesses port
-  pub service_parts : (port : Port) → PortCorresponds (joint_state_after initial_state (reset ∷ submit ∷ [])) service
+  pub service_corresponds : (port : Port)
+      → PortCorresponds (joint_state_after initial_state (reset ∷ submit ∷ [])) service
       history.2.accesses port

@@ -1,10 +1,7 @@
 // Laws on runs: the clause is the theorem. Nothing that runs calls these functions.
 ghost use Rattle.std.specs.Prelude.{◌≡◌, ◌≢◌, ◌⊎◌, ◌<◌, Bool, false, List, Some, ℕ};
-ghost use Rattle.adapter.specs.Device.{Device, IsSector};
-ghost use Rattle.adapter.specs.Steps.{Can};
-ghost use Rattle.adapter.specs.Steps.DeviceTransition.{FetchFault as SenselessFetch, Plug};
-ghost use Rattle.witnesses.specs.AdapterRuns.{StepComes, ComesSafely, FirstHasFailed, IsBeingReset, CommandsAreSafe, TransitionKind, SecondEndsFirst};
-ghost use Rattle.witnesses.specs.AdapterRuns.TransitionKind.{FetchFault};
+ghost use Rattle.adapter.specs.{Device.{Device, IsValidSector}, Steps.{Can}, Steps.DeviceTransition.{FetchFault as SenselessFetch, Plug}};
+ghost use Rattle.witnesses.specs.{AdapterRuns.{StepCanCome, ComesSafely, FirstHasFailed, IsBeingReset, CommandsAreSafe, TransitionKind, SecondEndsFirst}, AdapterRuns.TransitionKind.{FetchFault}};
 
 use adapter::laws::{law_decoding_is_unique, law_kept_bytes_stay};
 
@@ -13,7 +10,7 @@ use adapter::laws::{law_decoding_is_unique, law_kept_bytes_stay};
 /// the one on bytes that mean no command.
 pub fn law_each_step_can_come()
     ensures safely { (kind : TransitionKind) → kind ≢ FetchFault → ComesSafely kind }
-    ensures senseless { StepComes FetchFault }
+    ensures senseless { StepCanCome FetchFault }
 {
     law_kept_bytes_stay();
     law_decoding_is_unique();
@@ -50,6 +47,6 @@ pub fn law_a_cache_may_be_lost()
     ensures { (d : Device) (port : ℕ) (last lasting told : ℕ → List ℕ) → (d.port port).present ≡ false
         → (d.port port).disk.sectors ≡ Some last → (d.port port).lasting.sectors ≡ Some lasting
         → ((k : ℕ) → (told k ≡ last k) ⊎ (told k ≡ lasting k))
-        → ((k : ℕ) → k < (d.port port).disk.size → IsSector (told k))
+        → ((k : ℕ) → k < (d.port port).disk.sector_count → IsValidSector (told k))
         → Can (Plug port (record (d.port port).disk { sectors = Some told })) d }
 {}

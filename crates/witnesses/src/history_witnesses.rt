@@ -1,18 +1,9 @@
 // Laws of the definitions: the clause is the theorem. These functions do nothing.
-ghost use Rattle.witnesses.specs.ReadyPort.{ReadyPortHasBegun};
-ghost use Rattle.witnesses.specs.StuckReset.{StuckResetIsAHistory};
-ghost use Rattle.witnesses.specs.FatalError.{FatalErrorIsAHistory};
-ghost use Rattle.witnesses.specs.HungPort.{HungPortIsAHistory};
-ghost use Rattle.witnesses.specs.Loss.{LossIsAHistory};
-ghost use Rattle.witnesses.specs.QueuedReads.{ReadsEndInAnyOrder};
-ghost use Rattle.witnesses.specs.Recovery.{RecoveryIsAHistory};
-ghost use Rattle.witnesses.specs.Revocation.{RevocationIsAHistory};
-ghost use Rattle.witnesses.specs.Reset.{ResetIsAHistory};
-ghost use Rattle.witnesses.specs.MissingDisk.{MissingDiskIsAHistory};
+ghost use Rattle.witnesses.specs.{ReadyPort.{HistoryBeginsReady}, StuckReset.{StuckResetIsAHistory}, FatalError.{FatalErrorIsAHistory}, HungPort.{HungPortIsAHistory}, Loss.{LossIsAHistory}, QueuedReads.{QueuedReadsEndOutOfOrder}, Recovery.{RecoveryIsAHistory}, Revocation.{RevocationIsAHistory}, Reset.{ResetIsAHistory}, MissingDisk.{MissingDiskIsAHistory}};
 
 /// There is an instant at which a history may begin with ports that are ready.
-pub fn law_a_ready_port_has_begun()
-    ensures { ReadyPortHasBegun }
+pub fn law_a_history_begins_ready()
+    ensures { HistoryBeginsReady }
 {}
 
 /// There is a history with a service that answers a plain read with its fault, and leaves the port running well: all
@@ -35,8 +26,8 @@ pub fn law_a_stuck_reset_is_a_history()
 
 /// There is a history with two queued reads of one port, of which the second ends first, and is answered first: all
 /// that is asked of its calls is met.
-pub fn law_queued_requests_end_in_any_order()
-    ensures { ReadsEndInAnyOrder }
+pub fn law_queued_requests_end_out_of_order()
+    ensures { QueuedReadsEndOutOfOrder }
 {}
 
 /// There is a history with a service that finds a fatal error on a port, gives the port up, and boots it anew: all that

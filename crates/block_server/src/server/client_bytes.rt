@@ -11,12 +11,10 @@ use server_history::stuck_server::law_server_invariant_holds;
 
 impl<A: Adapter> Server<A> {
     ghost use Rattle.adapter.specs.AccessBounds.{MakesAtMost};
-    ghost use Rattle.block_machine.specs.Events.{LoadAt, StoreAt};
-    ghost use Rattle.block_machine.specs.Refusals.{IsFirstMemFault, MayAccessFrame};
-    ghost use Rattle.block_server.specs.Calls.{LoadsFrame, StoresFrame};
-    ghost use Rattle.block_server.specs.ServerView.{server_of};
+    ghost use Rattle.block_machine.specs.{Events.{LoadAt, StoreAt}, Refusals.{IsFirstMemFault, MayAccessFrame}};
+    ghost use Rattle.block_server.specs.{Calls.{LoadsFrame, StoresFrame}, ServerView.{server_of}};
     ghost use Rattle.dma_frames.specs.FrameTables.{lent_to, owner_of};
-    ghost use Rattle.server_history.specs.Histories.{ExtendsHistory, load_said, store_said};
+    ghost use Rattle.server_history.specs.Histories.{ExtendsHistory, load_result, store_result};
 
     /// Where in memory so many bytes of a client's own frame begin, from an offset in bytes on. The first that applies
     /// of `FrameForeign`, `FrameLent` and `OutsideFrame` is told.
@@ -57,8 +55,8 @@ impl<A: Adapter> Server<A> {
         bytes: &[u8],
     ) -> Result<(), MemFault>
         ensures stores { StoresFrame A.device self.old self.new client frame offset bytes.now result }
-        ensures adds { ExtendsHistory (server_of A.device self.old) (server_of A.device self.new)
-            (StoreAt client frame offset bytes.now) (store_said result) }
+        ensures extends_history { ExtendsHistory (server_of A.device self.old) (server_of A.device self.new)
+            (StoreAt client frame offset bytes.now) (store_result result) }
         ensures cost { MakesAtMost 1 (A.access_count self.old.adapter) (A.access_count self.new.adapter) }
     {
         law_refusals_extend_history();
@@ -79,8 +77,8 @@ impl<A: Adapter> Server<A> {
         out: &mut [u8],
     ) -> Result<(), MemFault>
         ensures loads { LoadsFrame A.device self.old self.new client frame offset out.old out.new result }
-        ensures adds { ExtendsHistory (server_of A.device self.old) (server_of A.device self.new)
-            (LoadAt client frame offset (length out.old)) (load_said result out.new) }
+        ensures extends_history { ExtendsHistory (server_of A.device self.old) (server_of A.device self.new)
+            (LoadAt client frame offset (length out.old)) (load_result result out.new) }
         ensures cost { MakesAtMost 1 (A.access_count self.old.adapter) (A.access_count self.new.adapter) }
     {
         law_refusals_extend_history();

@@ -4,21 +4,17 @@ ghost use Rattle.std.specs.Prelude.{[], IfErr, IfOk, None, Ok, Err, Some};
 use super::Server;
 use adapter::Adapter;
 use ata_types::{ClientId, NoSuchGrant, Replies};
-use request_queue::laws::{law_accepted_is_preserved, law_the_book_stays_in_order};
+use request_queue::laws::{law_book_stays_well_formed, law_well_formed_entries_stay};
 use server_history::laws::{
     law_refusals_extend_history, law_requests_preserve_invariant, law_revocations_extend_history,
 };
-use server_history::stuck_server::{
-    law_server_invariant_holds, law_stuck_revocations_extend_history,
-};
+use server_history::stuck_server::{law_server_invariant_holds, law_stuck_calls_extend_history};
 
 impl<A: Adapter> Server<A> {
     ghost use Rattle.block_machine.specs.Events.{RevokeOf, WasRevoked};
-    ghost use Rattle.block_server.specs.Revoking.{Revokes, revoke_said};
-    ghost use Rattle.block_server.specs.ServerView.{server_of};
+    ghost use Rattle.block_server.specs.{Revoking.{Revokes, revoke_result}, ServerView.{server_of}, Costs.{MOST_REVOKE_ACCESSES}};
     ghost use Rattle.server_history.specs.Histories.{ExtendsHistory};
     ghost use Rattle.adapter.specs.AccessBounds.{MakesAtMost};
-    ghost use Rattle.block_server.specs.Costs.{MOST_REVOKE_ACCESSES};
 
     /// Revokes the client's grant of this number.
     ///
@@ -35,11 +31,12 @@ impl<A: Adapter> Server<A> {
     pub fn revoke(&mut self, client: ClientId, number: u8) -> Result<Replies, NoSuchGrant>
         ensures revoked { IfOk result (λ replies. Revokes A.device self.old self.new client number replies.items (Ok
             tt)) }
-        ensures none { IfErr result (λ none. Revokes A.device self.old self.new client number [] (Err none)) }
+        ensures no_grant_changes_nothing { IfErr result
+            (λ none. Revokes A.device self.old self.new client number [] (Err none)) }
         ensures adds { IfOk result
             (λ replies. ExtendsHistory (server_of A.device self.old) (server_of A.device self.new)
             (RevokeOf client number) (WasRevoked (Some replies.items))) }
-        ensures adds_none { IfErr result (λ none. ExtendsHistory (server_of A.device self.old)
+        ensures no_grant_extends_history { IfErr result (λ none. ExtendsHistory (server_of A.device self.old)
             (server_of A.device self.new) (RevokeOf client number) (WasRevoked None)) }
         ensures cost { MakesAtMost MOST_REVOKE_ACCESSES (A.access_count self.old.adapter)
             (A.access_count self.new.adapter) }
@@ -57,24 +54,24 @@ impl<A: Adapter> Server<A> {
         replies: &mut Replies,
     ) -> Result<(), NoSuchGrant>
         ensures revokes { Revokes A.device self.old self.new client number replies.new.items result }
-        ensures adds { ExtendsHistory (server_of A.device self.old) (server_of A.device self.new)
+        ensures extends_history { ExtendsHistory (server_of A.device self.old) (server_of A.device self.new)
             (RevokeOf client number)
-            (revoke_said result replies.new.items) }
+            (revoke_result result replies.new.items) }
         ensures cost { MakesAtMost MOST_REVOKE_ACCESSES (A.access_count self.old.adapter)
             (A.access_count self.new.adapter) }
     {
-        law_accepted_is_preserved();
-        law_the_book_stays_in_order();
+        law_well_formed_entries_stay();
+        law_book_stays_well_formed();
         law_server_invariant_holds();
         law_requests_preserve_invariant();
         law_revocations_extend_history();
-        law_stuck_revocations_extend_history();
+        law_stuck_calls_extend_history();
         law_refusals_extend_history();
         replies.clear();
         let Some(row) = self.grants.revoke(client, number) else {
             return Err(NoSuchGrant);
         };
-        self.shared.book.revoke(client, number);
+        self.shared.book.mark_revoked(client, number);
         self.shared.cancel_under_grant(client, number, replies);
         if self.stuck {
             // No port is ready.

@@ -22,7 +22,7 @@ loop-covered-preserved g c =
     let count = c.run_length-count.result in
     let run = c.run_length-count.ensures in
     let d = length-drop covered frames in
-    let w = run.within in
+    let w = run.length_in_range in
     let some = run.is_not_empty in
     let room = v.room in
     let size = c.min-bytes.ensures in
@@ -52,9 +52,9 @@ returns g c =
     let j : PrdsCoverFrames frames c.args.bytes c.loop-covered.entries.items =
     subst (PrdsCoverFrames frames c.args.bytes) (append-nil c.loop-covered.entries.items) (v.joined [] (drop_all c.loop-covered.covered frames over, omega (arith, within, over))) in
     record {
-      joined = j;
-      number = omega (arith, number, room);
+      cover_frames = j;
+      count_is_allowed = omega (arith, number, room);
       allowed = all_allowed c.loop-covered.entries.items frames c.args.bytes fits c.requires.fill.even (let few = c.requires.fill.frame_count_is_allowed in omega (arith, few)) j;
-      whole = λ whole. all_whole c.loop-covered.entries.items frames c.args.bytes whole j;
+      are_whole_pieces = λ whole. all_whole c.loop-covered.entries.items frames c.args.bytes whole j;
       places = λ whole. joined_cover frames c.args.bytes c.loop-covered.entries.items fits j whole;
     }

@@ -1,6 +1,6 @@
 use Rattle.std.proofs.Common.{ℕ, List, ◌≡◌, ◌+◌, ◌*◌, ◌≤◌, subst, sym, arith, length, take}
 use Rattle.std.proofs.lemmas.List.{length-take}
-use Rattle.ata_types.specs.declared.memory.TheConstants.{PRD_BYTES, TABLE_HEAD}
+use Rattle.ata_types.specs.declared.memory.TheConstants.{PRD_BYTES, TABLE_HEAD_BYTES}
 use Rattle.adapter.specs.Device.{Device}
 use Rattle.adapter.specs.Rules.{IsUnowned, IsStable}
 use Rattle.command_table.proofs.Zeros.{zero_of}
@@ -17,12 +17,12 @@ pub fill_table-requires-clause-zeros : goal.fill_table-requires-clause-zeros
 fill_table-requires-clause-zeros g c = λ k _ _. zero_of 256 k
 
 pub store-requires : goal.store-requires
-store-requires g c = front_free _ c.args.at (TABLE_HEAD + PRD_BYTES * length c.args.prds.now) c.fill_table.new.bytes c.fill_table.ensures.size c.requires.free
+store-requires g c = front_free _ c.args.at (TABLE_HEAD_BYTES + PRD_BYTES * length c.args.prds.now) c.fill_table.new.bytes c.fill_table.ensures.size c.requires.free
 
 pub fill_table-requires-else-size-le-SHORT_TABLE-clause-zeros : goal.fill_table-requires-else-size-le-SHORT_TABLE-clause-zeros
 fill_table-requires-else-size-le-SHORT_TABLE-clause-zeros g c = λ k _ _. zero_of 2176 k
 
 pub store-requires-else-size-le-SHORT_TABLE : goal.store-requires-else-size-le-SHORT_TABLE
 store-requires-else-size-le-SHORT_TABLE g c =
-    front_free _ c.args.at (TABLE_HEAD + PRD_BYTES * length c.args.prds.now) c.fill_table-else-size-le-SHORT_TABLE.new.bytes
+    front_free _ c.args.at (TABLE_HEAD_BYTES + PRD_BYTES * length c.args.prds.now) c.fill_table-else-size-le-SHORT_TABLE.new.bytes
     c.fill_table-else-size-le-SHORT_TABLE.ensures.size c.requires.free

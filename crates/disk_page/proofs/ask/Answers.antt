@@ -8,36 +8,36 @@ pub write-requires : goal.write-requires
 write-requires g c =
     let r = c.requires.may in
     let w = c.write_table.ensures in
-    let told = page_is_told c.args.page c.command.result c.prds-prds.result.items c.as_slice.result.now c.args.port.0 c.from.result _ c.from.ensures c.command.ensures (c.prds-prds.ensures.whole refl) (c.prds-prds.ensures.places refl) c.as_slice.ensures.value w.says in
-    ask_permitted c.law_prerequisites.ensures c.args.port c.args.page _ (g.A.Adapter.device c.write_table.new.adapter) w.on (stores_there c.law_prerequisites.ensures c.args.port _ _ r.adapter_is_on w.followed r.has_port) (stores_room c.law_prerequisites.ensures c.args.port _ _ r.adapter_is_on w.followed r.driver_memory_fits)
+    let told = page_is_told c.args.page c.command.result c.prds-prds.result.items c.as_slice.result.now c.args.port.0 c.from.result _ c.from.ensures c.command.ensures (c.prds-prds.ensures.are_whole_pieces refl) (c.prds-prds.ensures.places refl) c.as_slice.ensures.value w.slot_decodes in
+    ask_permitted c.law_prerequisites.ensures c.args.port c.args.page _ (g.A.Adapter.device c.write_table.new.adapter) w.adapter_is_on (stores_there c.law_prerequisites.ensures c.args.port _ _ r.adapter_is_on w.followed r.has_port) (stores_room c.law_prerequisites.ensures c.args.port _ _ r.adapter_is_on w.followed r.driver_memory_fits)
     (may_after c.args.port.0 _ _ (stores_leave c.law_prerequisites.ensures c.args.port _ _ r.adapter_is_on w.followed) r.may_ask) told r.machine_is_related.0 r.machine_is_related.1 (stores_agree c.law_prerequisites.ensures c.args.port _ _ r.adapter_is_on w.followed r.machine_is_related.0 r.machine_is_related.1 r.machine_is_related.2)
 
-pub returns-clause-on : goal.returns-clause-on
-returns-clause-on g c =
+pub returns-clause-adapter_is_on : goal.returns-clause-adapter_is_on
+returns-clause-adapter_is_on g c =
     let r = c.requires.may in
     let w = c.write_table.ensures in
-    let told = page_is_told c.args.page c.command.result c.prds-prds.result.items c.as_slice.result.now c.args.port.0 c.from.result _ c.from.ensures c.command.ensures (c.prds-prds.ensures.whole refl) (c.prds-prds.ensures.places refl) c.as_slice.ensures.value w.says in
-    asked_on c.law_prerequisites.ensures c.args.port c.args.page _ _ w.on (stores_there c.law_prerequisites.ensures c.args.port _ _ r.adapter_is_on w.followed r.has_port) (stores_room c.law_prerequisites.ensures c.args.port _ _ r.adapter_is_on w.followed r.driver_memory_fits)
+    let told = page_is_told c.args.page c.command.result c.prds-prds.result.items c.as_slice.result.now c.args.port.0 c.from.result _ c.from.ensures c.command.ensures (c.prds-prds.ensures.are_whole_pieces refl) (c.prds-prds.ensures.places refl) c.as_slice.ensures.value w.slot_decodes in
+    asked_on c.law_prerequisites.ensures c.args.port c.args.page _ _ w.adapter_is_on (stores_there c.law_prerequisites.ensures c.args.port _ _ r.adapter_is_on w.followed r.has_port) (stores_room c.law_prerequisites.ensures c.args.port _ _ r.adapter_is_on w.followed r.driver_memory_fits)
     (may_after c.args.port.0 _ _ (stores_leave c.law_prerequisites.ensures c.args.port _ _ r.adapter_is_on w.followed) r.may_ask) told c.write.ensures.does
 
 pub returns-clause-asks : goal.returns-clause-asks
 returns-clause-asks g c =
     let r = c.requires.may in
     let w = c.write_table.ensures in
-    let told = page_is_told c.args.page c.command.result c.prds-prds.result.items c.as_slice.result.now c.args.port.0 c.from.result _ c.from.ensures c.command.ensures (c.prds-prds.ensures.whole refl) (c.prds-prds.ensures.places refl) c.as_slice.ensures.value w.says in
+    let told = page_is_told c.args.page c.command.result c.prds-prds.result.items c.as_slice.result.now c.args.port.0 c.from.result _ c.from.ensures c.command.ensures (c.prds-prds.ensures.are_whole_pieces refl) (c.prds-prds.ensures.places refl) c.as_slice.ensures.value w.slot_decodes in
     record {
       followed = stored_then c.law_prerequisites.ensures c.args.port (λ uses. set_slot_state uses c.args.port.0 0 (Own (page_operation c.args.page))) _ _ _ (stores_asking c.law_prerequisites.ensures c.args.port _ _ r.adapter_is_on w.followed)
-          (asked_to c.law_prerequisites.ensures c.args.port c.args.page _ _ w.on (stores_there c.law_prerequisites.ensures c.args.port _ _ r.adapter_is_on w.followed r.has_port) (stores_room c.law_prerequisites.ensures c.args.port _ _ r.adapter_is_on w.followed r.driver_memory_fits)
+          (asked_to c.law_prerequisites.ensures c.args.port c.args.page _ _ w.adapter_is_on (stores_there c.law_prerequisites.ensures c.args.port _ _ r.adapter_is_on w.followed r.has_port) (stores_room c.law_prerequisites.ensures c.args.port _ _ r.adapter_is_on w.followed r.driver_memory_fits)
           (may_after c.args.port.0 _ _ (stores_leave c.law_prerequisites.ensures c.args.port _ _ r.adapter_is_on w.followed) r.may_ask) told c.write.ensures.does);
-      page_is_awaited = λ uses free a. asked_waits c.law_prerequisites.ensures c.args.port c.args.page _ _ w.on (stores_there c.law_prerequisites.ensures c.args.port _ _ r.adapter_is_on w.followed r.has_port) (stores_room c.law_prerequisites.ensures c.args.port _ _ r.adapter_is_on w.followed r.driver_memory_fits)
+      page_is_awaited = λ uses free a. asked_waits c.law_prerequisites.ensures c.args.port c.args.page _ _ w.adapter_is_on (stores_there c.law_prerequisites.ensures c.args.port _ _ r.adapter_is_on w.followed r.has_port) (stores_room c.law_prerequisites.ensures c.args.port _ _ r.adapter_is_on w.followed r.driver_memory_fits)
           (may_after c.args.port.0 _ _ (stores_leave c.law_prerequisites.ensures c.args.port _ _ r.adapter_is_on w.followed) r.may_ask) told c.write.ensures.does (g.A.Adapter.device c.args.adapter.now) uses free (stores_agree c.law_prerequisites.ensures c.args.port _ _ r.adapter_is_on w.followed uses free a)
           (λ other page. stores_silent c.law_prerequisites.ensures c.args.port _ _ r.adapter_is_on w.followed uses other free a page);
-      has_port = asked_there c.law_prerequisites.ensures c.args.port c.args.page _ _ w.on (stores_there c.law_prerequisites.ensures c.args.port _ _ r.adapter_is_on w.followed r.has_port) (stores_room c.law_prerequisites.ensures c.args.port _ _ r.adapter_is_on w.followed r.driver_memory_fits)
+      has_port = asked_there c.law_prerequisites.ensures c.args.port c.args.page _ _ w.adapter_is_on (stores_there c.law_prerequisites.ensures c.args.port _ _ r.adapter_is_on w.followed r.has_port) (stores_room c.law_prerequisites.ensures c.args.port _ _ r.adapter_is_on w.followed r.driver_memory_fits)
           (may_after c.args.port.0 _ _ (stores_leave c.law_prerequisites.ensures c.args.port _ _ r.adapter_is_on w.followed) r.may_ask) told c.write.ensures.does;
       tape_is_not_shorter = le_trans (stores_leave c.law_prerequisites.ensures c.args.port _ _ r.adapter_is_on w.followed).later
-          (asked_later c.law_prerequisites.ensures c.args.port c.args.page _ _ w.on (stores_there c.law_prerequisites.ensures c.args.port _ _ r.adapter_is_on w.followed r.has_port) (stores_room c.law_prerequisites.ensures c.args.port _ _ r.adapter_is_on w.followed r.driver_memory_fits)
+          (asked_later c.law_prerequisites.ensures c.args.port c.args.page _ _ w.adapter_is_on (stores_there c.law_prerequisites.ensures c.args.port _ _ r.adapter_is_on w.followed r.has_port) (stores_room c.law_prerequisites.ensures c.args.port _ _ r.adapter_is_on w.followed r.driver_memory_fits)
           (may_after c.args.port.0 _ _ (stores_leave c.law_prerequisites.ensures c.args.port _ _ r.adapter_is_on w.followed) r.may_ask) told c.write.ensures.does);
-      no_comreset = asked_det c.law_prerequisites.ensures c.args.port c.args.page _ _ w.on (stores_there c.law_prerequisites.ensures c.args.port _ _ r.adapter_is_on w.followed r.has_port) (stores_room c.law_prerequisites.ensures c.args.port _ _ r.adapter_is_on w.followed r.driver_memory_fits)
+      no_comreset = asked_det c.law_prerequisites.ensures c.args.port c.args.page _ _ w.adapter_is_on (stores_there c.law_prerequisites.ensures c.args.port _ _ r.adapter_is_on w.followed r.has_port) (stores_room c.law_prerequisites.ensures c.args.port _ _ r.adapter_is_on w.followed r.driver_memory_fits)
           (may_after c.args.port.0 _ _ (stores_leave c.law_prerequisites.ensures c.args.port _ _ r.adapter_is_on w.followed) r.may_ask) told c.write.ensures.does;
     }
 

@@ -1,7 +1,7 @@
 use Rattle.ata_types.specs.declared.limits.TheConstants.{MOST_READINGS}
 use Rattle.std.proofs.Common.{ℕ, ◌≡◌, sym, ◌∙◌, subst, arith, rules}
-use Rattle.refinement.specs.Fragments.{AnyUse, IsSimulatedAlong}
-use Rattle.disk_page.specs.PageRequests.{AreIssuedReadings, IsPageAccess}
+use Rattle.refinement.specs.Fragments.{AnySlotStates, IsSimulatedAlong}
+use Rattle.disk_page.specs.PageRequests.{AreSlot0IssuedReadings, IsPageAccess}
 use Rattle.disk_page.proofs.Asking.{pending_first, pending_again, pending_over}
 use Rattle.disk_page.proofs.wait.Goals as goal
 
@@ -17,8 +17,8 @@ loop-reading-preserved g c = record {
   cost = omega arith;
 }
 
-pub returns-then-not-is_set-clause-on : goal.returns-then-not-is_set-clause-on
-returns-then-not-is_set-clause-on g c =
+pub returns-then-not-is_set-clause-adapter_is_on : goal.returns-then-not-is_set-clause-adapter_is_on
+returns-then-not-is_set-clause-adapter_is_on g c =
     (pending_over c.law_prerequisites.ensures c.args.port _ c.loop-reading._reading c.read-issued.result _ _ c.loop-reading.invariant.known c.read-issued.ensures.does (sym c.is_set.ensures ∙ c.if-not-is_set.true)).on
 
 pub returns-then-not-is_set-clause-followed : goal.returns-then-not-is_set-clause-followed
@@ -36,4 +36,4 @@ returns-then-not-is_set-clause-over g c = λ _.
 pub returns-clause-vain : goal.returns-clause-vain
 returns-clause-vain g c = λ _.
     let all : c.loop-reading._reading ≡ MOST_READINGS = omega arith in
-    (search rules, subst (λ (n : ℕ). IsSimulatedAlong (AreIssuedReadings c.args.port n) (IsPageAccess c.args.port) AnyUse (g.A.Adapter.device c.args.adapter.now) (g.A.Adapter.device c.loop-reading.adapter)) all c.loop-reading.invariant.known.told)
+    (search rules, subst (λ (n : ℕ). IsSimulatedAlong (AreSlot0IssuedReadings c.args.port n) (IsPageAccess c.args.port) AnySlotStates (g.A.Adapter.device c.args.adapter.now) (g.A.Adapter.device c.loop-reading.adapter)) all c.loop-reading.invariant.known.told)

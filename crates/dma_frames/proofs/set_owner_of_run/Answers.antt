@@ -2,12 +2,12 @@ use Rattle.ata_types.specs.declared.memory.TheConstants.{MOST_FRAMES}
 use Rattle.std.proofs.Common.{ℕ, ◌≡◌, ◌≢◌, ◌<◌, ◌≤◌, ◌+◌, get_or, set, ap, sym, ◌∙◌, arith, inl, inr}
 use Rattle.std.proofs.lemmas.Bool.{cases_eq, cases_lt}
 use Rattle.std.proofs.lemmas.List.{get_or-set_other, get_or-set_same, length-set}
-use Rattle.dma_frames.specs.FrameTables.{FrameExtent, IsOwnerExtent}
+use Rattle.dma_frames.specs.FrameTables.{FrameExtent, IsValidExtent}
 use Rattle.dma_frames.specs.TableLists.{client_of}
 use Rattle.dma_frames.proofs.StoredLemmas.{owner_is, some_client}
 use Rattle.dma_frames.proofs.set_owner_of_run.Goals as goal
 
-in_memory : (run : FrameExtent) (k : ℕ) → IsOwnerExtent run → run.1.0 ≤ k → k < run.1.0 + run.2 → k < MOST_FRAMES
+in_memory : (run : FrameExtent) (k : ℕ) → IsValidExtent run → run.1.0 ≤ k → k < run.1.0 + run.2 → k < MOST_FRAMES
 in_memory run k is low high = is.2 (record { 0 = k }) (low, high)
 
 pub bounds-owners-place : goal.bounds-owners-place

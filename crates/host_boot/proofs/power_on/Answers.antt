@@ -3,8 +3,8 @@ use Rattle.host_boot.proofs.Hosting.{ghc_followed}
 use Rattle.host_boot.proofs.Leaving.{ghc_leaves}
 use Rattle.host_boot.proofs.power_on.Goals as goal
 
-pub returns-clause-on : goal.returns-clause-on
-returns-clause-on g c = c.law_prerequisites.ensures.switches_on 0x80000000 _ _ c.requires.idle.no_reset refl refl c.write.ensures.does
+pub returns-clause-adapter_is_on : goal.returns-clause-adapter_is_on
+returns-clause-adapter_is_on g c = c.law_prerequisites.ensures.ghc_write_switches_on 0x80000000 _ _ c.requires.idle.no_reset refl refl c.write.ensures.does
 
 pub returns-clause-leaves : goal.returns-clause-leaves
 returns-clause-leaves g c = λ port. ghc_leaves c.law_prerequisites.ensures _ c.requires.idle.no_reset port 0x80000000 _ c.write.ensures.does

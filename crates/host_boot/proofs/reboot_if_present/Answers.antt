@@ -2,8 +2,8 @@ use Rattle.std.proofs.Common.{◌≡◌, ◌∙◌, sym, ap, subst}
 use Rattle.ata_types.specs.declared.Port.{Port}
 use Rattle.ata_types.specs.declared.limits.TheConstants.{MOST_READINGS}
 use Rattle.adapter.specs.Device.{Notes}
-use Rattle.refinement.specs.Fragments.{AnyUse, IsPortAccessWriting, IsSimulated}
-use Rattle.port_control.specs.Ports.{IsErrorRegister, IsStopped, IsOnAndAgrees, BacksFault}
+use Rattle.refinement.specs.Fragments.{AnySlotStates, ReadsPortOrWrites, IsSimulated}
+use Rattle.port_control.specs.Ports.{IsSerrOrIs, IsStopped, IsOnAndAgrees, BacksFault}
 use Rattle.port_control.specs.declared.PortFault.TheVariants.{NoDevice}
 use Rattle.host_boot.specs.Reboots.{BootsStopped}
 use Rattle.host_boot.specs.declared.ProbeResult.{ProbeResult}
@@ -15,15 +15,15 @@ use Rattle.host_boot.proofs.reboot_if_present.Goals.{then-clear_serr_and_detect,
 pub clear_serr_and_detect-requires : goal.clear_serr_and_detect-requires
 clear_serr_and_detect-requires g c =
     let b = asked_bootable c.law_prerequisites.ensures _ _ _ c.read.ensures.does c.args.stopped.port c.requires.bootable in
-    let U : Port → Type 0 = λ p. IsOnAndAgrees AnyUse p (g.A.Adapter.device c.read.new.self) in
-    record { usable = subst U (sym c.port.ensures) (record { adapter_is_on = b.adapter_is_on; has_port = b.has_port; machine_is_related = (b.machine_is_related.0, tt, b.machine_is_related.2) }) }
+    let U : Port → Type 0 = λ p. IsOnAndAgrees AnySlotStates p (g.A.Adapter.device c.read.new.self) in
+    record { on_and_agrees = subst U (sym c.port.ensures) (record { adapter_is_on = b.adapter_is_on; has_port = b.has_port; machine_is_related = (b.machine_is_related.0, tt, b.machine_is_related.2) }) }
 
 pub boot_stopped-found-requires-clause-bootable : goal.boot_stopped-found-requires-clause-bootable
 boot_stopped-found-requires-clause-bootable g c =
     let laws = c.law_prerequisites.ensures in
     let asked = asked_bootable laws _ _ _ c.read.ensures.does c.args.stopped.port c.requires.bootable in
-    let looks = subst (λ (p : Port). IsSimulated (IsPortAccessWriting IsErrorRegister p) AnyUse (g.A.Adapter.device c.read.new.self) (g.A.Adapter.device c.clear_serr_and_detect.new.adapter)) c.port.ensures c.clear_serr_and_detect.ensures.followed in
-    seen_bootable laws _ _ _ c.read.ensures.does c.args.stopped.port _ looks c.clear_serr_and_detect.ensures.on asked
+    let looks = subst (λ (p : Port). IsSimulated (ReadsPortOrWrites IsSerrOrIs p) AnySlotStates (g.A.Adapter.device c.read.new.self) (g.A.Adapter.device c.clear_serr_and_detect.new.adapter)) c.port.ensures c.clear_serr_and_detect.ensures.followed in
+    seen_bootable laws _ _ _ c.read.ensures.does c.args.stopped.port _ looks c.clear_serr_and_detect.ensures.adapter_is_on asked
 
 pub boot_stopped-found-requires-clause-stopped : goal.boot_stopped-found-requires-clause-stopped
 boot_stopped-found-requires-clause-stopped g c =
@@ -31,7 +31,7 @@ boot_stopped-found-requires-clause-stopped g c =
     let port = c.args.stopped.port in
     let asked = g.A.Adapter.device c.read.new.self in
     let seen = g.A.Adapter.device c.clear_serr_and_detect.new.adapter in
-    let stays = subst (λ (p : Port). IsStopped (asked.port p.0) → IsStopped (seen.port p.0)) c.port.ensures c.clear_serr_and_detect.ensures.asks.stopped in
+    let stays = subst (λ (p : Port). IsStopped (asked.port p.0) → IsStopped (seen.port p.0)) c.port.ensures c.clear_serr_and_detect.ensures.detects.stopped in
     stays (asked_stopped laws _ _ _ c.read.ensures.does port (cap_leaves laws _ c.requires.bootable.adapter_is_on.no_reset port.0 _ _ c.read.ensures.does) c.requires.stopped)
 
 pub returns-clause-boots : goal.returns-clause-boots
@@ -42,18 +42,18 @@ returns-clause-boots g c =
     let device = g.A.Adapter.device in
     let asked = device c.read.new.self in
     let seen = device c.clear_serr_and_detect.new.adapter in
-    let looks = subst (λ (p : Port). IsSimulated (IsPortAccessWriting IsErrorRegister p) AnyUse asked seen) c.port.ensures c.clear_serr_and_detect.ensures.followed in
+    let looks = subst (λ (p : Port). IsSimulated (ReadsPortOrWrites IsSerrOrIs p) AnySlotStates asked seen) c.port.ensures c.clear_serr_and_detect.ensures.followed in
     elim c.if-clear_serr_and_detect.branch [
       | then-clear_serr_and_detect w ↦
-          let there = subst (λ (p : Port). (seen.port p.0).ssts_det ≡ 3) c.port.ensures (c.clear_serr_and_detect.ensures.asks.device_is_shown w.if-clear_serr_and_detect.true) in
+          let there = subst (λ (p : Port). (seen.port p.0).ssts_det ≡ 3) c.port.ensures (c.clear_serr_and_detect.ensures.detects.device_is_shown w.if-clear_serr_and_detect.true) in
           let booted = subst (λ (f : ProbeResult). BootsStopped wanted port f seen (device w.boot_stopped-found.new.adapter)) (sym (c.booted_with.ensures.found ∙ w.found-is)) w.boot_stopped-found.ensures.boots in
           let boots = subst (λ a. BootsStopped wanted port c.booted_with.result.found seen (device a)) (sym w.adapter-is) booted in
           seen_boots laws _ _ asked c.read.ensures.does port seen looks _ wanted _ there boots c.booted_with.ensures.slots c.booted_with.ensures.queued
       | else-clear_serr_and_detect w ↦
           let left = cap_leaves laws _ c.requires.bootable.adapter_is_on.no_reset port.0 _ _ c.read.ensures.does in
-          let stays = subst (λ (p : Port). IsStopped (asked.port p.0) → IsStopped (seen.port p.0)) c.port.ensures c.clear_serr_and_detect.ensures.asks.stopped in
-          let none = subst (λ (p : Port). (asked.port p.0).notes.link_count ≡ MOST_READINGS → BacksFault NoDevice (seen.port p.0).notes) c.port.ensures (c.clear_serr_and_detect.ensures.asks.no_device_is_backed w.if-clear_serr_and_detect.false) in
+          let stays = subst (λ (p : Port). IsStopped (asked.port p.0) → IsStopped (seen.port p.0)) c.port.ensures c.clear_serr_and_detect.ensures.detects.stopped in
+          let none = subst (λ (p : Port). (asked.port p.0).notes.link_wait_count ≡ MOST_READINGS → BacksFault NoDevice (seen.port p.0).notes) c.port.ensures (c.clear_serr_and_detect.ensures.detects.no_device_is_backed w.if-clear_serr_and_detect.false) in
           let stopped = stays (asked_stopped laws _ _ _ c.read.ensures.does port left c.requires.stopped) in
-          let full = ap (λ (n : Notes). n.link_count) left.notes ∙ c.requires.saw in
+          let full = ap (λ (n : Notes). n.link_wait_count) left.notes ∙ c.requires.device_was_awaited in
           seen_absent laws _ _ asked c.read.ensures.does port seen looks _ wanted _ (ap device w.adapter-is) (c.booted_with.ensures.found ∙ w.found-is) stopped (none full)
     ]

@@ -7,15 +7,15 @@ use Rattle.host_boot.proofs.survey.Goals as goal
 use Rattle.host_boot.proofs.Stretching.{by_one, by_then}
 
 pub read-implemented-requires : goal.read-implemented-requires
-read-implemented-requires g c = cap_on c.law_prerequisites.ensures _ _ _ c.requires.on c.read.ensures.does
+read-implemented-requires g c = cap_on c.law_prerequisites.ensures _ _ _ c.requires.adapter_is_on c.read.ensures.does
 
-pub returns-clause-on : goal.returns-clause-on
-returns-clause-on g c = pi_on c.law_prerequisites.ensures _ _ _ (cap_on c.law_prerequisites.ensures _ _ _ c.requires.on c.read.ensures.does) c.read-implemented.ensures.does
+pub returns-clause-adapter_is_on : goal.returns-clause-adapter_is_on
+returns-clause-adapter_is_on g c = pi_on c.law_prerequisites.ensures _ _ _ (cap_on c.law_prerequisites.ensures _ _ _ c.requires.adapter_is_on c.read.ensures.does) c.read-implemented.ensures.does
 
 pub returns-clause-leaves : goal.returns-clause-leaves
 returns-clause-leaves g c = λ port.
-    c.law_prerequisites.ensures.leaves_more _ _ _ (cap_leaves c.law_prerequisites.ensures _ c.requires.on.no_reset port _ _ c.read.ensures.does)
-    (pi_leaves c.law_prerequisites.ensures _ (cap_on c.law_prerequisites.ensures _ _ _ c.requires.on c.read.ensures.does).no_reset port _ _ c.read-implemented.ensures.does)
+    c.law_prerequisites.ensures.leaves_port_is_transitive _ _ _ (cap_leaves c.law_prerequisites.ensures _ c.requires.adapter_is_on.no_reset port _ _ c.read.ensures.does)
+    (pi_leaves c.law_prerequisites.ensures _ (cap_on c.law_prerequisites.ensures _ _ _ c.requires.adapter_is_on c.read.ensures.does).no_reset port _ _ c.read-implemented.ensures.does)
 
 pub returns-clause-followed : goal.returns-clause-followed
 returns-clause-followed g c = hosted_then c.law_prerequisites.ensures _ _ _ (cap_followed c.law_prerequisites.ensures _ _ _ c.read.ensures.does) (pi_followed c.law_prerequisites.ensures _ _ _ c.read-implemented.ensures.does)

@@ -2,7 +2,7 @@ use Rattle.std.proofs.Common.{ℕ, ◌≡◌, ◌+◌, refl, sym, ◌∙◌, ap,
 use Rattle.hba_regs.specs.Bits.{bit, field}
 use Rattle.ata_types.specs.declared.Port.{Port}
 use Rattle.adapter.specs.Device.{Device}
-use Rattle.refinement.specs.Links.{SameAdapter}
+use Rattle.refinement.specs.PreservedParts.{SameAdapter}
 use Rattle.host_boot.specs.TakeOver.{IsHostAccess}
 use Rattle.host_boot.proofs.Taking.{IsUnderway, begins, boots_same, ends, next}
 use Rattle.host_boot.proofs.Ways.{IsOnWay, way_more, way_over}
@@ -15,8 +15,8 @@ loop-number-init g c =
     let old : Device = g.A.Adapter.device c.args.adapter.now in
     let told = g.met.A.Adapter.tells c.args.adapter.now in
     record {
-      underway = begins c.law_prerequisites.ensures c.args.wanted.now old _ _ refl c.requires.idle (c.law_prerequisites.ensures.idle_agrees old c.requires.idle told) c.survey-implemented.ensures.on
-          (λ port. c.law_prerequisites.ensures.leaves_more _ _ _ (c.power_on.ensures.leaves port) (c.survey-implemented.ensures.leaves port))
+      underway = begins c.law_prerequisites.ensures c.args.wanted.now old _ _ refl c.requires.idle (c.law_prerequisites.ensures.idle_device_is_related old c.requires.idle told) c.survey-implemented.ensures.adapter_is_on
+          (λ port. c.law_prerequisites.ensures.leaves_port_is_transitive _ _ _ (c.power_on.ensures.leaves port) (c.survey-implemented.ensures.leaves port))
           (hosted_then c.law_prerequisites.ensures _ _ _ c.power_on.ensures.followed c.survey-implemented.ensures.followed);
       way = record {
         switched = g.A.Adapter.device c.power_on.new.adapter;
@@ -38,7 +38,7 @@ boot_port-requires g c =
         adapter_is_on = u.on;
         port_in_range = c.loop-number-test.true;
         implemented_is_pi = c.loop-number.invariant.there;
-        driver_memory_fits = let same = u.same.size in let room = c.requires.room in omega (arith, same, room);
+        driver_memory_fits = let same = u.same.memory_size in let room = c.requires.driver_memory_fits in omega (arith, same, room);
         machine_is_related = (u.uses, λ slot. u.free c.loop-number.number slot (omega arith), u.agreed);
         idle = u.idle c.loop-number.number (omega arith);
       };
@@ -51,7 +51,7 @@ loop-number-preserved g c =
     boots_same c.law_prerequisites.ensures port _ _ c.boot_port.result c.boot_port.ensures.finds.boots in
     record {
       underway = next c.law_prerequisites.ensures c.args.wanted.now c.loop-number.ports port c.loop-number-test.true _ _ _ c.boot_port.result c.loop-number.invariant.underway
-          c.boot_port.ensures.on c.boot_port.ensures.finds.result_is_backed c.boot_port.ensures.finds.sctl_was_written c.boot_port.ensures.finds.halt_is_of_taken c.boot_port.ensures.finds.boots;
+          c.boot_port.ensures.adapter_is_on c.boot_port.ensures.finds.result_is_backed c.boot_port.ensures.finds.sctl_was_written c.boot_port.ensures.finds.halt_is_of_taken c.boot_port.ensures.finds.boots;
       way = way_more c.loop-number.ports c.loop-number.number c.boot_port.result _ _ _ c.loop-number.invariant.underway.long c.loop-number-test.true c.loop-number.invariant.way
           c.boot_port.ensures.finds.stops_and_boots;
       there = c.loop-number.invariant.there ∙ sym same.pi;
@@ -60,7 +60,7 @@ loop-number-preserved g c =
     }
 
 pub enable_interrupts-requires : goal.enable_interrupts-requires
-enable_interrupts-requires g c = record { on = c.loop-number.invariant.underway.on }
+enable_interrupts-requires g c = record { adapter_is_on = c.loop-number.invariant.underway.on }
 
 pub returns : goal.returns
 returns g c =
@@ -70,14 +70,14 @@ returns g c =
     let same : SameAdapter d new = same_over c.law_prerequisites.ensures IsHostAccess d new c.enable_interrupts.ensures.followed.is_driven in
     let cap : c.survey-implemented.result.0.0 ≡ new.cap = c.loop-number.invariant.capable ∙ sym same.cap in
     record {
-      taken = ends c.law_prerequisites.ensures c.args.wanted.now (g.A.Adapter.device c.args.adapter.now) c.loop-number.ports d new
+      takes_over = ends c.law_prerequisites.ensures c.args.wanted.now (g.A.Adapter.device c.args.adapter.now) c.loop-number.ports d new
           (subst (λ (n : ℕ). IsUnderway c.args.wanted.now c.loop-number.ports n (g.A.Adapter.device c.args.adapter.now) d) four c.loop-number.invariant.underway)
           c.enable_interrupts.ensures.leaves c.enable_interrupts.ensures.followed _ refl
           (ap (λ (n : ℕ). n + 1) (c.last_slot.ensures ∙ ap (λ (v : ℕ). field v 8 5) cap))
           (c.has_ncq.ensures ∙ ap (λ (v : ℕ). bit v 30) cap)
-          c.enable_interrupts.ensures.on c.enable_interrupts.ensures.tells
+          c.enable_interrupts.ensures.adapter_is_on c.enable_interrupts.ensures.tells
           (way_over c.loop-number.ports (g.A.Adapter.device c.args.adapter.now) d new c.loop-number.invariant.underway.long
           (subst (λ (n : ℕ). IsOnWay c.loop-number.ports n (g.A.Adapter.device c.args.adapter.now) d) four c.loop-number.invariant.way) c.enable_interrupts.ensures.enables);
-      four = c.loop-number.invariant.underway.long;
+      has_four_ports = c.loop-number.invariant.underway.long;
       cost = omega (arith, four);
     }

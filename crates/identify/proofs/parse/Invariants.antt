@@ -1,6 +1,6 @@
 use Rattle.std.proofs.Common.{◌≤◌}
 use Rattle.identify.specs.declared.Unfit.{Unfit}
-use Rattle.identify.specs.Page.{UnfitApplies, unfit_number}
+use Rattle.identify.specs.IdentityPage.{UnfitApplies, unfit_number}
 use Rattle.identify.proofs.parse.Given as goal
 
 -- no fault that was looked for applies

@@ -15,8 +15,8 @@ pub returns-clause-followed : goal.returns-clause-followed
 returns-clause-followed g c =
     forgets_followed c.law_prerequisites.ensures c.args.port _ _ _ _ (record { adapter_is_on = c.requires.may.adapter_is_on; has_port = c.requires.may.has_port; machine_is_related = c.requires.may.machine_is_related }) c.requires.may.receives c.requires.may.no_link_is_due c.requires.may.no_comreset c.clear_errors.ensures.followed c.clear_errors.ensures.clears.clears c.read.ensures.does
 
-pub returns-clause-on : goal.returns-clause-on
-returns-clause-on g c =
+pub returns-clause-adapter_is_on : goal.returns-clause-adapter_is_on
+returns-clause-adapter_is_on g c =
     forgets_on c.law_prerequisites.ensures c.args.port _ _ _ _ (record { adapter_is_on = c.requires.may.adapter_is_on; has_port = c.requires.may.has_port; machine_is_related = c.requires.may.machine_is_related }) c.requires.may.receives c.requires.may.no_link_is_due c.requires.may.no_comreset c.clear_errors.ensures.followed c.clear_errors.ensures.clears.clears c.read.ensures.does
 
 pub returns-clause-forgets : goal.returns-clause-forgets

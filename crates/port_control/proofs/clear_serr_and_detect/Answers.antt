@@ -5,23 +5,23 @@ use Rattle.port_control.proofs.Seeing.{seen_clear, seen_followed, seen_none, see
 use Rattle.port_control.proofs.clear_serr_and_detect.Goals as goal
 
 pub write-requires : goal.write-requires
-write-requires g c = serr_may c.law_prerequisites.ensures c.args.port 0xffffffff _ c.requires.usable
+write-requires g c = serr_may c.law_prerequisites.ensures c.args.port 0xffffffff _ c.requires.on_and_agrees
 
 pub read-requires : goal.read-requires
 read-requires g c =
-    let u = clearing c.law_prerequisites.ensures c.args.port _ _ (g.A.Adapter.device c.args.adapter.now) c.requires.usable c.write.ensures.does in
+    let u = clearing c.law_prerequisites.ensures c.args.port _ _ (g.A.Adapter.device c.args.adapter.now) c.requires.on_and_agrees c.write.ensures.does in
     (u.adapter_is_on, u.has_port)
 
-pub returns-clause-on : goal.returns-clause-on
-returns-clause-on g c = seen_on c.law_prerequisites.ensures c.args.port _ _ _ _ c.requires.usable c.write.ensures.does c.read.ensures.does
+pub returns-clause-adapter_is_on : goal.returns-clause-adapter_is_on
+returns-clause-adapter_is_on g c = seen_on c.law_prerequisites.ensures c.args.port _ _ _ _ c.requires.on_and_agrees c.write.ensures.does c.read.ensures.does
 
 pub returns-clause-followed : goal.returns-clause-followed
-returns-clause-followed g c = seen_followed c.law_prerequisites.ensures c.args.port _ _ _ _ c.requires.usable c.write.ensures.does c.read.ensures.does
+returns-clause-followed g c = seen_followed c.law_prerequisites.ensures c.args.port _ _ _ _ c.requires.on_and_agrees c.write.ensures.does c.read.ensures.does
 
-pub returns-clause-asks : goal.returns-clause-asks
-returns-clause-asks g c = record {
-  stopped = seen_stopped c.law_prerequisites.ensures c.args.port _ _ _ _ c.requires.usable c.write.ensures.does c.read.ensures.does;
-  errors_are_clear = seen_clear c.law_prerequisites.ensures c.args.port _ _ _ _ c.requires.usable c.write.ensures.does c.read.ensures.does;
-  device_is_shown = λ is. let device = eqb-true _ _ is in let shown = c.detection.ensures in seen_there c.law_prerequisites.ensures c.args.port _ _ _ _ c.requires.usable c.write.ensures.does c.read.ensures.does (omega (arith, device, shown));
-  no_device_is_backed = λ is. let shown = c.detection.ensures in seen_none c.law_prerequisites.ensures c.args.port _ _ _ _ c.requires.usable c.write.ensures.does c.read.ensures.does (λ three. absurd (true≢false (sym (eq-eqb _ 3 (omega (arith, three, shown))) ∙ is)));
+pub returns-clause-detects : goal.returns-clause-detects
+returns-clause-detects g c = record {
+  stopped = seen_stopped c.law_prerequisites.ensures c.args.port _ _ _ _ c.requires.on_and_agrees c.write.ensures.does c.read.ensures.does;
+  errors_are_clear = seen_clear c.law_prerequisites.ensures c.args.port _ _ _ _ c.requires.on_and_agrees c.write.ensures.does c.read.ensures.does;
+  device_is_shown = λ is. let device = eqb-true _ _ is in let shown = c.detection.ensures in seen_there c.law_prerequisites.ensures c.args.port _ _ _ _ c.requires.on_and_agrees c.write.ensures.does c.read.ensures.does (omega (arith, device, shown));
+  no_device_is_backed = λ is. let shown = c.detection.ensures in seen_none c.law_prerequisites.ensures c.args.port _ _ _ _ c.requires.on_and_agrees c.write.ensures.does c.read.ensures.does (λ three. absurd (true≢false (sym (eq-eqb _ 3 (omega (arith, three, shown))) ∙ is)));
 }

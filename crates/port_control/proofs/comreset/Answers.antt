@@ -11,11 +11,11 @@ look-requires-clause-usable g c = usable_after c.law_prerequisites.ensures Reset
 pub returns-in-Ok-clause-followed : goal.returns-in-Ok-clause-followed
 returns-in-Ok-clause-followed g c = both_followed c.law_prerequisites.ensures c.args.receiving.port _ _ _ (record { adapter_is_on = c.requires.may.adapter_is_on; has_port = c.requires.may.has_port; machine_is_related = c.requires.may.machine_is_related }) c.send_comreset.ensures.followed c.look.ensures.followed
 
-pub returns-in-Ok-clause-on : goal.returns-in-Ok-clause-on
-returns-in-Ok-clause-on g c = both_on c.law_prerequisites.ensures c.args.receiving.port _ _ _ (record { adapter_is_on = c.requires.may.adapter_is_on; has_port = c.requires.may.has_port; machine_is_related = c.requires.may.machine_is_related }) c.send_comreset.ensures.followed c.look.ensures.followed
+pub returns-in-Ok-clause-adapter_is_on : goal.returns-in-Ok-clause-adapter_is_on
+returns-in-Ok-clause-adapter_is_on g c = both_on c.law_prerequisites.ensures c.args.receiving.port _ _ _ (record { adapter_is_on = c.requires.may.adapter_is_on; has_port = c.requires.may.has_port; machine_is_related = c.requires.may.machine_is_related }) c.send_comreset.ensures.followed c.look.ensures.followed
 
-pub returns-in-Ok-clause-resets : goal.returns-in-Ok-clause-resets
-returns-in-Ok-clause-resets g c = record {
+pub returns-in-Ok-clause-stays_receiving : goal.returns-in-Ok-clause-stays_receiving
+returns-in-Ok-clause-stays_receiving g c = record {
   receives = (looked c.law_prerequisites.ensures c.args.receiving.port _ _ _ (record { adapter_is_on = c.requires.may.adapter_is_on; has_port = c.requires.may.has_port; machine_is_related = c.requires.may.machine_is_related }) c.send_comreset.ensures.followed c.look.ensures.followed).receiving c.send_comreset.ensures.sends.receives;
   link_is_coming_up = both_coming c.law_prerequisites.ensures c.args.receiving.port _ _ _ (record { adapter_is_on = c.requires.may.adapter_is_on; has_port = c.requires.may.has_port; machine_is_related = c.requires.may.machine_is_related }) c.send_comreset.ensures.followed c.look.ensures.followed c.send_comreset.ensures.sends.link_is_coming_up;
 }
@@ -24,9 +24,9 @@ pub returns-in-Ok-clause-finds : goal.returns-in-Ok-clause-finds
 returns-in-Ok-clause-finds g c = (
   refl,
   record {
-    reset = reset_on c.args.receiving.port (FindsSignature c.args.receiving.port 0x101) _ _ _ c.send_comreset.ensures.sends.reset c.in-Ok.ensures.sees.looks (looked c.law_prerequisites.ensures c.args.receiving.port _ _ _ (record { adapter_is_on = c.requires.may.adapter_is_on; has_port = c.requires.may.has_port; machine_is_related = c.requires.may.machine_is_related }) c.send_comreset.ensures.followed c.look.ensures.followed);
+    comreset_is_sent = reset_on c.args.receiving.port (FindsSignature c.args.receiving.port 0x101) _ _ _ c.send_comreset.ensures.sends.comreset_is_sent c.in-Ok.ensures.sees.finds_signature (looked c.law_prerequisites.ensures c.args.receiving.port _ _ _ (record { adapter_is_on = c.requires.may.adapter_is_on; has_port = c.requires.may.has_port; machine_is_related = c.requires.may.machine_is_related }) c.send_comreset.ensures.followed c.look.ensures.followed);
     disk_is_seen = c.in-Ok.ensures.sees.disk_is_seen;
-    device_is_found = both_found c.law_prerequisites.ensures c.args.receiving.port _ _ _ (record { adapter_is_on = c.requires.may.adapter_is_on; has_port = c.requires.may.has_port; machine_is_related = c.requires.may.machine_is_related }) c.send_comreset.ensures.followed c.look.ensures.followed c.send_comreset.ensures.sends.link_is_coming_up c.send_comreset.ensures.sends.awaited c.in-Ok.ensures.sees.device_is_found;
+    device_is_found = both_found c.law_prerequisites.ensures c.args.receiving.port _ _ _ (record { adapter_is_on = c.requires.may.adapter_is_on; has_port = c.requires.may.has_port; machine_is_related = c.requires.may.machine_is_related }) c.send_comreset.ensures.followed c.look.ensures.followed c.send_comreset.ensures.sends.link_is_coming_up c.send_comreset.ensures.sends.shows_drq_till_link c.in-Ok.ensures.sees.device_is_found;
     signature_is_shown = c.in-Ok.ensures.sees.signature_is_shown;
   },
 )
@@ -34,11 +34,11 @@ returns-in-Ok-clause-finds g c = (
 pub returns-in-Err-clause-followed : goal.returns-in-Err-clause-followed
 returns-in-Err-clause-followed g c = both_followed c.law_prerequisites.ensures c.args.receiving.port _ _ _ (record { adapter_is_on = c.requires.may.adapter_is_on; has_port = c.requires.may.has_port; machine_is_related = c.requires.may.machine_is_related }) c.send_comreset.ensures.followed c.look.ensures.followed
 
-pub returns-in-Err-clause-on : goal.returns-in-Err-clause-on
-returns-in-Err-clause-on g c = both_on c.law_prerequisites.ensures c.args.receiving.port _ _ _ (record { adapter_is_on = c.requires.may.adapter_is_on; has_port = c.requires.may.has_port; machine_is_related = c.requires.may.machine_is_related }) c.send_comreset.ensures.followed c.look.ensures.followed
+pub returns-in-Err-clause-adapter_is_on : goal.returns-in-Err-clause-adapter_is_on
+returns-in-Err-clause-adapter_is_on g c = both_on c.law_prerequisites.ensures c.args.receiving.port _ _ _ (record { adapter_is_on = c.requires.may.adapter_is_on; has_port = c.requires.may.has_port; machine_is_related = c.requires.may.machine_is_related }) c.send_comreset.ensures.followed c.look.ensures.followed
 
-pub returns-in-Err-clause-resets : goal.returns-in-Err-clause-resets
-returns-in-Err-clause-resets g c = record {
+pub returns-in-Err-clause-stays_receiving : goal.returns-in-Err-clause-stays_receiving
+returns-in-Err-clause-stays_receiving g c = record {
   receives = (looked c.law_prerequisites.ensures c.args.receiving.port _ _ _ (record { adapter_is_on = c.requires.may.adapter_is_on; has_port = c.requires.may.has_port; machine_is_related = c.requires.may.machine_is_related }) c.send_comreset.ensures.followed c.look.ensures.followed).receiving c.send_comreset.ensures.sends.receives;
   link_is_coming_up = both_coming c.law_prerequisites.ensures c.args.receiving.port _ _ _ (record { adapter_is_on = c.requires.may.adapter_is_on; has_port = c.requires.may.has_port; machine_is_related = c.requires.may.machine_is_related }) c.send_comreset.ensures.followed c.look.ensures.followed c.send_comreset.ensures.sends.link_is_coming_up;
 }
@@ -47,9 +47,9 @@ pub returns-in-Err-clause-fault : goal.returns-in-Err-clause-fault
 returns-in-Err-clause-fault g c = (
   refl,
   record {
-    reset = reset_on c.args.receiving.port (SeesResetFault c.args.receiving.port c.in-Err.fault) _ _ _ c.send_comreset.ensures.sends.reset c.in-Err.ensures.fault.looks (looked c.law_prerequisites.ensures c.args.receiving.port _ _ _ (record { adapter_is_on = c.requires.may.adapter_is_on; has_port = c.requires.may.has_port; machine_is_related = c.requires.may.machine_is_related }) c.send_comreset.ensures.followed c.look.ensures.followed);
+    comreset_is_sent = reset_on c.args.receiving.port (SeesResetFault c.args.receiving.port c.in-Err.fault) _ _ _ c.send_comreset.ensures.sends.comreset_is_sent c.in-Err.ensures.fault.sees_reset_fault (looked c.law_prerequisites.ensures c.args.receiving.port _ _ _ (record { adapter_is_on = c.requires.may.adapter_is_on; has_port = c.requires.may.has_port; machine_is_related = c.requires.may.machine_is_related }) c.send_comreset.ensures.followed c.look.ensures.followed);
     fault_is_backed = c.in-Err.ensures.fault.fault_is_backed;
-    device_is_found = λ other. both_found c.law_prerequisites.ensures c.args.receiving.port _ _ _ (record { adapter_is_on = c.requires.may.adapter_is_on; has_port = c.requires.may.has_port; machine_is_related = c.requires.may.machine_is_related }) c.send_comreset.ensures.followed c.look.ensures.followed c.send_comreset.ensures.sends.link_is_coming_up c.send_comreset.ensures.sends.awaited (c.in-Err.ensures.fault.device_is_found other);
+    device_is_found = λ other. both_found c.law_prerequisites.ensures c.args.receiving.port _ _ _ (record { adapter_is_on = c.requires.may.adapter_is_on; has_port = c.requires.may.has_port; machine_is_related = c.requires.may.machine_is_related }) c.send_comreset.ensures.followed c.look.ensures.followed c.send_comreset.ensures.sends.link_is_coming_up c.send_comreset.ensures.sends.shows_drq_till_link (c.in-Err.ensures.fault.device_is_found other);
     signature_is_shown = c.in-Err.ensures.fault.signature_is_shown;
   },
 )

@@ -49,8 +49,8 @@ pub returns-then-not-wait_for_device-clause-fault : goal.returns-then-not-wait_f
 returns-then-not-wait_for_device-clause-fault g c =
     let missed = c.wait_for_device.ensures.misses c.if-not-wait_for_device.true in
     record {
-      looks = missed.reads_in_vain;
-      fault_is_backed = (missed.fault, λ (e : NoDevice ≡ EngineStuck). absurd (cc));
+      sees_reset_fault = missed.reads_in_vain;
+      fault_is_backed = (missed.no_device_is_backed, λ (e : NoDevice ≡ EngineStuck). absurd (cc));
       device_is_found = λ other. absurd (other refl);
       signature_is_shown = λ signature (e : NoDevice ≡ NotAta signature). absurd (cc);
     }
@@ -68,10 +68,10 @@ returns-then-not-wait_until_idle-clause-fault g c =
     let found = c.wait_for_device.ensures.finds c.if-not-wait_for_device.false in
     let errors = c.clear_errors.ensures.clears in
     let awaits = c.wait_until_idle.ensures.awaits in
-    let link = finds_link c.args.port found.sees errors.clears in
+    let link = finds_link c.args.port found.reads_until_link errors.clears in
     let busy = awaits.busy_is_backed c.if-not-wait_until_idle.true in
     record {
-      looks = finds_busy c.args.port link busy.1;
+      sees_reset_fault = finds_busy c.args.port link busy.1;
       fault_is_backed = (busy.0, λ (e : Busy ≡ EngineStuck). absurd (cc));
       device_is_found = λ _. has_device c.law_prerequisites.ensures c.args.port _ _ _ _ c.requires.receives seen cleared waited found.link_is_up errors.no_cause_is_set errors.errors_are_clear awaits.is_clean_to_start;
       signature_is_shown = λ signature (e : Busy ≡ NotAta signature). absurd (cc);
@@ -91,10 +91,10 @@ returns-then-signature-ne-ATA_SIGNATURE-clause-fault g c =
     let found = c.wait_for_device.ensures.finds c.if-not-wait_for_device.false in
     let errors = c.clear_errors.ensures.clears in
     let awaits = c.wait_until_idle.ensures.awaits in
-    let link = finds_link c.args.port found.sees errors.clears in
+    let link = finds_link c.args.port found.reads_until_link errors.clears in
     let idle = awaits.disk_is_idle c.if-not-wait_until_idle.false in
     record {
-      looks = finds_signature c.args.port _ link idle.1 c.read-signature.ensures.does;
+      sees_reset_fault = finds_signature c.args.port _ link idle.1 c.read-signature.ensures.does;
       fault_is_backed = (
         (sig_saw c.law_prerequisites.ensures c.args.port _ _ _ third c.read-signature.ensures.does awaits.device_was_seen, sig_idle c.law_prerequisites.ensures c.args.port _ _ _ third c.read-signature.ensures.does idle.0, sig_last c.law_prerequisites.ensures c.args.port _ _ _ third c.read-signature.ensures.does, λ ata. absurd (omega arith)),
         λ (e : NotAta c.read-signature.result ≡ EngineStuck). absurd (cc),
@@ -117,12 +117,12 @@ returns-clause-sees g c =
     let found = c.wait_for_device.ensures.finds c.if-not-wait_for_device.false in
     let errors = c.clear_errors.ensures.clears in
     let awaits = c.wait_until_idle.ensures.awaits in
-    let link = finds_link c.args.port found.sees errors.clears in
+    let link = finds_link c.args.port found.reads_until_link errors.clears in
     let idle = awaits.disk_is_idle c.if-not-wait_until_idle.false in
     let ata : c.read-signature.result ≡ 0x101 = omega arith in
     let F : ℕ → Type 0 = λ n. FindsSignature c.args.port n (g.A.Adapter.device c.args.adapter.now) (g.A.Adapter.device c.read-signature.new.self) in
     record {
-      looks = subst F ata (finds_signature c.args.port _ link idle.1 c.read-signature.ensures.does);
+      finds_signature = subst F ata (finds_signature c.args.port _ link idle.1 c.read-signature.ensures.does);
       disk_is_seen = (sig_saw c.law_prerequisites.ensures c.args.port _ _ _ third c.read-signature.ensures.does awaits.device_was_seen, sig_idle c.law_prerequisites.ensures c.args.port _ _ _ third c.read-signature.ensures.does idle.0, sig_last c.law_prerequisites.ensures c.args.port _ _ _ third c.read-signature.ensures.does ∙ ata);
       device_is_found = has_device c.law_prerequisites.ensures c.args.port _ _ _ _ c.requires.receives seen cleared signed found.link_is_up errors.no_cause_is_set errors.errors_are_clear (λ awaited unflagged. sig_quiet c.law_prerequisites.ensures c.args.port _ _ _ third c.read-signature.ensures.does (awaits.is_clean_to_start awaited unflagged));
       signature_is_shown = sig_shown c.law_prerequisites.ensures c.args.port _ _ _ third c.read-signature.ensures.does;

@@ -14,12 +14,12 @@ use Rattle.adapter.specs.Device.{DevicePort, Device}
 use Rattle.adapter.specs.Rules.{IsOn}
 use Rattle.adapter.specs.Steps.{Steps}
 use Rattle.refinement.specs.Fragments.{TapeGrows, IsDrivenBy}
-use Rattle.refinement.specs.Errors.{IsFatalOf, NoneFails, NoneFatal}
+use Rattle.refinement.specs.Errors.{IsFatalErrorOf, NoFaults, NoFatalErrors}
 use Rattle.refinement.specs.PortFacts.{IsFaultOf}
-use Rattle.refinement.specs.Links.{LeavesLink, NoPlugEvents, DoesNotWrite}
+use Rattle.refinement.specs.PreservedParts.{LinkIsSameOrComesUp, NoPlugEvents, DoesNotWrite}
 use Rattle.port_control.specs.EventLaws.{Laws}
 use Rattle.port_control.specs.PortEvents.{TakesEvent}
-use Rattle.port_control.specs.ServiceAccesses.{LinkWasLost, IsServiceAccess, LeavesPxIs, HidesNoPlugEvent, HidesNoFatal, HidesNoFault, ShowsNoFatal}
+use Rattle.port_control.specs.ServiceAccesses.{LinkChangedOrMissing, IsServiceAccess, IsServiceButPxIs, HidesNoPlugEvent, HidesNoFatal, HidesNoFault, ShowsNoFatal}
 use Rattle.port_control.specs.declared.events.PortEvent.{PortEvent}
 use Rattle.port_control.specs.declared.events.PortEvent.TheVariants.{LinkChanged}
 use Rattle.port_control.proofs.looks.Seeing.{cleared_on, left_set, rest, seen_on}
@@ -28,7 +28,7 @@ use Rattle.port_control.proofs.looks.Stretching.{kept_on}
 use Rattle.port_control.proofs.looks.Telling.{answered_lost}
 
 -- a device that shows is shown still
-shows_still : (p new : DevicePort) → LeavesLink p new → p.ssts_det ≡ 3 → new.ssts_det ≡ 3
+shows_still : (p new : DevicePort) → LinkIsSameOrComesUp p new → p.ssts_det ≡ 3 → new.ssts_det ≡ 3
 shows_still p new (inl same) det = same.det ∙ det
 shows_still p new (inr up) det = up.det
 
@@ -52,25 +52,25 @@ module _ (laws : Laws) (Clear : DevicePort → Type 0) (None : ℕ → Device �
       let early = p late.0 in
       (early.0, more port.0 a b c early.1 late.1)
 
-  module _ (over : (access : Access) (old new : Device) → IsOn old → LeavesPxIs port access → Does access old new → Shown old new) where
-    ordinary_over : (old new : Device) → IsOn old → IsDrivenBy (LeavesPxIs port) old new → Shown old new
+  module _ (over : (access : Access) (old new : Device) → IsOn old → IsServiceButPxIs port access → Does access old new → Shown old new) where
+    ordinary_over : (old new : Device) → IsOn old → IsDrivenBy (IsServiceButPxIs port) old new → Shown old new
     ordinary_over old new on a =
-        (kept_on laws Shown (λ d clear. (clear, none port.0 d)) shown_more (LeavesPxIs port) (λ access is. spares_ghc access is.0) (λ access x y here is does. over access x y here is does) old new on a).0
+        (kept_on laws Shown (λ d clear. (clear, none port.0 d)) shown_more (IsServiceButPxIs port) (λ access is. spares_ghc access is.0) (λ access x y here is does. over access x y here is does) old new on a).0
 
-    look_over : (result : PortEvent) (old new : Device) (l : TakesEvent port result old new) → IsOn old → Shown l.seen l.cleared → Shown old new
+    look_over : (result : PortEvent) (old new : Device) (l : TakesEvent port result old new) → IsOn old → Shown l.after_is_read l.cleared → Shown old new
     look_over result old new l on write =
-        shown_more old l.seen new (over (Reading (Px port Is) l.causes) old l.seen on (tt, tt) l.reads)
-        (shown_more l.seen l.cleared new write (ordinary_over l.cleared new (cleared_on laws port result old new l on) (rest port result old new l)))
+        shown_more old l.after_is_read new (over (Reading (Px port Is) l.causes) old l.after_is_read on (tt, tt) l.reads)
+        (shown_more l.after_is_read l.cleared new write (ordinary_over l.cleared new (cleared_on laws port result old new l on) (rest port result old new l)))
 
   -- a write of PxIS, where what is clear after it was so before it
   write_over : (steps : (old new : Device) → old.hr ≡ false → Steps old new → Shown old new) → (v : ℕ) (old new : Device) → old.hr ≡ false → (w : Writes (Px port Is) v old new)
-      → (Clear (new.port port.0) → Clear (w.mid.port port.0)) → (w.mid.tape ≡ new.tape → None port.0 w.mid new) → Shown old new
+      → (Clear (new.port port.0) → Clear (w.at_access.port port.0)) → (w.at_access.tape ≡ new.tape → None port.0 w.at_access new) → Shown old new
   write_over steps v old new off w leaves ends clear =
-      let early = steps old w.mid off w.steps (leaves clear) in
-      (early.0, more port.0 old w.mid new early.1 (ends (sym (ap (λ (d : Device). d.tape) w.effect))))
+      let early = steps old w.at_access off w.steps (leaves clear) in
+      (early.0, more port.0 old w.at_access new early.1 (ends (sym (ap (λ (d : Device). d.tape) w.effect))))
 
 -- neither PxIS nor PxSERR is among the registers that are written
-ordinary_spares : (port : Port) (access : Access) → LeavesPxIs port access → DoesNotWrite (Px port Serr) access
+ordinary_spares : (port : Port) (access : Access) → IsServiceButPxIs port access → DoesNotWrite (Px port Serr) access
 ordinary_spares port access is = spares_port port Serr (λ e. cc) (λ e. cc) (λ e. cc) access is.0
 
 module _ (laws : Laws) where
@@ -78,9 +78,9 @@ module _ (laws : Laws) where
 
   linked_more : (port : ℕ) (a b c : Device) → StaysLinked port a b → StaysLinked port b c → StaysLinked port a c
   linked_more port a b c p q = (
-    laws.tape.grows_more a b c p.0 q.0,
+    laws.tape.growth_is_transitive a b c p.0 q.0,
     λ none undue det.
-        let parts = laws.tape.plugs_parts port a b c p.0.0 q.0.0 p.0.1 q.0.1 none in
+        let parts = laws.tape.no_plug_events_in_parts port a b c p.0.0 q.0.0 p.0.1 q.0.1 none in
         let x = p.1 parts.0 undue det in
         q.1 parts.1 x.0 x.1,
   )
@@ -90,21 +90,21 @@ module _ (laws : Laws) where
       let spares = spares_port port Sctl (λ e. cc) (λ e. cc) (λ e. cc) access is in (
         laws.tape.access_grows access old new does,
         λ none undue det. (
-          laws.tape.access_undue port access old new on.no_reset undue spares does,
-          shows_still (old.port port.0) (new.port port.0) (laws.access_link port access old new on.no_reset spares does none) det,
+          laws.tape.access_makes_no_link_due port access old new on.no_reset undue spares does,
+          shows_still (old.port port.0) (new.port port.0) (laws.access_leaves_link port access old new on.no_reset spares does none) det,
         ),
       )
 
   -- ---- what isn't shown hasn't come
 
-  fault_over : (port : Port) (access : Access) (old new : Device) → IsOn old → LeavesPxIs port access → Does access old new → HidesNoFault port.0 old new
-  fault_over port access old new on is does = laws.access_unfailed port access old new on.no_reset is.1 does
+  fault_over : (port : Port) (access : Access) (old new : Device) → IsOn old → IsServiceButPxIs port access → Does access old new → HidesNoFault port.0 old new
+  fault_over port access old new on is does = laws.access_hides_no_fault port access old new on.no_reset is.1 does
 
-  fatal_over : (port : Port) (access : Access) (old new : Device) → IsOn old → LeavesPxIs port access → Does access old new → HidesNoFatal port.0 old new
-  fatal_over port access old new on is does = laws.access_unbroken port access old new on.no_reset is.1 does
+  fatal_over : (port : Port) (access : Access) (old new : Device) → IsOn old → IsServiceButPxIs port access → Does access old new → HidesNoFatal port.0 old new
+  fatal_over port access old new on is does = laws.access_hides_no_fatal port access old new on.no_reset is.1 does
 
-  disk_over : (port : Port) (access : Access) (old new : Device) → IsOn old → LeavesPxIs port access → Does access old new → HidesNoPlugEvent port.0 old new
-  disk_over port access old new on is does = laws.access_undisturbed port access old new on.no_reset (ordinary_spares port access is) does
+  disk_over : (port : Port) (access : Access) (old new : Device) → IsOn old → IsServiceButPxIs port access → Does access old new → HidesNoPlugEvent port.0 old new
+  disk_over port access old new on is does = laws.access_hides_no_plug_event port access old new on.no_reset (ordinary_spares port access is) does
 
   abbrev Tfes : DevicePort → Type 0
   Tfes p = p.is 30 ≡ false
@@ -112,93 +112,93 @@ module _ (laws : Laws) where
   abbrev Change : DevicePort → Type 0
   Change p = p.serr_n ≡ false
 
-  pub ordinary_shows : (port : Port) (old new : Device) → IsOn old → IsDrivenBy (LeavesPxIs port) old new → HidesNoFault port.0 old new
-  ordinary_shows port = ordinary_over laws Tfes NoneFails laws.tape.fails_none laws.tape.fails_more port (fault_over port)
+  pub ordinary_shows : (port : Port) (old new : Device) → IsOn old → IsDrivenBy (IsServiceButPxIs port) old new → HidesNoFault port.0 old new
+  ordinary_shows port = ordinary_over laws Tfes NoFaults laws.tape.no_faults_reflexive laws.tape.no_faults_transitive port (fault_over port)
 
-  pub ordinary_fatals : (port : Port) (old new : Device) → IsOn old → IsDrivenBy (LeavesPxIs port) old new → HidesNoFatal port.0 old new
-  ordinary_fatals port = ordinary_over laws ShowsNoFatal NoneFatal laws.tape.fatal_none laws.tape.fatal_more port (fatal_over port)
+  pub ordinary_fatals : (port : Port) (old new : Device) → IsOn old → IsDrivenBy (IsServiceButPxIs port) old new → HidesNoFatal port.0 old new
+  ordinary_fatals port = ordinary_over laws ShowsNoFatal NoFatalErrors laws.tape.no_fatal_errors_reflexive laws.tape.no_fatal_errors_transitive port (fatal_over port)
 
-  pub ordinary_disks : (port : Port) (old new : Device) → IsOn old → IsDrivenBy (LeavesPxIs port) old new → HidesNoPlugEvent port.0 old new
-  ordinary_disks port = ordinary_over laws Change NoPlugEvents laws.tape.plugs_none laws.tape.plugs_more port (disk_over port)
+  pub ordinary_disks : (port : Port) (old new : Device) → IsOn old → IsDrivenBy (IsServiceButPxIs port) old new → HidesNoPlugEvent port.0 old new
+  ordinary_disks port = ordinary_over laws Change NoPlugEvents laws.tape.no_plug_events_reflexive laws.tape.no_plug_events_transitive port (disk_over port)
 
   -- a bit that is clear after a write that leaves it was clear
-  was_clear : (port : Port) (v place : ℕ) (old new : Device) → old.hr ≡ false → (w : Writes (Px port Is) v old new) → bit v place ≡ false → (new.port port.0).is place ≡ false → (w.mid.port port.0).is place ≡ false
+  was_clear : (port : Port) (v place : ℕ) (old new : Device) → old.hr ≡ false → (w : Writes (Px port Is) v old new) → bit v place ≡ false → (new.port port.0).is place ≡ false → (w.at_access.port port.0).is place ≡ false
   was_clear port v place old new off w unread clear = ⊎_elim
-      (λ (set : (w.mid.port port.0).is place ≡ true). absurd (false≢true (sym clear ∙ left_set laws port v place old new off w set unread)))
+      (λ (set : (w.at_access.port port.0).is place ≡ true). absurd (false≢true (sym clear ∙ left_set laws port v place old new off w set unread)))
       (λ unset. unset)
-      (cases_Bool ((w.mid.port port.0).is place))
+      (cases_Bool ((w.at_access.port port.0).is place))
 
   -- ---- a look
 
   module _ (port : Port) (result : PortEvent) (old new : Device) (l : TakesEvent port result old new) (on : IsOn old) where
-    off : l.seen.hr ≡ false
+    off : l.after_is_read.hr ≡ false
     off = (seen_on laws port result old new l on).no_reset
 
     pub unread_shows : bit l.causes 30 ≡ false → HidesNoFault port.0 old new
     unread_shows unread =
-        look_over laws Tfes NoneFails laws.tape.fails_none laws.tape.fails_more port (fault_over port) result old new l on
-        (write_over laws Tfes NoneFails laws.tape.fails_none laws.tape.fails_more port (laws.steps_unfailed port.0) l.causes l.seen l.cleared off l.clears
-        (was_clear port l.causes 30 l.seen l.cleared off l.clears unread)
-        (λ tape. record { new_entries = []; tape_is = sym tape ∙ sym (append-nil l.clears.mid.tape); no_such_entry = All-nil (λ e. IsFaultOf port.0 e → ⊥) }))
+        look_over laws Tfes NoFaults laws.tape.no_faults_reflexive laws.tape.no_faults_transitive port (fault_over port) result old new l on
+        (write_over laws Tfes NoFaults laws.tape.no_faults_reflexive laws.tape.no_faults_transitive port (laws.steps_hide_no_fault port.0) l.causes l.after_is_read l.cleared off l.clears
+        (was_clear port l.causes 30 l.after_is_read l.cleared off l.clears unread)
+        (λ tape. record { new_entries = []; tape_is = sym tape ∙ sym (append-nil l.clears.at_access.tape); no_such_entry = All-nil (λ e. IsFaultOf port.0 e → ⊥) }))
 
     pub unread_fatals : ((place : ℕ) → 27 ≤ place → place ≤ 29 → bit l.causes place ≡ false) → HidesNoFatal port.0 old new
     unread_fatals unread =
-        look_over laws ShowsNoFatal NoneFatal laws.tape.fatal_none laws.tape.fatal_more port (fatal_over port) result old new l on
-        (write_over laws ShowsNoFatal NoneFatal laws.tape.fatal_none laws.tape.fatal_more port (laws.steps_unbroken port.0) l.causes l.seen l.cleared off l.clears
-        (λ clear place from to. was_clear port l.causes place l.seen l.cleared off l.clears (unread place from to) (clear place from to))
-        (λ tape. record { new_entries = []; tape_is = sym tape ∙ sym (append-nil l.clears.mid.tape); no_such_entry = All-nil (λ e. IsFatalOf port.0 e → ⊥) }))
+        look_over laws ShowsNoFatal NoFatalErrors laws.tape.no_fatal_errors_reflexive laws.tape.no_fatal_errors_transitive port (fatal_over port) result old new l on
+        (write_over laws ShowsNoFatal NoFatalErrors laws.tape.no_fatal_errors_reflexive laws.tape.no_fatal_errors_transitive port (laws.steps_hide_no_fatal port.0) l.causes l.after_is_read l.cleared off l.clears
+        (λ clear place from to. was_clear port l.causes place l.after_is_read l.cleared off l.clears (unread place from to) (clear place from to))
+        (λ tape. record { new_entries = []; tape_is = sym tape ∙ sym (append-nil l.clears.at_access.tape); no_such_entry = All-nil (λ e. IsFatalErrorOf port.0 e → ⊥) }))
 
     -- the write of PxIS is none of PxSERR
     pub look_disks : HidesNoPlugEvent port.0 old new
     look_disks =
-        look_over laws Change NoPlugEvents laws.tape.plugs_none laws.tape.plugs_more port (disk_over port) result old new l on
-        (laws.access_undisturbed port (Writing (Px port Is) l.causes) l.seen l.cleared off (λ e. absurd (let z : Px port Is ≡ Px port Serr = e in cc)) l.clears)
+        look_over laws Change NoPlugEvents laws.tape.no_plug_events_reflexive laws.tape.no_plug_events_transitive port (disk_over port) result old new l on
+        (laws.access_hides_no_plug_event port (Writing (Px port Is) l.causes) l.after_is_read l.cleared off (λ e. absurd (let z : Px port Is ≡ Px port Serr = e in cc)) l.clears)
 
     -- what comes before PxSSTS is read
     early : IsDrivenBy IsServiceAccess old l.acknowledged
     early = record {
       accesses = Reading (Px port Is) l.causes ∷ Writing (Px port Is) l.causes ∷ Writing reg.Is l.port_mask ∷ [];
-      all_are_done = (l.seen, l.reads, (l.cleared, l.clears, (l.acknowledged, l.acknowledges, refl)));
+      all_are_done = (l.after_is_read, l.reads, (l.cleared, l.clears, (l.acknowledged, l.acknowledges, refl)));
       accesses_are_of_kind = All-cons IsServiceAccess (Reading (Px port Is) l.causes) (Writing (Px port Is) l.causes ∷ Writing reg.Is l.port_mask ∷ []) tt
           (All-cons IsServiceAccess (Writing (Px port Is) l.causes) (Writing reg.Is l.port_mask ∷ []) (inr (port, inl refl))
           (All-cons IsServiceAccess (Writing reg.Is l.port_mask) [] (inl refl) (All-nil IsServiceAccess)));
     }
 
     -- It told a loss: so it had one to tell when it began, or a disk went or came meanwhile.
-    pub tells_loss : (old.port port.0).link_due ≡ false → result ≡ LinkChanged → LinkWasLost port.0 old new
+    pub tells_loss : (old.port port.0).link_due ≡ false → result ≡ LinkChanged → LinkChangedOrMissing port.0 old new
     tells_loss undue is = ⊎_elim
         (λ x. by_change (inr x))
         (λ more. ⊎_elim (λ n. by_change (inl n)) by_link more)
         (answered_lost l.causes l.status (sym l.result_is ∙ is))
       where
-        reading : TapeGrows old l.seen
-        reading = laws.tape.access_grows (Reading (Px port Is) l.causes) old l.seen l.reads
+        reading : TapeGrows old l.after_is_read
+        reading = laws.tape.access_grows (Reading (Px port Is) l.causes) old l.after_is_read l.reads
 
         showing : TapeGrows l.acknowledged new
         showing = laws.tape.access_grows (Reading (Px port Ssts) l.status) l.acknowledged new l.reads_status
 
-        later : TapeGrows l.seen new
+        later : TapeGrows l.after_is_read new
         later =
-            laws.tape.grows_more l.seen l.cleared new (laws.tape.access_grows (Writing (Px port Is) l.causes) l.seen l.cleared l.clears)
-            (laws.tape.grows_more l.cleared l.acknowledged new (laws.tape.access_grows (Writing reg.Is l.port_mask) l.cleared l.acknowledged l.acknowledges) showing)
+            laws.tape.growth_is_transitive l.after_is_read l.cleared new (laws.tape.access_grows (Writing (Px port Is) l.causes) l.after_is_read l.cleared l.clears)
+            (laws.tape.growth_is_transitive l.cleared l.acknowledged new (laws.tape.access_grows (Writing reg.Is l.port_mask) l.cleared l.acknowledged l.acknowledges) showing)
 
         linked : StaysLinked port.0 old l.acknowledged × IsOn l.acknowledged
-        linked = services_keep laws (StaysLinked port.0) (λ d. (laws.tape.grows_none d, λ none due det. (due, det))) (linked_more port.0) (λ access x y ready kind does. service_linked port access x y ready kind does)
+        linked = services_keep laws (StaysLinked port.0) (λ d. (laws.tape.growth_is_reflexive d, λ none due det. (due, det))) (linked_more port.0) (λ access x y ready kind does. service_linked port access x y ready kind does)
             old l.acknowledged on early
 
         parts : NoPlugEvents port.0 old new → NoPlugEvents port.0 old l.acknowledged × NoPlugEvents port.0 l.acknowledged new
-        parts = laws.tape.plugs_parts port.0 old l.acknowledged new linked.0.0.0 showing.0 linked.0.0.1 showing.1
+        parts = laws.tape.no_plug_events_in_parts port.0 old l.acknowledged new linked.0.0.0 showing.0 linked.0.0.1 showing.1
 
-        by_change : (bit l.causes 22 ≡ true) ⊎ (bit l.causes 6 ≡ true) → LinkWasLost port.0 old new
+        by_change : (bit l.causes 22 ≡ true) ⊎ (bit l.causes 6 ≡ true) → LinkChangedOrMissing port.0 old new
         by_change told = ⊎_elim
             (λ n. inl (inl n))
-            (λ more. ⊎_elim (λ x. inl (inr x)) (λ came. inr (inr (λ none. came (laws.tape.plugs_parts port.0 old l.seen new reading.0 later.0 reading.1 later.1 none).0))) more)
-            (laws.changes_lost port l.causes old l.seen on.no_reset undue l.reads told)
+            (λ more. ⊎_elim (λ x. inl (inr x)) (λ came. inr (inr (λ none. came (laws.tape.no_plug_events_in_parts port.0 old l.after_is_read new reading.0 later.0 reading.1 later.1 none).0))) more)
+            (laws.change_read_has_cause port l.causes old l.after_is_read on.no_reset undue l.reads told)
 
-        by_link : l.status % 16 ≢ 3 → LinkWasLost port.0 old new
+        by_link : l.status % 16 ≢ 3 → LinkChangedOrMissing port.0 old new
         by_link other = ⊎_elim
             (λ (shows : (old.port port.0).ssts_det ≡ 3). inr (inr (λ none.
             let still = linked.0.1 (parts none).0 undue shows in
-            ⊎_elim (λ out. out still.1) (λ came. came (parts none).1) (laws.link_lost port l.status l.acknowledged new linked.1.no_reset still.0 l.reads_status other))))
+            ⊎_elim (λ out. out still.1) (λ came. came (parts none).1) (laws.no_link_read_has_cause port l.status l.acknowledged new linked.1.no_reset still.0 l.reads_status other))))
             (λ out. inr (inl out))
             (cases_eq (old.port port.0).ssts_det 3)

@@ -11,8 +11,8 @@ use Rattle.adapter.specs.Access.{Reads, Writes}
 use Rattle.adapter.specs.Access.Access.{Reading, Writing}
 use Rattle.adapter.specs.Device.{Device}
 use Rattle.adapter.specs.Rules.{IsOn, HasPort, MayWrite, IsStable}
-use Rattle.refinement.specs.Fragments.{AnyUse, IsSoleBit, IsSimulated}
-use Rattle.refinement.specs.Links.{SameAdapter}
+use Rattle.refinement.specs.Fragments.{AnySlotStates, IsSoleBit, IsSimulated}
+use Rattle.refinement.specs.PreservedParts.{SameAdapter}
 use Rattle.port_control.specs.EventLaws.{Laws}
 use Rattle.port_control.specs.EventLaws.AccessPurpose.{Looking}
 use Rattle.port_control.specs.PortEvents.{port_event_of, IsEventAccess, TakesEvent}
@@ -37,24 +37,24 @@ bit_alone port place v same fits set others =
 
 module _ (laws : Laws) (port : Port) (d0 d1 : Device) (causes : ℕ) (on : IsOn d0) (there : HasPort d0 port.0) (first : Reads (Px port Is) causes d0 d1) where
   -- one stretch of the look after another
-  then : (old mid new : Device) → IsSimulated (IsEventAccess port) AnyUse old mid → IsSimulated (IsEventAccess port) AnyUse mid new → IsSimulated (IsEventAccess port) AnyUse old new
-  then old mid new a b = (laws.fragments.both (Looking port) (Looking port) (λ uses. uses) (λ uses. uses) (λ access may. may) (λ uses fits. fits) old mid new a b).followed
+  then : (old mid new : Device) → IsSimulated (IsEventAccess port) AnySlotStates old mid → IsSimulated (IsEventAccess port) AnySlotStates mid new → IsSimulated (IsEventAccess port) AnySlotStates old new
+  then old mid new a b = (laws.fragments.fragments_join (Looking port) (Looking port) (λ uses. uses) (λ uses. uses) (λ access may. may) (λ uses fits. fits) old mid new a b).is_simulated
 
   pub one_on : IsOn d1
   one_on = spared_on laws (Reading (Px port Is) causes) d0 d1 tt first on
 
   pub one_there : HasPort d1 port.0
-  one_there = there_after port.0 d0 d1 (laws.access_same (Reading (Px port Is) causes) d0 d1 first) there
+  one_there = there_after port.0 d0 d1 (laws.access_keeps_adapter (Reading (Px port Is) causes) d0 d1 first) there
 
   -- PxSSTS is read then
   module _ (status : ℕ) (d2 : Device) (second : Reads (Px port Ssts) status d1 d2) where
     pub changing_on : IsOn d2
     changing_on = spared_on laws (Reading (Px port Ssts) status) d1 d2 tt second one_on
 
-    pub changing_followed : IsSimulated (IsEventAccess port) AnyUse d0 d2
+    pub changing_followed : IsSimulated (IsEventAccess port) AnySlotStates d0 d2
     changing_followed =
-        then d0 d1 d2 (laws.fragments.reads (Looking port) (Px port Is) causes d0 d1 (inl refl) first).followed
-        (laws.fragments.reads (Looking port) (Px port Ssts) status d1 d2 (inr refl) second).followed
+        then d0 d1 d2 (laws.fragments.reads (Looking port) (Px port Is) causes d0 d1 (inl refl) first).is_simulated
+        (laws.fragments.reads (Looking port) (Px port Ssts) status d1 d2 (inr refl) second).is_simulated
 
   pub clearing_may : (v : ℕ) → IsStable (MayWrite (Px port Is) v) d1
   clearing_may v = laws.write_stays (Px port Is) v d1 (λ p e. cc) (one_on, one_there, tt)
@@ -65,7 +65,7 @@ module _ (laws : Laws) (port : Port) (d0 d1 : Device) (causes : ℕ) (on : IsOn 
 
     -- PxIS was written, so the port's bit of IS may be
     pub acknowledging_may : (own : ℕ) → IsSoleBit port.0 own → IsStable (MayWrite reg.Is own) d2
-    acknowledging_may own alone = laws.acknowledging_may port v d1 d2 one_on second own (λ q small set. elim (cases_eq q port.0) [
+    acknowledging_may own alone = laws.acknowledging_is_permitted port v d1 d2 one_on second own (λ q small set. elim (cases_eq q port.0) [
       | inl e ↦ inl e
       | inr other ↦ absurd (true≢false (sym set ∙ alone.no_other_bit_is_set q other))
     ])
@@ -77,27 +77,27 @@ module _ (laws : Laws) (port : Port) (d0 d1 : Device) (causes : ℕ) (on : IsOn 
       pub showing_may : IsOn d3 × HasPort d3 port.0
       showing_may = (
         three_on,
-        there_after port.0 d2 d3 (laws.access_same (Writing reg.Is own) d2 d3 third)
-            (there_after port.0 d1 d2 (laws.access_same (Writing (Px port Is) v) d1 d2 second) one_there),
+        there_after port.0 d2 d3 (laws.access_keeps_adapter (Writing reg.Is own) d2 d3 third)
+            (there_after port.0 d1 d2 (laws.access_keeps_adapter (Writing (Px port Is) v) d1 d2 second) one_there),
       )
 
       module _ (status : ℕ) (d4 : Device) (fourth : Reads (Px port Ssts) status d3 d4) where
         pub looking_on : IsOn d4
         looking_on = spared_on laws (Reading (Px port Ssts) status) d3 d4 tt fourth three_on
 
-        pub looking_followed : IsSimulated (IsEventAccess port) AnyUse d0 d4
+        pub looking_followed : IsSimulated (IsEventAccess port) AnySlotStates d0 d4
         looking_followed =
-            then d0 d1 d4 (laws.fragments.reads (Looking port) (Px port Is) causes d0 d1 (inl refl) first).followed
-            (then d1 d2 d4 (laws.fragments.writes (Looking port) (Px port Is) v d1 d2 (inl refl) (clearing_may v) (λ uses is. tt) second).followed
-            (then d2 d3 d4 (laws.fragments.writes (Looking port) reg.Is own d2 d3 (inr (refl, alone)) (acknowledging_may own alone) (λ uses is. tt) third).followed
-            (laws.fragments.reads (Looking port) (Px port Ssts) status d3 d4 (inr refl) fourth).followed))
+            then d0 d1 d4 (laws.fragments.reads (Looking port) (Px port Is) causes d0 d1 (inl refl) first).is_simulated
+            (then d1 d2 d4 (laws.fragments.writes (Looking port) (Px port Is) v d1 d2 (inl refl) (clearing_may v) (λ uses is. tt) second).is_simulated
+            (then d2 d3 d4 (laws.fragments.writes (Looking port) reg.Is own d2 d3 (inr (refl, alone)) (acknowledging_may own alone) (λ uses is. tt) third).is_simulated
+            (laws.fragments.reads (Looking port) (Px port Ssts) status d3 d4 (inr refl) fourth).is_simulated))
 
 -- where what was read is written back, it was a look
 pub looked : (port : Port) (result : PortEvent) (d0 d1 d2 d3 d4 : Device) (causes own status : ℕ) → IsSoleBit port.0 own → Reads (Px port Is) causes d0 d1 → Writes (Px port Is) causes d1 d2 →
     Writes reg.Is own d2 d3 → Reads (Px port Ssts) status d3 d4 → result ≡ port_event_of causes status → TakesEvent port result d0 d4
 looked port result d0 d1 d2 d3 d4 causes own status alone first second third fourth is = record {
   causes = causes;
-  seen = d1;
+  after_is_read = d1;
   reads = first;
   cleared = d2;
   clears = second;

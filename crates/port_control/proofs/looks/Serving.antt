@@ -11,15 +11,15 @@ use Rattle.adapter.specs.Access.Access.{Reading, Writing, Loading, Storing}
 use Rattle.adapter.specs.Device.{DevicePort, Device}
 use Rattle.adapter.specs.Rules.{IsOn}
 use Rattle.refinement.specs.Relation.{port_at}
-use Rattle.refinement.specs.Fragments.{AnyAccess, TapeGrows, SameUses, IsRelated, IsDrivenBy, IsSimulated}
+use Rattle.refinement.specs.Fragments.{AnyAccess, TapeGrows, SameSlotStates, SomeMachineAgrees, IsDrivenBy, IsSimulated}
 use Rattle.refinement.specs.Errors.{KeepsErrors}
 use Rattle.refinement.specs.PortFacts.{RunsWell, Undisturbed}
-use Rattle.refinement.specs.Links.{DoesNotWrite, SameAdapter, LeavesControls}
+use Rattle.refinement.specs.PreservedParts.{DoesNotWrite, SameAdapter, LeavesControls}
 use Rattle.refinement.specs.Slots.{SlotStates}
 use Rattle.port_control.specs.EventLaws.{Laws}
 use Rattle.port_control.specs.EventLaws.AccessPurpose.{Serving}
 use Rattle.port_control.specs.PortEvents.{IsEventAccess}
-use Rattle.port_control.specs.ServiceAccesses.{IsServiceAccess, LeavesPxIs}
+use Rattle.port_control.specs.ServiceAccesses.{IsServiceAccess, IsServiceButPxIs}
 use Rattle.port_control.proofs.looks.Stretching.{driven_as, kept, kept_on}
 
 -- ---- kinds of accesses
@@ -31,7 +31,7 @@ looking_service port (Writing r v) (inr is) = inl is.0
 looking_service port (Storing at bytes) here = absurd here
 looking_service port (Loading at bytes) here = absurd here
 
-pub looking_beside : (port other : Port) (access : Access) → port.0 ≢ other.0 → IsEventAccess port access → LeavesPxIs other access
+pub looking_beside : (port other : Port) (access : Access) → port.0 ≢ other.0 → IsEventAccess port access → IsServiceButPxIs other access
 looking_beside port other (Reading r v) ne here = (tt, tt)
 looking_beside port other (Writing r v) ne (inl e) = (inr (port, inl e), λ q. ne (let z : Px port Is ≡ Px other Is = sym e ∙ q in let same : port ≡ other = cc in ap (λ (p : Port). p.0) same))
 looking_beside port other (Writing r v) ne (inr is) = (inl is.0, λ q. absurd (let z : reg.Is ≡ Px other Is = sym is.0 ∙ q in cc))
@@ -82,7 +82,7 @@ module _ (laws : Laws) where
   services_on old new on a = (services_keep (λ x y. Unit {0}) (λ d. tt) (λ x y z p q. tt) (λ access x y ready is does. tt) old new on a).1
 
   pub services_same : (old new : Device) → IsDrivenBy IsServiceAccess old new → SameAdapter old new
-  services_same old new a = laws.same_over old new (driven_as IsServiceAccess AnyAccess old new (λ access is. tt) a)
+  services_same old new a = laws.accesses_keep_adapter old new (driven_as IsServiceAccess AnyAccess old new (λ access is. tt) a)
 
   pub services_port : (port : Port) (old new : Device) → IsOn old → IsDrivenBy IsServiceAccess old new → LeavesStarted (old.port port.0) (new.port port.0)
   services_port port old new on a =
@@ -99,14 +99,14 @@ module _ (laws : Laws) where
       (λ access x y ready is does.
       let left : LeavesControls access (port_at port) (x.port port) (y.port port) = laws.access_controls (port_at port) access x y ready.no_reset does in
       let control = left.control (spares_port (port_at port) Sctl (λ e. cc) (λ e. cc) (λ e. cc) access is) in
-      (control.0, left.interrupts (spares_port (port_at port) Ie (λ e. cc) (λ e. cc) (λ e. cc) access is), control.1, (left.command (spares_port (port_at port) Cmd (λ e. cc) (λ e. cc) (λ e. cc) access is)).2))
+      (control.0, left.interrupt_enable (spares_port (port_at port) Ie (λ e. cc) (λ e. cc) (λ e. cc) access is), control.1, (left.command (spares_port (port_at port) Cmd (λ e. cc) (λ e. cc) (λ e. cc) access is)).2))
       old new on a).0
 
   -- over a look, bits of PxSACT that are clear stay so
   looking_inactive : (port : Port) (q slot : ℕ) (access : Access) (old new : Device) → IsEventAccess port access → Does access old new → (old.port q).sact slot ≡ false → (new.port q).sact slot ≡ false
-  looking_inactive port q slot (Reading r v) old new is does u = laws.reads_clear q slot r v old new does u
-  looking_inactive port q slot (Writing r v) old new (inl e) does u = laws.writes_clear (port_at q) slot r v old new (λ (s : r ≡ Px (port_at q) Sact). absurd (let z : Px port Is ≡ Px (port_at q) Sact = sym e ∙ s in cc)) does u
-  looking_inactive port q slot (Writing r v) old new (inr is) does u = laws.writes_clear (port_at q) slot r v old new (λ (s : r ≡ Px (port_at q) Sact). absurd (let z : reg.Is ≡ Px (port_at q) Sact = sym is.0 ∙ s in cc)) does u
+  looking_inactive port q slot (Reading r v) old new is does u = laws.reads_keep_sact_clear q slot r v old new does u
+  looking_inactive port q slot (Writing r v) old new (inl e) does u = laws.writes_keep_sact_clear (port_at q) slot r v old new (λ (s : r ≡ Px (port_at q) Sact). absurd (let z : Px port Is ≡ Px (port_at q) Sact = sym e ∙ s in cc)) does u
+  looking_inactive port q slot (Writing r v) old new (inr is) does u = laws.writes_keep_sact_clear (port_at q) slot r v old new (λ (s : r ≡ Px (port_at q) Sact). absurd (let z : reg.Is ≡ Px (port_at q) Sact = sym is.0 ∙ s in cc)) does u
   looking_inactive port q slot (Loading at bytes) old new is does u = absurd is
   looking_inactive port q slot (Storing at bytes) old new is does u = absurd is
 
@@ -118,35 +118,35 @@ module _ (laws : Laws) where
 
   -- where nothing goes wrong in the whole, nothing does in the parts
   pub calm_parts : (port : ℕ) (a b c : Device) → TapeGrows a b → TapeGrows b c → Undisturbed port a c → Undisturbed port a b × Undisturbed port b c
-  calm_parts port a b c p q u = laws.tape.calm_parts port a b c p.0 q.0 p.1 q.1 u
+  calm_parts port a b c p q u = laws.tape.undisturbed_in_parts port a b c p.0 q.0 p.1 q.1 u
 
   service_well : (port : Port) (access : Access) (old new : Device) → IsOn old → IsServiceAccess access → Does access old new → Undisturbed port.0 old new → RunsWell (old.port port.0) → RunsWell (new.port port.0)
   service_well port access old new on is does calm well =
-      laws.well_of (new.port port.0)
-      (laws.access_started port access old new on.no_reset (λ v e. absurd (subst (DoesNotWrite (Px port Cmd)) e (spares_port port Cmd (λ e. cc) (λ e. cc) (λ e. cc) access is) refl))
-      (spares_port port Sctl (λ e. cc) (λ e. cc) (λ e. cc) access is) calm does (laws.started_well (old.port port.0) well))
-      (laws.shows_still (old.port port.0) (new.port port.0) (laws.access_clear port access old new on.no_reset well.no_link_is_due calm does) well.shows_no_trouble)
+      laws.started_quiet_port_runs_well (new.port port.0)
+      (laws.access_keeps_started port access old new on.no_reset (λ v e. absurd (subst (DoesNotWrite (Px port Cmd)) e (spares_port port Cmd (λ e. cc) (λ e. cc) (λ e. cc) access is) refl))
+      (spares_port port Sctl (λ e. cc) (λ e. cc) (λ e. cc) access is) calm does (laws.runs_well_is_started (old.port port.0) well))
+      (laws.stays_clear_shows_no_trouble (old.port port.0) (new.port port.0) (laws.access_stays_clear port access old new on.no_reset well.no_link_is_due calm does) well.shows_no_trouble)
 
   pub services_well : (port : Port) (old new : Device) → IsOn old → IsDrivenBy IsServiceAccess old new → Undisturbed port.0 old new → RunsWell (old.port port.0) → RunsWell (new.port port.0)
   services_well port old new on a =
-      (services_keep (StaysWell port.0) (λ d. (laws.tape.grows_none d, λ calm well. well))
-      (λ x y z p q. (laws.tape.grows_more x y z p.0 q.0, λ calm well. let parts = calm_parts port.0 x y z p.0 q.0 calm in q.1 parts.1 (p.1 parts.0 well)))
+      (services_keep (StaysWell port.0) (λ d. (laws.tape.growth_is_reflexive d, λ calm well. well))
+      (λ x y z p q. (laws.tape.growth_is_transitive x y z p.0 q.0, λ calm well. let parts = calm_parts port.0 x y z p.0 q.0 calm in q.1 parts.1 (p.1 parts.0 well)))
       (λ access x y ready is does. (laws.tape.access_grows access x y does, λ calm well. service_well port access x y ready is does calm well))
       old new on a).0.1
 
   -- ---- a machine agrees on
 
-  pub services_agree : (uses : SlotStates) (old new : Device) → IsSimulated IsServiceAccess (SameUses uses) old new → IsRelated uses old → IsRelated uses new
-  services_agree uses old new followed a = laws.fragments.agreed (Serving uses) (λ uses. uses) uses old new refl followed a
+  pub services_agree : (uses : SlotStates) (old new : Device) → IsSimulated IsServiceAccess (SameSlotStates uses) old new → SomeMachineAgrees uses old → SomeMachineAgrees uses new
+  services_agree uses old new followed a = laws.fragments.some_machine_agrees (Serving uses) (λ uses. uses) uses old new refl followed a
 
   -- ---- what tells of trouble
 
-  pub errors_stay : (port : Port) (old new : Device) → IsOn old → IsDrivenBy (LeavesPxIs port) old new → KeepsErrors (old.port port.0) (new.port port.0)
+  pub errors_stay : (port : Port) (old new : Device) → IsOn old → IsDrivenBy (IsServiceButPxIs port) old new → KeepsErrors (old.port port.0) (new.port port.0)
   errors_stay port old new on a =
-      (kept_on laws (λ x y. KeepsErrors (x.port port.0) (y.port port.0)) (λ d. record { pxis_is_kept = λ place h. h; serr_n = λ h. h; serr_x = λ h. h })
-      (λ x y z p q. record { pxis_is_kept = λ place h. q.pxis_is_kept place (p.pxis_is_kept place h); serr_n = λ h. q.serr_n (p.serr_n h); serr_x = λ h. q.serr_x (p.serr_x h) })
-      (LeavesPxIs port) (λ access is. spares_ghc access is.0)
+      (kept_on laws (λ x y. KeepsErrors (x.port port.0) (y.port port.0)) (λ d. record { pxis_is_kept = λ place h. h; serr_n_is_kept = λ h. h; serr_x_is_kept = λ h. h })
+      (λ x y z p q. record { pxis_is_kept = λ place h. q.pxis_is_kept place (p.pxis_is_kept place h); serr_n_is_kept = λ h. q.serr_n_is_kept (p.serr_n_is_kept h); serr_x_is_kept = λ h. q.serr_x_is_kept (p.serr_x_is_kept h) })
+      (IsServiceButPxIs port) (λ access is. spares_ghc access is.0)
       (λ access x y ready is does.
-      let news = laws.access_news port access x y ready.no_reset (spares_port port Serr (λ e. cc) (λ e. cc) (λ e. cc) access is.0) does in
-      record { pxis_is_kept = laws.access_causes port access x y ready.no_reset is.1 does; serr_n = news.0; serr_x = news.1 })
+      let news = laws.access_keeps_serr_changes port access x y ready.no_reset (spares_port port Serr (λ e. cc) (λ e. cc) (λ e. cc) access is.0) does in
+      record { pxis_is_kept = laws.access_keeps_causes port access x y ready.no_reset is.1 does; serr_n_is_kept = news.0; serr_x_is_kept = news.1 })
       old new on a).0

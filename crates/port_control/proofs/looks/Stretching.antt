@@ -6,7 +6,7 @@ use Rattle.adapter.specs.Access.{Access, Does, DoesAll}
 use Rattle.adapter.specs.Device.{Device}
 use Rattle.adapter.specs.Rules.{IsOn}
 use Rattle.refinement.specs.Fragments.{IsDrivenBy}
-use Rattle.refinement.specs.Links.{DoesNotWrite}
+use Rattle.refinement.specs.PreservedParts.{DoesNotWrite}
 use Rattle.port_control.specs.EventLaws.{Laws}
 
 -- accesses of one kind are of each wider one
@@ -25,7 +25,7 @@ module _ (Keeps : Device → Device → Type 0) (none : (d : Device) → Keeps d
 
 -- an access that doesn't write GHC leaves an adapter on
 pub spared_on : (laws : Laws) (access : Access) (old new : Device) → DoesNotWrite Ghc access → Does access old new → IsOn old → IsOn new
-spared_on laws access old new spares does on = laws.access_on access old new on (λ v e. absurd (subst (DoesNotWrite Ghc) e spares refl)) does
+spared_on laws access old new spares does on = laws.access_keeps_on access old new on (λ v e. absurd (subst (DoesNotWrite Ghc) e spares refl)) does
 
 -- so it is with what each keeps of an adapter that is on, where none writes GHC
 pub kept_on : (laws : Laws) (Keeps : Device → Device → Type 0) → ((d : Device) → Keeps d d) → ((a b c : Device) → Keeps a b → Keeps b c → Keeps a c) → (May : Access → Type 0) →

@@ -2,7 +2,7 @@
 use Rattle.std.proofs.Common.{ℕ, ◌≡◌, ◌≢◌, ◌≤◌, ◌⊎◌, ◌%◌, ◌||◌, ◌==◌, not, Bool, true, false, inl, inr, refl, sym, ◌∙◌, ap, subst, arith, if◌then◌else◌}
 use Rattle.std.proofs.lemmas.Bool.{cases_eq, eqb-true, eq-eqb, ne_eqb}
 use Rattle.hba_regs.specs.Bits.{bit}
-use Rattle.refinement.specs.PortFacts.{TellsNoTrouble}
+use Rattle.refinement.specs.PortFacts.{PxisValueTellsNoTrouble}
 use Rattle.port_control.specs.PortEvents.{port_event_of}
 use Rattle.port_control.specs.declared.events.PortEvent.{PortEvent}
 use Rattle.port_control.specs.declared.events.PortEvent.TheVariants.{LinkChanged, FatalError, TaskFileError, NoEvent}
@@ -91,12 +91,12 @@ module _ (causes status : ℕ) where
       let x = failed (bit causes 6) (bit causes 22) (status % 16 == 3) (bit causes 28) (bit causes 29) (bit causes 27) (bit causes 30) h in
       (x.0, x.1, x.2, three_places (λ place. bit causes place ≡ false) x.3.2 x.3.0 x.3.1, eqb-true (status % 16) 3 x.4)
 
-  pub answered_undisturbed : port_event_of causes status ≡ NoEvent → TellsNoTrouble causes × (status % 16 ≡ 3)
+  pub answered_undisturbed : port_event_of causes status ≡ NoEvent → PxisValueTellsNoTrouble causes × (status % 16 ≡ 3)
   answered_undisturbed h =
       let x = calm (bit causes 6) (bit causes 22) (status % 16 == 3) (bit causes 28) (bit causes 29) (bit causes 27) (bit causes 30) h in
       (record { pcs_is_clear = x.0.0; prcs_is_clear = x.0.1; no_error_bit_is_set = four_places (λ place. bit causes place ≡ false) x.1.2 x.1.0 x.1.1 x.1.3 }, eqb-true (status % 16) 3 x.2)
 
-  pub told_undisturbed : TellsNoTrouble causes → status % 16 ≡ 3 → port_event_of causes status ≡ NoEvent
+  pub told_undisturbed : PxisValueTellsNoTrouble causes → status % 16 ≡ 3 → port_event_of causes status ≡ NoEvent
   told_undisturbed t three = rw (t.pcs_is_clear, t.prcs_is_clear, eq-eqb (status % 16) 3 three, t.no_error_bit_is_set 28 (omega arith) (omega arith), t.no_error_bit_is_set 29 (omega arith) (omega arith), t.no_error_bit_is_set 27 (omega arith) (omega arith), t.no_error_bit_is_set 30 (omega arith) (omega arith)) refl
 
   -- each of the three comes first

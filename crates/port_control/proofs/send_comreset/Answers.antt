@@ -13,8 +13,8 @@ returns-clause-followed g c = reset_followed c.law_prerequisites.ensures _ _ _ c
 
 pub returns-clause-sends : goal.returns-clause-sends
 returns-clause-sends g c = record {
-  reset = was_reset c.law_prerequisites.ensures _ _ _ c.requires.usable c.requires.receives c.write.ensures.does _ c.write-2.ensures.does;
+  comreset_is_sent = was_reset c.law_prerequisites.ensures _ _ _ c.requires.usable c.requires.receives c.write.ensures.does _ c.write-2.ensures.does;
   receives = reset_receives c.law_prerequisites.ensures _ _ _ c.requires.usable c.requires.receives c.write.ensures.does _ c.write-2.ensures.does;
-  awaited = reset_awaited c.law_prerequisites.ensures _ _ _ c.requires.usable c.requires.receives c.write.ensures.does _ c.write-2.ensures.does;
+  shows_drq_till_link = reset_awaited c.law_prerequisites.ensures _ _ _ c.requires.usable c.requires.receives c.write.ensures.does _ c.write-2.ensures.does;
   link_is_coming_up = reset_coming c.law_prerequisites.ensures _ _ _ c.requires.usable c.requires.receives c.write.ensures.does _ c.write-2.ensures.does;
 }

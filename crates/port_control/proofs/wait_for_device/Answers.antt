@@ -10,7 +10,7 @@ use Rattle.port_control.specs.Laws.AccessPurpose.{Controlling}
 pub loop-reading-init : goal.loop-reading-init
 loop-reading-init g c = record {
   known = record {
-    followed = (c.law_prerequisites.ensures.fragments.none (Controlling Clearing c.args.port) _).followed;
+    followed = (c.law_prerequisites.ensures.fragments.no_access_is_simulated (Controlling Clearing c.args.port) _).is_simulated;
     usable = c.requires.usable;
     on = c.requires.usable;
     det = c.requires.det;
@@ -27,7 +27,7 @@ returns-then-detection-eq-DEVICE_WITH_LINK-clause-followed g c = missing_followe
 
 pub returns-then-detection-eq-DEVICE_WITH_LINK-clause-finds : goal.returns-then-detection-eq-DEVICE_WITH_LINK-clause-finds
 returns-then-detection-eq-DEVICE_WITH_LINK-clause-finds g c = λ _. record {
-  sees = sees_device c.law_prerequisites.ensures _ _ _ _ _ _ c.loop-reading.invariant.known c.read.ensures.does (omega arith) (omega arith);
+  reads_until_link = sees_device c.law_prerequisites.ensures _ _ _ _ _ _ c.loop-reading.invariant.known c.read.ensures.does (omega arith) (omega arith);
   device_was_seen = device_seen c.law_prerequisites.ensures _ _ _ _ _ _ c.loop-reading.invariant.known c.read.ensures.does (omega arith);
   link_is_up = device_up c.law_prerequisites.ensures _ _ _ _ _ _ c.loop-reading.invariant.known c.read.ensures.does (omega arith);
 }
@@ -43,5 +43,5 @@ returns-clause-misses g c = λ _.
     let all : c.loop-reading._reading ≡ MOST_READINGS = omega arith in
     record {
       reads_in_vain = subst (λ (n : ℕ). ReadsInVain c.args.port Ssts HasLink n (g.A.Adapter.device c.args.adapter.now) (g.A.Adapter.device c.loop-reading.adapter)) all c.loop-reading.invariant.known.misses;
-      fault = search rules;
+      no_device_is_backed = search rules;
     }

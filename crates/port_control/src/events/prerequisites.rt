@@ -7,15 +7,15 @@ use adapter::laws::{
 };
 use refinement::access_kinds::law_fragment_prerequisites;
 use refinement::disks::law_looks_tell_trouble;
-use refinement::fragments::{law_other_ports_are_left, law_tape_prerequisites};
+use refinement::fragments::{law_other_ports_are_untouched, law_tape_prerequisites};
 use refinement::laws::{
-    law_acknowledging_is_permitted, law_clear_bits_stay, law_writing_is_permitted,
+    law_acknowledging_is_permitted, law_clear_sact_bits_stay, law_writing_stays_permitted,
 };
 use refinement::port_facts::{
     law_adapter_stays, law_cleared_stays, law_controls_stay, law_errors_are_kept,
-    law_errors_are_shown, law_fault_is_found, law_faults_are_recorded, law_healthy_stays,
-    law_link_stays, law_loads_and_stores_leave_ports, law_notes_are_set, law_notes_stay,
-    law_plugging_is_found, law_running_well_is_found, law_trouble_is_shown,
+    law_errors_are_shown, law_fault_is_found, law_faults_are_recorded, law_link_stays,
+    law_loads_and_stores_leave_ports, law_notes_are_set, law_notes_stay, law_plug_events_are_found,
+    law_running_well_is_found, law_running_well_stays, law_trouble_is_shown,
 };
 use std::marker::Brand;
 
@@ -34,18 +34,18 @@ pub fn law_prerequisites()
     law_errors_are_shown();
     law_fault_is_found();
     law_faults_are_recorded();
-    law_healthy_stays();
+    law_running_well_stays();
     law_link_stays();
     law_loads_and_stores_leave_ports();
     law_notes_are_set();
     law_notes_stay();
-    law_plugging_is_found();
+    law_plug_events_are_found();
     law_running_well_is_found();
     law_trouble_is_shown();
     law_fragment_prerequisites::<Brand>();
     law_acknowledging_is_permitted();
-    law_clear_bits_stay();
-    law_writing_is_permitted();
-    law_other_ports_are_left();
+    law_clear_sact_bits_stay();
+    law_writing_stays_permitted();
+    law_other_ports_are_untouched();
     law_tape_prerequisites();
 }

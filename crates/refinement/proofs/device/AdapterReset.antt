@@ -13,7 +13,7 @@ use Rattle.adapter.specs.Steps.{DeviceTransition, Can, device_after, Steps}
 use Rattle.adapter.specs.Steps.DeviceTransition.{Fetch, FetchFault, Move, Clear, Done, Fault, Fatal, Fall, FrFall, LinkUp, Unplug, Plug, ResetEnds, Scribble}
 use Rattle.refinement.specs.StepLaws.{StepLaws}
 use Rattle.refinement.specs.Errors.{IsLeftByReset, ShowsResetState}
-use Rattle.refinement.specs.PortFacts.{ShowsDrqTillLink}
+use Rattle.refinement.specs.PortFacts.{StoppedWithDrqTillLink}
 use Rattle.refinement.proofs.device.AwaitedLink.{leads_keep, steps_awaited}
 use Rattle.refinement.proofs.device.HaltedPort.{reset_left, reset_read}
 use Rattle.refinement.proofs.device.HealthyPort.{at_port}
@@ -28,12 +28,12 @@ ghc_told v old new call = (
 )
 
 pub reset_begins : (v : ℕ) (old new : Device) → bit v 0 ≡ true → Writes Ghc v old new → new.hr ≡ true
-reset_begins v old new set call = ap (λ (d : Device). d.hr) call.effect ∙ or_right call.mid.hr (bit v 0) set
+reset_begins v old new set call = ap (λ (d : Device). d.hr) call.effect ∙ or_right call.at_access.hr (bit v 0) set
 
 pub switched_on : StepLaws → (v : ℕ) (old new : Device) → old.hr ≡ false → bit v 31 ≡ true → bit v 0 ≡ false → Writes Ghc v old new → IsOn new
 switched_on laws v old new off set none call =
-    let on : KeepsOutsideReset old call.mid = (laws.keeps _ _ call.steps).keeps_outside_reset off in
-    subst IsOn (sym call.effect) (record { ae = set; no_reset = ap (λ (b : Bool). call.mid.hr || b) none ∙ or_false call.mid.hr ∙ on.no_reset })
+    let on : KeepsOutsideReset old call.at_access = (laws.steps_keep _ _ call.steps).keeps_outside_reset off in
+    subst IsOn (sym call.effect) (record { ae_is_set = set; no_reset = ap (λ (b : Bool). call.at_access.hr || b) none ∙ or_false call.at_access.hr ∙ on.no_reset })
 
 -- ---- what a reset leaves
 
@@ -41,14 +41,14 @@ reset_port : (d : Device) (port : ℕ) → IsLeftByReset ((device_after ResetEnd
 reset_port d port = record {
   is_quiescent = reset_left d port;
   pxis_is_clear = λ place. refl;
-  serr_n = refl;
-  serr_x = refl;
+  serr_n_is_clear = refl;
+  serr_x_is_clear = refl;
   sctl_det = refl;
   ssts_det = refl;
   tfd = refl;
   sig = refl;
-  fresh = refl;
-  broken = refl;
+  first_fis_has_not_come = refl;
+  is_not_broken = refl;
 }
 
 pub reset_leaves : (v : ℕ) (old new : Device) → old.hr ≡ true → Reads Ghc v old new → bit v 0 ≡ false →
@@ -62,12 +62,12 @@ Idles p =
     × (p.serr_x ≡ false → (p.ssts_det ≡ 0) × (p.tfd ≡ 0x7f) × (p.sig ≡ 0xffffffff))
 
 step_idles : (d : Device) (port : ℕ) (step : DeviceTransition) → Can step d → Idles (d.port port) → Idles ((device_after step d).port port)
-step_idles d port (Fetch p slot c places) can h = at_port Idles Idles d p port _ h (λ e x. absurd (both_ways _ x.0 can.working.running)) (λ ne x. x)
-step_idles d port (FetchFault p slot queued kept_bits) can h = at_port Idles Idles d p port _ h (λ e x. absurd (both_ways _ x.0 can.working.running)) (λ ne x. x)
+step_idles d port (Fetch p slot c places) can h = at_port Idles Idles d p port _ h (λ e x. absurd (both_ways _ x.0 can.working.cr_is_set)) (λ ne x. x)
+step_idles d port (FetchFault p slot queued kept_bits) can h = at_port Idles Idles d p port _ h (λ e x. absurd (both_ways _ x.0 can.working.cr_is_set)) (λ ne x. x)
 step_idles d port (Move p slot t bytes) can h = at_port Idles Idles d p port _ h (λ e x. x) (λ ne x. x)
 step_idles d port (Clear p slot t first count) can h = at_port Idles Idles d p port _ h (λ e x. x) (λ ne x. x)
-step_idles d port (Done p slot flag t) can h = at_port Idles Idles d p port _ h (λ e x. absurd (both_ways _ x.0 can.works.working.running)) (λ ne x. x)
-step_idles d port (Fault p slot error kept_bits t) can h = at_port Idles Idles d p port _ h (λ e x. absurd (both_ways _ x.0 can.running)) (λ ne x. x)
+step_idles d port (Done p slot flag t) can h = at_port Idles Idles d p port _ h (λ e x. absurd (both_ways _ x.0 can.works.working.cr_is_set)) (λ ne x. x)
+step_idles d port (Fault p slot error kept_bits t) can h = at_port Idles Idles d p port _ h (λ e x. absurd (both_ways _ x.0 can.cr_is_set)) (λ ne x. x)
 step_idles d port (Fatal p place) can h = at_port Idles Idles d p port _ h (λ e x. absurd (both_ways _ x.0 can.0)) (λ ne x. x)
 step_idles d port (Fall p) can h = at_port Idles Idles d p port _ h (λ e x. (refl, x.1, x.2, x.3)) (λ ne x. x)
 step_idles d port (FrFall p) can h = at_port Idles Idles d p port _ h (λ e x. x) (λ ne x. x)
@@ -83,16 +83,16 @@ reset_clears v old new on call clear port =
     let i : Idles (new.port port) = leads_keep Idles step_idles port s.1.steps (device_after ResetEnds s.0) new s.1.lead (refl, λ place. refl, refl, λ clear. (refl, refl, refl)) in
     record { pxis_is_clear = i.1; sctl_det = i.2; shows_no_link_until_x = i.3 }
 
-pub reset_awaits : (v : ℕ) (old new : Device) → old.hr ≡ true → Reads Ghc v old new → bit v 0 ≡ false → (port : ℕ) → ShowsDrqTillLink (new.port port)
+pub reset_awaits : (v : ℕ) (old new : Device) → old.hr ≡ true → Reads Ghc v old new → bit v 0 ≡ false → (port : ℕ) → StoppedWithDrqTillLink (new.port port)
 reset_awaits v old new on call clear port =
     let s = reset_read v old new on call clear in
     steps_awaited port (device_after ResetEnds s.0) new s.1 (λ due. (refl, refl))
 
 -- ---- the link is awaited where none is due
 
-pub undue_awaited : (p : DevicePort) → p.link_due ≡ false → p.sctl_det ≢ 1 → ShowsDrqTillLink p
+pub undue_awaited : (p : DevicePort) → p.link_due ≡ false → p.sctl_det ≢ 1 → StoppedWithDrqTillLink p
 undue_awaited p undue other = λ due. ⊎_elim (λ (e : p.link_due ≡ true). absurd (both_ways _ undue e)) (λ (e : p.sctl_det ≡ 1). absurd (other e)) due
 
-pub first_awaited : ShowsDrqTillLink (first_read_device.port 0)
+pub first_awaited : StoppedWithDrqTillLink (first_read_device.port 0)
 unfolding changed
 first_awaited = undue_awaited (first_read_device.port 0) refl (λ (e : 0 ≡ 1). omega (arith, e))

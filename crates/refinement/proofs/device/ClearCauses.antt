@@ -23,12 +23,12 @@ module _ (place : ℕ) where
   Stands p = (p.cr ≡ false) × (p.is place ≡ false)
 
   step_stands : (d : Device) (port : ℕ) (step : DeviceTransition) → Can step d → Stands (d.port port) → Stands ((device_after step d).port port)
-  step_stands d port (Fetch p slot c places) can h = at_port Stands Stands d p port _ h (λ e x. absurd (both_ways _ x.0 can.working.running)) (λ ne x. x)
-  step_stands d port (FetchFault p slot queued kept_bits) can h = at_port Stands Stands d p port _ h (λ e x. absurd (both_ways _ x.0 can.working.running)) (λ ne x. x)
+  step_stands d port (Fetch p slot c places) can h = at_port Stands Stands d p port _ h (λ e x. absurd (both_ways _ x.0 can.working.cr_is_set)) (λ ne x. x)
+  step_stands d port (FetchFault p slot queued kept_bits) can h = at_port Stands Stands d p port _ h (λ e x. absurd (both_ways _ x.0 can.working.cr_is_set)) (λ ne x. x)
   step_stands d port (Move p slot t bytes) can h = at_port Stands Stands d p port _ h (λ e x. x) (λ ne x. x)
   step_stands d port (Clear p slot t first count) can h = at_port Stands Stands d p port _ h (λ e x. x) (λ ne x. x)
-  step_stands d port (Done p slot flag t) can h = at_port Stands Stands d p port _ h (λ e x. absurd (both_ways _ x.0 can.works.working.running)) (λ ne x. x)
-  step_stands d port (Fault p slot error kept_bits t) can h = at_port Stands Stands d p port _ h (λ e x. absurd (both_ways _ x.0 can.running)) (λ ne x. x)
+  step_stands d port (Done p slot flag t) can h = at_port Stands Stands d p port _ h (λ e x. absurd (both_ways _ x.0 can.works.working.cr_is_set)) (λ ne x. x)
+  step_stands d port (Fault p slot error kept_bits t) can h = at_port Stands Stands d p port _ h (λ e x. absurd (both_ways _ x.0 can.cr_is_set)) (λ ne x. x)
   step_stands d port (Fatal p which) can h = at_port Stands Stands d p port _ h (λ e x. absurd (both_ways _ x.0 can.0)) (λ ne x. x)
   step_stands d port (Fall p) can h = at_port Stands Stands d p port _ h (λ e x. (refl, x.1)) (λ ne x. x)
   step_stands d port (FrFall p) can h = at_port Stands Stands d p port _ h (λ e x. x) (λ ne x. x)
@@ -71,7 +71,7 @@ pub written_notes : StepLaws → (port : Port) (r : PortReg) (v : ℕ) (old new 
     (new.port port.0).notes ≡ (old.port port.0).notes
 written_notes laws port r v old new control is off x =
     seen (λ (p : DevicePort). p.notes ≡ (old.port port.0).notes) port r v old new x
-    (register_notes r v (length x.mid.tape) (x.mid.port port.0) control is off ∙ (laws.keeps _ _ x.steps).notes_are_kept port.0)
+    (register_notes r v (length x.at_access.tape) (x.at_access.port port.0) control is off ∙ (laws.steps_keep _ _ x.steps).notes_are_kept port.0)
 
 -- all but when ST was set
 abbrev IsSetAlone : Notes → Notes → Type 0
@@ -89,5 +89,5 @@ pub command_written_notes : StepLaws → (port : Port) (v : ℕ) (old new : Devi
     (new.port port.0).notes ≡ record (old.port port.0).notes { st_set_at = (new.port port.0).notes.st_set_at }
 command_written_notes laws port v old new x =
     seen (λ (p : DevicePort). IsSetAlone (old.port port.0).notes p.notes) port Cmd v old new x
-    (subst (λ (n : Notes). IsSetAlone n (port_after_write Cmd v (length x.mid.tape) (x.mid.port port.0)).notes) ((laws.keeps _ _ x.steps).notes_are_kept port.0)
-    (started_notes v (length x.mid.tape) (x.mid.port port.0)))
+    (subst (λ (n : Notes). IsSetAlone n (port_after_write Cmd v (length x.at_access.tape) (x.at_access.port port.0)).notes) ((laws.steps_keep _ _ x.steps).notes_are_kept port.0)
+    (started_notes v (length x.at_access.tape) (x.at_access.port port.0)))

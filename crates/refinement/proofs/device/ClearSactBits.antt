@@ -7,7 +7,7 @@ use Rattle.hba_regs.specs.declared.reg.Reg.{Reg}
 use Rattle.hba_regs.specs.declared.reg.Reg.TheVariants.{Px}
 use Rattle.hba_regs.specs.declared.reg.PortReg.{PortReg}
 use Rattle.hba_regs.specs.declared.reg.PortReg.TheVariants as px
-use Rattle.adapter.specs.Access.{Reads, Writes, note, port_after_write, port_after_st_write}
+use Rattle.adapter.specs.Access.{Reads, Writes, notes_after_reading, port_after_write, port_after_st_write}
 use Rattle.adapter.specs.Device.{DevicePort, Device}
 use Rattle.adapter.specs.Steps.{Steps, halt_after_start}
 use Rattle.block_machine.specs.State.{Machine}
@@ -23,7 +23,7 @@ abbrev IsClearBit : ℕ → DevicePort → Type 0
 IsClearBit slot p = p.sact slot ≡ false
 
 pub steps_clear : StepLaws → (port slot : ℕ) (old new : Device) → Steps old new → (old.port port).sact slot ≡ false → (new.port port).sact slot ≡ false
-steps_clear laws port slot old new s u = ((laws.keeps _ _ s).ports_are_kept port).sact slot u
+steps_clear laws port slot old new s u = ((laws.steps_keep _ _ s).ports_are_kept port).sact_stays_clear slot u
 
 -- a slot in use whose command is over has no bit
 pub over_unarmed : (uses : SlotStates) (m : Machine) (d : Device) (port slot : ℕ) → StateRelation uses m d → (uses port slot ≡ Armed → ⊥) → IsOver (d.port port) slot → (d.port port).sact slot ≡ false
@@ -36,10 +36,10 @@ over_unarmed uses m d port slot a unarmed over = by (uses port slot) refl (a.rel
     by (Serves id) u h = stage h.stage
       where
         stage : IsInSomeStage d.memory (d.port port) port slot h.pending h.command h.places → (d.port port).sact slot ≡ false
-        stage (inl w) = true_false w.issued over.issued
-        stage (inr (inl t)) = some_none t.taken over.free
-        stage (inr (inr (inl x))) = x.sact
-        stage (inr (inr (inr x))) = x.sact
+        stage (inl w) = true_false w.issued over.is_not_issued
+        stage (inr (inl t)) = some_none t.taken over.is_not_taken
+        stage (inr (inr (inl x))) = x.sact_is_clear
+        stage (inr (inr (inr x))) = x.sact_is_clear
 
 -- a free slot has none
 pub free_unarmed : (uses : SlotStates) (m : Machine) (d : Device) → StateRelation uses m d → (port slot : ℕ) → uses port slot ≡ Free → (d.port port).sact slot ≡ false
@@ -53,7 +53,7 @@ if_false true f s h = refl
 if_false false f s h = h
 
 module _ (slot : ℕ) where
-  reading_clear : (p : DevicePort) (r : PortReg) (v : ℕ) → IsClearBit slot p → IsClearBit slot (record p { notes = note r v p })
+  reading_clear : (p : DevicePort) (r : PortReg) (v : ℕ) → IsClearBit slot p → IsClearBit slot (record p { notes = notes_after_reading r v p })
   reading_clear p r v u = u
 
   command_clear : (st : Bool) (tape : ℕ) (p : DevicePort) → IsClearBit slot p → IsClearBit slot (port_after_st_write st tape p)
@@ -83,12 +83,12 @@ module _ (slot : ℕ) where
 pub reads_clear : StepLaws → (port slot : ℕ) (r : Reg) (v : ℕ) (old new : Device) → Reads r v old new → (old.port port).sact slot ≡ false → (new.port port).sact slot ≡ false
 reads_clear laws port slot r v old new x u =
     subst (λ (d : Device). IsClearBit slot (d.port port)) (sym x.effect)
-    (noted_on (IsClearBit slot) (port_at port) (reading_clear slot) r v x.mid (steps_clear laws port slot old x.mid x.steps u))
+    (noted_on (IsClearBit slot) (port_at port) (reading_clear slot) r v x.at_access (steps_clear laws port slot old x.at_access x.steps u))
 
 pub writes_clear : StepLaws → (port : Port) (slot : ℕ) (r : Reg) (v : ℕ) (old new : Device) → (r ≡ Px port px.Sact → bit v slot ≡ false) → Writes r v old new →
     (old.port port.0).sact slot ≡ false → (new.port port.0).sact slot ≡ false
 writes_clear laws port slot r v old new clear x u =
     subst (λ (d : Device). IsClearBit slot (d.port port.0)) (sym x.effect)
-    (written_on (IsClearBit slot) port (reading_clear slot) (λ p h. h) r v x.mid
-    (λ q is. writing_clear slot q v (length x.mid.tape) (x.mid.port port.0) (λ c. clear (is ∙ ap (Px port) c)))
-    (steps_clear laws port.0 slot old x.mid x.steps u))
+    (written_on (IsClearBit slot) port (reading_clear slot) (λ p h. h) r v x.at_access
+    (λ q is. writing_clear slot q v (length x.at_access.tape) (x.at_access.port port.0) (λ c. clear (is ∙ ap (Px port) c)))
+    (steps_clear laws port.0 slot old x.at_access x.steps u))

@@ -13,15 +13,15 @@ use Rattle.adapter.proofs.Changed.{changed_same}
 use Rattle.refinement.specs.StepLaws.{StepLaws}
 
 -- the port as the write leaves it
-port_is : (port : Port) (r : PortReg) (v : ℕ) (old new : Device) (x : Writes (Px port r) v old new) → new.port port.0 ≡ port_after_write r v (length x.mid.tape) (x.mid.port port.0)
-port_is port r v old new x = ap (λ (d : Device). d.port port.0) x.effect ∙ changed_same x.mid.port port.0 _
+port_is : (port : Port) (r : PortReg) (v : ℕ) (old new : Device) (x : Writes (Px port r) v old new) → new.port port.0 ≡ port_after_write r v (length x.at_access.tape) (x.at_access.port port.0)
+port_is port r v old new x = ap (λ (d : Device). d.port port.0) x.effect ∙ changed_same x.at_access.port port.0 _
 
 -- and what is seen of it
-pub seen : (P : DevicePort → Type 0) (port : Port) (r : PortReg) (v : ℕ) (old new : Device) (x : Writes (Px port r) v old new) → P (port_after_write r v (length x.mid.tape) (x.mid.port port.0)) → P (new.port port.0)
+pub seen : (P : DevicePort → Type 0) (port : Port) (r : PortReg) (v : ℕ) (old new : Device) (x : Writes (Px port r) v old new) → P (port_after_write r v (length x.at_access.tape) (x.at_access.port port.0)) → P (new.port port.0)
 seen P port r v old new x h = subst P (sym (port_is port r v old new x)) h
 
 -- the write adds nothing to the tape
-tape_is : (port : Port) (r : PortReg) (v : ℕ) (old new : Device) (x : Writes (Px port r) v old new) → length x.mid.tape ≡ length new.tape
+tape_is : (port : Port) (r : PortReg) (v : ℕ) (old new : Device) (x : Writes (Px port r) v old new) → length x.at_access.tape ≡ length new.tape
 tape_is port r v old new x = ap (λ (d : Device). length d.tape) (sym x.effect)
 
 st_set : (b : Bool) (tape : ℕ) (p : DevicePort) → (port_after_st_write b tape p).st ≡ b
@@ -33,26 +33,26 @@ st_set true tape p = by p.st refl
     by false is = ap (λ (x : DevicePort). x.st) (cond-false p.st p _ is)
 
 pub command_set : (port : Port) (v : ℕ) (old new : Device) → Writes (Px port Cmd) v old new → ((new.port port.0).st ≡ bit v 0) × ((new.port port.0).fre ≡ bit v 4)
-command_set port v old new x = seen (λ (p : DevicePort). (p.st ≡ bit v 0) × (p.fre ≡ bit v 4)) port Cmd v old new x (st_set (bit v 0) (length x.mid.tape) (x.mid.port port.0), refl)
+command_set port v old new x = seen (λ (p : DevicePort). (p.st ≡ bit v 0) × (p.fre ≡ bit v 4)) port Cmd v old new x (st_set (bit v 0) (length x.at_access.tape) (x.at_access.port port.0), refl)
 
 pub start_set : StepLaws → (port : Port) (v : ℕ) (old new : Device) → (old.port port.0).st ≡ false → bit v 0 ≡ true → Writes (Px port Cmd) v old new → ((new.port port.0).cr ≡ true) × ((new.port port.0).notes.st_set_at ≡ length new.tape)
 start_set laws port v old new off on x = seen (λ (p : DevicePort). (p.cr ≡ true) × (p.notes.st_set_at ≡ length new.tape)) port Cmd v old new x
-    (subst (λ (b : Bool). ((port_after_fre_write (bit v 4) (port_after_st_write b (length x.mid.tape) p)).cr ≡ true) × ((port_after_fre_write (bit v 4) (port_after_st_write b (length x.mid.tape) p)).notes.st_set_at ≡ length new.tape)) (sym on)
+    (subst (λ (b : Bool). ((port_after_fre_write (bit v 4) (port_after_st_write b (length x.at_access.tape) p)).cr ≡ true) × ((port_after_fre_write (bit v 4) (port_after_st_write b (length x.at_access.tape) p)).notes.st_set_at ≡ length new.tape)) (sym on)
     (subst (λ (y : DevicePort). ((port_after_fre_write (bit v 4) y).cr ≡ true) × ((port_after_fre_write (bit v 4) y).notes.st_set_at ≡ length new.tape)) (sym (cond-false p.st p started still)) (refl, tape_is port Cmd v old new x)))
   where
     p : DevicePort
-    p = x.mid.port port.0
+    p = x.at_access.port port.0
 
-    still : (x.mid.port port.0).st ≡ false
-    still = ((laws.keeps _ _ x.steps).ports_are_kept port.0).st off
+    still : (x.at_access.port port.0).st ≡ false
+    still = ((laws.steps_keep _ _ x.steps).ports_are_kept port.0).st_stays_clear off
 
     started : DevicePort
-    started = record (x.mid.port port.0) {
+    started = record (x.at_access.port port.0) {
       st = true;
       cr = true;
       broken = false;
-      halt = halt_after_start (x.mid.port port.0).halt;
-      notes = record (x.mid.port port.0).notes { st_set_at = length x.mid.tape };
+      halt = halt_after_start (x.at_access.port port.0).halt;
+      notes = record (x.at_access.port port.0).notes { st_set_at = length x.at_access.tape };
     }
 
 pub control_set : (port : Port) (v : ℕ) (old new : Device) → Writes (Px port Sctl) v old new → ((new.port port.0).sctl_det ≡ v % 16) × ((new.port port.0).notes.sctl_written_at ≡ length new.tape)

@@ -7,17 +7,17 @@ use Rattle.hba_regs.specs.Bits.{bit}
 use Rattle.hba_regs.specs.declared.reg.Reg.TheVariants.{Ghc, Px}
 use Rattle.hba_regs.specs.declared.reg.PortReg.{PortReg}
 use Rattle.hba_regs.specs.declared.reg.PortReg.TheVariants.{Cmd, Sctl, Ssts}
-use Rattle.adapter.specs.Access.{Access, Does, Reads, Writes, note, port_after_hba_is_write, port_after_write, port_after_st_write, port_after_fre_write, port_after_det_write}
+use Rattle.adapter.specs.Access.{Access, Does, Reads, Writes, notes_after_reading, port_after_hba_is_write, port_after_write, port_after_st_write, port_after_fre_write, port_after_det_write}
 use Rattle.adapter.specs.Device.{DevicePort, Device}
 use Rattle.adapter.specs.Idle.{IsIdle}
-use Rattle.adapter.specs.KeptBySteps.{Keeps}
+use Rattle.adapter.specs.KeptBySteps.{KeepsOverSteps}
 use Rattle.adapter.specs.Steps.{DeviceTransition, Can, device_after, TransitionsLead, Steps}
 use Rattle.adapter.specs.Steps.DeviceTransition.{Fetch, FetchFault, Move, Clear, Done, Fault, Fatal, Fall, FrFall, LinkUp, Unplug, Plug, ResetEnds, Scribble}
 use Rattle.adapter.specs.declared.tape.Entry.{Entry}
 use Rattle.adapter.proofs.Changed.{changed_same}
 use Rattle.refinement.specs.StepLaws.{StepLaws}
 use Rattle.refinement.specs.Errors.{IsDiskComing, NoDiskComes}
-use Rattle.refinement.specs.Links.{ShowsDiskIfIn}
+use Rattle.refinement.specs.PreservedParts.{ShowsDiskIfIn}
 use Rattle.refinement.proofs.device.FactsOverAccesses.{access_steps, effect_keeps}
 use Rattle.refinement.proofs.device.ErrorBits.{comes_parts, comes_before, command_beside}
 use Rattle.refinement.proofs.device.TapeGains.{NoneOf, gained_none}
@@ -34,15 +34,15 @@ leads_without : StepLaws → (port : ℕ) (P : DevicePort → Type 0) →
     (steps : List DeviceTransition) (old new : Device) → TransitionsLead steps old new → NoDiskComes port old new → P (old.port port) → P (new.port port)
 leads_without laws port P keep [] old new e none h = subst (λ (d : Device). P (d.port port)) (sym e) h
 leads_without laws port P keep (step ∷ steps) old new (can, lead) none h =
-    let k : Keeps old (device_after step old) = laws.step step _ can in
-    let l : Keeps (device_after step old) new = laws.keeps _ _ (record { steps = steps; lead = lead }) in
+    let k : KeepsOverSteps old (device_after step old) = laws.one_step_keeps step _ can in
+    let l : KeepsOverSteps (device_after step old) new = laws.steps_keep _ _ (record { steps = steps; lead = lead }) in
     let parts = comes_parts port old (device_after step old) new k.new_entries l.new_entries k.tape_grows l.tape_grows none in
     leads_without laws port P keep steps (device_after step old) new lead parts.1 (keep old parts.0.new_entries parts.0.no_such_entry step can parts.0.tape_is h)
 
 -- and so do accesses, where their writes keep it
 access_without : StepLaws → (port : Port) (P : DevicePort → Type 0) →
     ((d : Device) (gained : List Entry) → NoneOf (IsDiskComing port.0) gained → (step : DeviceTransition) → Can step d → (device_after step d).tape ≡ d.tape ++ gained → P (d.port port.0) → P ((device_after step d).port port.0)) →
-    ((p : DevicePort) (r : PortReg) (v : ℕ) → P p → P (record p { notes = note r v p })) → ((p : DevicePort) → P p → P (port_after_hba_is_write p)) →
+    ((p : DevicePort) (r : PortReg) (v : ℕ) → P p → P (record p { notes = notes_after_reading r v p })) → ((p : DevicePort) → P p → P (port_after_hba_is_write p)) →
     ((r : PortReg) (v tape : ℕ) (p : DevicePort) → P p → P (port_after_write r v tape p)) →
     (access : Access) (old new : Device) → NoDiskComes port.0 old new → Does access old new → P (old.port port.0) → P (new.port port.0)
 access_without laws port P keep noting acknowledging writing access old new none x h =
@@ -96,7 +96,7 @@ abbrev Vacant : DevicePort → Type 0
 Vacant p = (p.present ≡ false) × (p.ssts_det ≢ 3)
 
 is_vacant : (p : DevicePort) → Vacant p → IsVacant p
-is_vacant p h = record { no_disk_is_in = h.0; det = h.1 }
+is_vacant p h = record { no_disk_is_in = h.0; det_is_not_3 = h.1 }
 
 module _ (port : ℕ) (d : Device) (gained : List Entry) (none : NoneOf (IsDiskComing port) gained) where
   step_vacant : (step : DeviceTransition) → Can step d → (device_after step d).tape ≡ d.tape ++ gained → Vacant (d.port port) → Vacant ((device_after step d).port port)
@@ -121,11 +121,11 @@ written_vacant Sctl v tape p h = (h.0, λ up. h.1 (det_was (nat_eq (v % 16) 1) p
 written_vacant _ v tape p h = h
 
 pub vacant_steps : StepLaws → (port : ℕ) (old new : Device) → NoDiskComes port old new → Steps old new → IsVacant (old.port port) → IsVacant (new.port port)
-vacant_steps laws port old new none s h = is_vacant (new.port port) (leads_without laws port Vacant (step_vacant port) s.steps old new s.lead none (h.no_disk_is_in, h.det))
+vacant_steps laws port old new none s h = is_vacant (new.port port) (leads_without laws port Vacant (step_vacant port) s.steps old new s.lead none (h.no_disk_is_in, h.det_is_not_3))
 
 pub vacant_access : StepLaws → (port : Port) (access : Access) (old new : Device) → NoDiskComes port.0 old new → Does access old new → IsVacant (old.port port.0) → IsVacant (new.port port.0)
 vacant_access laws port access old new none x h =
-    is_vacant (new.port port.0) (access_without laws port Vacant (step_vacant port.0) (λ p r v y. y) (λ p y. y) written_vacant access old new none x (h.no_disk_is_in, h.det))
+    is_vacant (new.port port.0) (access_without laws port Vacant (step_vacant port.0) (λ p r v y. y) (λ p y. y) written_vacant access old new none x (h.no_disk_is_in, h.det_is_not_3))
 
 -- ---- a disk that shows has sent its first FIS
 
@@ -172,27 +172,27 @@ module _ (laws : StepLaws) (v : ℕ) (old new : Device) (on : old.hr ≡ true) (
   pub vacant_reset : (old.port port).present ≡ false → IsVacant (new.port port)
   vacant_reset out =
       let s = reset_read v old new on call clear in
-      let a : Keeps old (device_after ResetEnds s.0) = laws.keeps _ _ s.2 in
-      let b : Keeps (device_after ResetEnds s.0) new = laws.keeps _ _ s.1 in
+      let a : KeepsOverSteps old (device_after ResetEnds s.0) = laws.steps_keep _ _ s.2 in
+      let b : KeepsOverSteps (device_after ResetEnds s.0) new = laws.steps_keep _ _ s.1 in
       let parts = comes_parts port old (device_after ResetEnds s.0) new a.new_entries b.new_entries a.tape_grows b.tape_grows none in
       (vacant_steps laws) port (device_after ResetEnds s.0) new parts.1 s.1 (is_vacant _ (out_steps laws port old (device_after ResetEnds s.0) parts.0 s.2 out, λ z. not_three z))
 
   pub fresh_reset : HasFirstFisIfShown (new.port port)
   fresh_reset =
       let s = reset_read v old new on call clear in
-      let a : Keeps old (device_after ResetEnds s.0) = laws.keeps _ _ s.2 in
-      let b : Keeps (device_after ResetEnds s.0) new = laws.keeps _ _ s.1 in
+      let a : KeepsOverSteps old (device_after ResetEnds s.0) = laws.steps_keep _ _ s.2 in
+      let b : KeepsOverSteps (device_after ResetEnds s.0) new = laws.steps_keep _ _ s.1 in
       let parts = comes_parts port old (device_after ResetEnds s.0) new a.new_entries b.new_entries a.tape_grows b.tape_grows none in
       (fresh_steps laws) port (device_after ResetEnds s.0) new parts.1 s.1 (λ z. not_three z)
 
 pub fresh_comreset : (port : Port) (v : ℕ) (old new : Device) → v % 16 ≡ 1 → Writes (Px port Sctl) v old new → HasFirstFisIfShown (new.port port.0)
 fresh_comreset port v old new one call =
-    subst HasFirstFisIfShown (sym (ap (λ (d : Device). d.port port.0) call.effect ∙ changed_same call.mid.port port.0 _))
-    (subst (λ (n : ℕ). HasFirstFisIfShown (port_after_det_write n (length call.mid.tape) (call.mid.port port.0))) (sym one) (λ z. not_three z))
+    subst HasFirstFisIfShown (sym (ap (λ (d : Device). d.port port.0) call.effect ∙ changed_same call.at_access.port port.0 _))
+    (subst (λ (n : ℕ). HasFirstFisIfShown (port_after_det_write n (length call.at_access.tape) (call.at_access.port port.0))) (sym one) (λ z. not_three z))
 
 pub device_shown : (port : Port) (v : ℕ) (old new : Device) → Reads (Px port Ssts) v old new → v % 16 ≡ 3 → ShowsDiskIfIn (new.port port.0)
 device_shown port v old new call three =
-    inl (ap (λ (d : Device). (d.port port.0).ssts_det) call.effect ∙ (ap (λ (p : DevicePort). p.ssts_det) (changed_same call.mid.port port.0 _) ∙ (sym call.shows ∙ three)))
+    inl (ap (λ (d : Device). (d.port port.0).ssts_det) call.effect ∙ (ap (λ (p : DevicePort). p.ssts_det) (changed_same call.at_access.port port.0 _) ∙ (sym call.shows ∙ three)))
 
 -- ---- a reset of the adapter
 

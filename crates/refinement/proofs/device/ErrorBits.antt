@@ -10,7 +10,7 @@ use Rattle.hba_regs.specs.declared.reg.PortReg.{PortReg}
 use Rattle.hba_regs.specs.declared.reg.PortReg.TheVariants.{Is, Cmd, Sctl, Serr}
 use Rattle.adapter.specs.Access.{Access, Does, port_after_write, port_after_st_write, port_after_fre_write}
 use Rattle.adapter.specs.Device.{DevicePort, Device}
-use Rattle.adapter.specs.KeptBySteps.{Keeps, KeepsControls}
+use Rattle.adapter.specs.KeptBySteps.{KeepsOverSteps, KeepsControlsFlagsRise}
 use Rattle.adapter.specs.Memory.{changed}
 use Rattle.adapter.specs.Steps.{DeviceTransition, Can, device_after, TransitionsLead, Steps}
 use Rattle.adapter.specs.Steps.DeviceTransition.{Fetch, FetchFault, Move, Clear, Done, Fault, Fatal, Fall, FrFall, LinkUp, Unplug, Plug, ResetEnds, Scribble}
@@ -19,8 +19,8 @@ use Rattle.adapter.specs.declared.tape.Entry.TheVariants as entry
 use Rattle.adapter.proofs.Changed.{changed_same, changed_other}
 use Rattle.refinement.specs.StepLaws.{StepLaws}
 use Rattle.refinement.specs.Fragments.{TapeGrows}
-use Rattle.refinement.specs.Errors.{KeepsErrors, IsDiskComing, NoDiskComes, ChangesByDisks}
-use Rattle.refinement.specs.Links.{DoesNotWrite, IsPlugEvent, NoPlugEvents}
+use Rattle.refinement.specs.Errors.{KeepsErrors, IsDiskComing, NoDiskComes, LinkErrorsRiseByDisks}
+use Rattle.refinement.specs.PreservedParts.{DoesNotWrite, IsPlugEvent, NoPlugEvents}
 use Rattle.refinement.proofs.device.FactsOverAccesses.{access_steps, effect_keeps}
 use Rattle.refinement.proofs.device.TapeGains.{gains_nothing, gains_more, gains_parts, gained_none, none_narrower}
 use Rattle.refinement.proofs.device.HealthyPort.{at_port}
@@ -55,17 +55,17 @@ plugs_come port old new p = record { new_entries = p.new_entries; tape_is = p.ta
 
 -- ---- what changes by disks
 
-pub change_none : (port : ℕ) (d : Device) → ChangesByDisks port d d
-change_none port d = record { serr_n = λ none h. h; serr_x = λ none h. h; det = λ none up. (up, plugs_nothing port d) }
+pub change_none : (port : ℕ) (d : Device) → LinkErrorsRiseByDisks port d d
+change_none port d = record { serr_n_rises_by_plug_events = λ none h. h; serr_x_rises_by_disk_coming = λ none h. h; det_3_was_3_if_none_comes = λ none up. (up, plugs_nothing port d) }
 
-pub change_more : (port : ℕ) (old mid new : Device) → TapeGrows old mid → TapeGrows mid new → ChangesByDisks port old mid → ChangesByDisks port mid new → ChangesByDisks port old new
+pub change_more : (port : ℕ) (old mid new : Device) → TapeGrows old mid → TapeGrows mid new → LinkErrorsRiseByDisks port old mid → LinkErrorsRiseByDisks port mid new → LinkErrorsRiseByDisks port old new
 change_more port old mid new early late a b = record {
-  serr_n = λ none h. let parts = plugs_parts port old mid new early.0 late.0 early.1 late.1 none in b.serr_n parts.1 (a.serr_n parts.0 h);
-  serr_x = λ none h. let parts = comes_parts port old mid new early.0 late.0 early.1 late.1 none in b.serr_x parts.1 (a.serr_x parts.0 h);
-  det = λ none up.
+  serr_n_rises_by_plug_events = λ none h. let parts = plugs_parts port old mid new early.0 late.0 early.1 late.1 none in b.serr_n_rises_by_plug_events parts.1 (a.serr_n_rises_by_plug_events parts.0 h);
+  serr_x_rises_by_disk_coming = λ none h. let parts = comes_parts port old mid new early.0 late.0 early.1 late.1 none in b.serr_x_rises_by_disk_coming parts.1 (a.serr_x_rises_by_disk_coming parts.0 h);
+  det_3_was_3_if_none_comes = λ none up.
       let parts = comes_parts port old mid new early.0 late.0 early.1 late.1 none in
-      let last = b.det parts.1 up in
-      let first = a.det parts.0 last.0 in
+      let last = b.det_3_was_3_if_none_comes parts.1 up in
+      let first = a.det_3_was_3_if_none_comes parts.0 last.0 in
       (first.0, plugs_more port old mid new first.1 last.1);
 }
 
@@ -88,7 +88,7 @@ no_plugs port d new is = record { new_entries = []; tape_is = is ∙ sym (append
 
 -- a step, and then steps, while no link is due
 abbrev Turns : ℕ → Device → Device → Type 0
-Turns port old new = ((new.port port).link_due ≡ false) × ChangesByDisks port old new
+Turns port old new = ((new.port port).link_due ≡ false) × LinkErrorsRiseByDisks port old new
 
 module _ (port : ℕ) (d : Device) (off : d.hr ≡ false) (undue : (d.port port).link_due ≡ false) where
   abbrev News : DevicePort → Type 0
@@ -97,7 +97,7 @@ module _ (port : ℕ) (d : Device) (off : d.hr ≡ false) (undue : (d.port port)
   calm : (new : Device) → News (new.port port) → NoPlugEvents port d new → Turns port d new
   calm new same none = (
     same.0 ∙ undue,
-    record { serr_n = λ _ h. same.1 ∙ h; serr_x = λ _ h. same.2 ∙ h; det = λ _ up. (sym same.3 ∙ up, none) },
+    record { serr_n_rises_by_plug_events = λ _ h. same.1 ∙ h; serr_x_rises_by_disk_coming = λ _ h. same.2 ∙ h; det_3_was_3_if_none_comes = λ _ up. (sym same.3 ∙ up, none) },
   )
 
   -- a disk of another port goes or comes
@@ -121,9 +121,9 @@ module _ (port : ℕ) (d : Device) (off : d.hr ≡ false) (undue : (d.port port)
       (λ (e : p ≡ port). (
         at_port News (λ (q : DevicePort). q.link_due ≡ false) d p port _ (refl, refl, refl, refl) (λ _ x. x.0 ∙ undue) (λ _ x. undue),
         record {
-          serr_n = λ none h. absurd (gained_none (IsPlugEvent port) d.tape _ none.new_entries none.tape_is none.no_such_entry e);
-          serr_x = λ none h. at_port News (λ (q : DevicePort). q.serr_x ≡ false) d p port _ (refl, refl, refl, refl) (λ _ x. x.2 ∙ h) (λ _ x. h);
-          det = λ none up. absurd (lost p e up);
+          serr_n_rises_by_plug_events = λ none h. absurd (gained_none (IsPlugEvent port) d.tape _ none.new_entries none.tape_is none.no_such_entry e);
+          serr_x_rises_by_disk_coming = λ none h. at_port News (λ (q : DevicePort). q.serr_x ≡ false) d p port _ (refl, refl, refl, refl) (λ _ x. x.2 ∙ h) (λ _ x. h);
+          det_3_was_3_if_none_comes = λ none up. absurd (lost p e up);
         },
       ))
       (λ (ne : p ≡ port → ⊥). elsewhere p _ _ refl (one_plugs port d _ _ ne refl) ne)
@@ -137,9 +137,9 @@ module _ (port : ℕ) (d : Device) (off : d.hr ≡ false) (undue : (d.port port)
       (λ (e : p ≡ port). (
         at_port News (λ (q : DevicePort). q.link_due ≡ false) d p port _ (refl, refl, refl, refl) (λ _ x. x.0 ∙ undue) (λ _ x. undue),
         record {
-          serr_n = λ none h. absurd (gained_none (IsPlugEvent port) d.tape _ none.new_entries none.tape_is none.no_such_entry e);
-          serr_x = λ none h. absurd (gained_none (IsDiskComing port) d.tape _ none.new_entries none.tape_is none.no_such_entry e);
-          det = λ none up. absurd (gained_none (IsDiskComing port) d.tape _ none.new_entries none.tape_is none.no_such_entry e);
+          serr_n_rises_by_plug_events = λ none h. absurd (gained_none (IsPlugEvent port) d.tape _ none.new_entries none.tape_is none.no_such_entry e);
+          serr_x_rises_by_disk_coming = λ none h. absurd (gained_none (IsDiskComing port) d.tape _ none.new_entries none.tape_is none.no_such_entry e);
+          det_3_was_3_if_none_comes = λ none up. absurd (gained_none (IsDiskComing port) d.tape _ none.new_entries none.tape_is none.no_such_entry e);
         },
       ))
       (λ (ne : p ≡ port → ⊥). elsewhere p _ _ refl (one_plugs port d _ _ ne refl) ne)
@@ -150,8 +150,8 @@ module _ (port : ℕ) (d : Device) (off : d.hr ≡ false) (undue : (d.port port)
 leads_turn : StepLaws → (port : ℕ) (steps : List DeviceTransition) (old new : Device) → old.hr ≡ false → (old.port port).link_due ≡ false → TransitionsLead steps old new → Turns port old new
 leads_turn laws port [] old new off undue e = subst (Turns port old) (sym e) (calm port old off undue old (refl, refl, refl, refl) (plugs_nothing port old))
 leads_turn laws port (step ∷ steps) old new off undue (can, lead) =
-    let k : Keeps old (device_after step old) = laws.step step _ can in
-    let l : Keeps (device_after step old) new = laws.keeps _ _ (record { steps = steps; lead = lead }) in
+    let k : KeepsOverSteps old (device_after step old) = laws.one_step_keeps step _ can in
+    let l : KeepsOverSteps (device_after step old) new = laws.steps_keep _ _ (record { steps = steps; lead = lead }) in
     let a = step_turns port old off undue step can in
     let b = leads_turn laws port steps (device_after step old) new (k.keeps_outside_reset off).no_reset a.0 lead in (
       b.0,
@@ -162,10 +162,10 @@ leads_turn laws port (step ∷ steps) old new off undue (can, lead) =
 
 pub steps_errors : StepLaws → (port : ℕ) (old new : Device) → old.hr ≡ false → Steps old new → KeepsErrors (old.port port) (new.port port)
 steps_errors laws port old new off s =
-    let c : KeepsControls (old.port port) (new.port port) = ((laws.keeps _ _ s).keeps_outside_reset off).controls port in
-    record { pxis_is_kept = c.is; serr_n = c.serr_n; serr_x = c.serr_x }
+    let c : KeepsControlsFlagsRise (old.port port) (new.port port) = ((laws.steps_keep _ _ s).keeps_outside_reset off).controls_are_kept port in
+    record { pxis_is_kept = c.causes_stay_set; serr_n_is_kept = c.serr_n_stays_set; serr_x_is_kept = c.serr_x_stays_set }
 
-pub steps_change : StepLaws → (port : ℕ) (old new : Device) → old.hr ≡ false → (old.port port).link_due ≡ false → Steps old new → ChangesByDisks port old new
+pub steps_change : StepLaws → (port : ℕ) (old new : Device) → old.hr ≡ false → (old.port port).link_due ≡ false → Steps old new → LinkErrorsRiseByDisks port old new
 steps_change laws port old new off undue s = (leads_turn laws port s.steps old new off undue s.lead).1
 
 pub steps_undue : StepLaws → (port : ℕ) (old new : Device) → old.hr ≡ false → (old.port port).link_due ≡ false → Steps old new → (new.port port).link_due ≡ false
@@ -201,18 +201,18 @@ written_unraised first Sctl v tape p h = (h.0, h.1, λ up. h.2 (by (nat_eq (v % 
     by false up = up
 written_unraised first _ v tape p h = h
 
-pub access_change : StepLaws → (port : Port) (access : Access) (old new : Device) → old.hr ≡ false → (old.port port.0).link_due ≡ false → Does access old new → ChangesByDisks port.0 old new
+pub access_change : StepLaws → (port : Port) (access : Access) (old new : Device) → old.hr ≡ false → (old.port port.0).link_due ≡ false → Does access old new → LinkErrorsRiseByDisks port.0 old new
 access_change laws port access old new off undue x =
     let s = access_steps access old new x in
-    let c : ChangesByDisks port.0 old s.0 = steps_change laws port.0 old s.0 off undue s.1 in
+    let c : LinkErrorsRiseByDisks port.0 old s.0 = steps_change laws port.0 old s.0 off undue s.1 in
     let first : DevicePort = s.0.port port.0 in
     let u : Unraised first (new.port port.0) =
     effect_keeps (Unraised first) port (λ p r v h. h) (λ p h. h) access old new x (λ r v mid is steps h. written_unraised first r v (length mid.tape) (mid.port port.0) h) (λ n. n, λ x. x, λ up. up) in
     record {
-      serr_n = λ none h. u.0 (c.serr_n (plugs_before port.0 old s.0 new s.2 none) h);
-      serr_x = λ none h. u.1 (c.serr_x (comes_before port.0 old s.0 new s.2 none) h);
-      det = λ none up.
-          let y = c.det (comes_before port.0 old s.0 new s.2 none) (u.2 up) in
+      serr_n_rises_by_plug_events = λ none h. u.0 (c.serr_n_rises_by_plug_events (plugs_before port.0 old s.0 new s.2 none) h);
+      serr_x_rises_by_disk_coming = λ none h. u.1 (c.serr_x_rises_by_disk_coming (comes_before port.0 old s.0 new s.2 none) h);
+      det_3_was_3_if_none_comes = λ none up.
+          let y = c.det_3_was_3_if_none_comes (comes_before port.0 old s.0 new s.2 none) (u.2 up) in
           (y.0, record { new_entries = y.1.new_entries; tape_is = s.2 ∙ y.1.tape_is; no_such_entry = y.1.no_such_entry });
     }
 
@@ -248,7 +248,7 @@ access_news laws port access old new off spares x =
     let e : KeepsErrors (old.port port.0) (s.0.port port.0) = steps_errors laws port.0 old s.0 off s.1 in
     effect_keeps (KeepsNews (old.port port.0)) port (λ p r v h. h) (λ p h. h) access old new x
     (λ r v mid is steps h. written_news (old.port port.0) r v (length mid.tape) (mid.port port.0) (spared port r Serr access v spares is) h)
-    (e.serr_n, e.serr_x)
+    (e.serr_n_is_kept, e.serr_x_is_kept)
 
 -- bits of PxIS stay set
 abbrev KeepsCauses : DevicePort → DevicePort → Type 0

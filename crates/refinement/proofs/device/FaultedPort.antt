@@ -9,9 +9,9 @@ use Rattle.hba_regs.specs.declared.reg.Reg.TheVariants.{Cap, Ghc, Pi, Vs, Cap2, 
 use Rattle.hba_regs.specs.declared.reg.Reg.TheVariants as adapter
 use Rattle.hba_regs.specs.declared.reg.PortReg.{PortReg}
 use Rattle.hba_regs.specs.declared.reg.PortReg.TheVariants.{Clb, Clbu, Fb, Fbu, Is, Ie, Cmd, Tfd, Sig, Ssts, Sctl, Serr, Sact, Ci}
-use Rattle.adapter.specs.Access.{Reads, Writes, noted, written, port_after_write, port_after_st_write, port_after_fre_write, port_after_hba_is_write}
+use Rattle.adapter.specs.Access.{Reads, Writes, device_after_reading, device_after_write, port_after_write, port_after_st_write, port_after_fre_write, port_after_hba_is_write}
 use Rattle.adapter.specs.Device.{DevicePort, Device}
-use Rattle.adapter.specs.KeptBySteps.{Keeps, KeepsOutsideReset}
+use Rattle.adapter.specs.KeptBySteps.{KeepsOverSteps, KeepsOutsideReset}
 use Rattle.adapter.specs.Steps.{DeviceTransition, Can, device_after, Steps}
 use Rattle.adapter.specs.Steps.DeviceTransition.{Fetch, FetchFault, Move, Clear, Done, Fault, Fatal, Fall, FrFall, LinkUp, Unplug, Plug, ResetEnds, Scribble}
 use Rattle.adapter.specs.RegisterEffects.{PortRegisterRead}
@@ -21,7 +21,7 @@ use Rattle.refinement.specs.StepLaws.{StepLaws}
 use Rattle.refinement.specs.Relation.{StateRelation}
 use Rattle.refinement.specs.Slots.{SlotState, Free, SlotStates, RelatesSlot, IsEmptySlot}
 use Rattle.refinement.proofs.steps.StillFrames.{over_unused}
-use Rattle.refinement.specs.PortFacts.{IsFaulted, ShowsFault, RecordsFaults, FaultsOnRecord}
+use Rattle.refinement.specs.PortFacts.{IsFaulted, ShowsFault, RecordsFaults, RecordsFaultsIfSt}
 use Rattle.refinement.proofs.device.AwaitedLink.{leads_keep}
 use Rattle.refinement.proofs.device.HealthyPort.{at_port}
 use Rattle.refinement.proofs.device.RecordedFaults.{faulted_admits, fault_halts}
@@ -48,14 +48,14 @@ step_stuck d port (Plug p disk) can h = at_port IsStuck IsStuck d p port _ h (λ
 step_stuck d port ResetEnds can h = λ st. absurd (false≢true st)
 step_stuck d port (Scribble p slot at bytes) can h = h
 
-module _ (laws : StepLaws) (port : ℕ) (old new : Device) (off : old.hr ≡ false) (st : (old.port port).st ≡ true) (h : FaultsOnRecord old.tape (old.port port) port) (faulted : IsFaulted (old.port port).halt) where
+module _ (laws : StepLaws) (port : ℕ) (old new : Device) (off : old.hr ≡ false) (st : (old.port port).st ≡ true) (h : RecordsFaultsIfSt old.tape (old.port port) port) (faulted : IsFaulted (old.port port).halt) where
   running : Steps old new → (new.port port).st ≡ true
-  running s = let k : Keeps old new = laws.keeps _ _ s in let on : KeepsOutsideReset old new = k.keeps_outside_reset off in (on.controls port).st ∙ st
+  running s = let k : KeepsOverSteps old new = laws.steps_keep _ _ s in let on : KeepsOutsideReset old new = k.keeps_outside_reset off in (on.controls_are_kept port).st_is_kept ∙ st
 
   pub steps_faulted : Steps old new → IsFaulted (new.port port).halt
   steps_faulted s = (leads_keep IsStuck step_stuck port s.steps old new s.lead (λ on. ((h st).no_link_is_due, faulted)) (running s)).1
 
-noted_halt : (port : ℕ) (r : Reg) (v : ℕ) (d : Device) → IsFaulted (d.port port).halt → IsFaulted ((noted r v d).port port).halt
+noted_halt : (port : ℕ) (r : Reg) (v : ℕ) (d : Device) → IsFaulted (d.port port).halt → IsFaulted ((device_after_reading r v d).port port).halt
 noted_halt port (Px p r) v d h = at_port (λ x. IsFaulted x.halt) (λ x. IsFaulted x.halt) d p.0 port _ h (λ e x. x) (λ ne x. x)
 noted_halt port Cap v d h = h
 noted_halt port Ghc v d h = h
@@ -65,10 +65,10 @@ noted_halt port Vs v d h = h
 noted_halt port Cap2 v d h = h
 noted_halt port Bohc v d h = h
 
-pub reads_faulted : StepLaws → (port : ℕ) (r : Reg) (v : ℕ) (old new : Device) → old.hr ≡ false → (old.port port).st ≡ true → FaultsOnRecord old.tape (old.port port) port → IsFaulted (old.port port).halt →
+pub reads_faulted : StepLaws → (port : ℕ) (r : Reg) (v : ℕ) (old new : Device) → old.hr ≡ false → (old.port port).st ≡ true → RecordsFaultsIfSt old.tape (old.port port) port → IsFaulted (old.port port).halt →
     Reads r v old new → IsFaulted (new.port port).halt
 reads_faulted laws port r v old new off st h faulted call =
-    subst (λ (d : Device). IsFaulted (d.port port).halt) (sym call.effect) (noted_halt port r v call.mid (steps_faulted laws port old call.mid off st h faulted call.steps))
+    subst (λ (d : Device). IsFaulted (d.port port).halt) (sym call.effect) (noted_halt port r v call.at_access (steps_faulted laws port old call.at_access off st h faulted call.steps))
 
 -- no write ends a halt while ST is 1
 port_halt : (r : PortReg) (v tape : ℕ) (p : DevicePort) → p.st ≡ true → (port_after_write r v tape p).halt ≡ p.halt
@@ -91,7 +91,7 @@ port_halt Serr v tape p st = refl
 port_halt Sact v tape p st = refl
 port_halt Ci v tape p st = refl
 
-written_halt : (port : ℕ) (r : Reg) (v : ℕ) (d : Device) → (d.port port).st ≡ true → ((written r v d).port port).halt ≡ (d.port port).halt
+written_halt : (port : ℕ) (r : Reg) (v : ℕ) (d : Device) → (d.port port).st ≡ true → ((device_after_write r v d).port port).halt ≡ (d.port port).halt
 written_halt port (Px p r) v d st = at_port (λ x. x.st ≡ true) (λ x. x.halt ≡ (d.port port).halt) d p.0 port _ st
     (λ e x. port_halt r v (length d.tape) (d.port p.0) x ∙ ap (λ (k : ℕ). (d.port k).halt) e) (λ ne x. refl)
 written_halt port adapter.Is v d st = by (bit v port)
@@ -106,20 +106,20 @@ written_halt port Vs v d st = refl
 written_halt port Cap2 v d st = refl
 written_halt port Bohc v d st = refl
 
-pub writes_faulted : StepLaws → (port : ℕ) (r : Reg) (v : ℕ) (old new : Device) → old.hr ≡ false → (old.port port).st ≡ true → FaultsOnRecord old.tape (old.port port) port → IsFaulted (old.port port).halt →
+pub writes_faulted : StepLaws → (port : ℕ) (r : Reg) (v : ℕ) (old new : Device) → old.hr ≡ false → (old.port port).st ≡ true → RecordsFaultsIfSt old.tape (old.port port) port → IsFaulted (old.port port).halt →
     Writes r v old new → IsFaulted (new.port port).halt
 writes_faulted laws port r v old new off st h faulted call =
-    let mid : IsFaulted (call.mid.port port).halt = steps_faulted laws port old call.mid off st h faulted call.steps in
-    let same : (new.port port).halt ≡ (call.mid.port port).halt =
-    ap (λ (d : Device). (d.port port).halt) call.effect ∙ written_halt port r v call.mid (running laws port old call.mid off st h faulted call.steps) in
+    let mid : IsFaulted (call.at_access.port port).halt = steps_faulted laws port old call.at_access off st h faulted call.steps in
+    let same : (new.port port).halt ≡ (call.at_access.port port).halt =
+    ap (λ (d : Device). (d.port port).halt) call.effect ∙ written_halt port r v call.at_access (running laws port old call.at_access off st h faulted call.steps) in
     subst IsFaulted (sym same) mid
 
 -- TFES is read
-pub tfes_tells : StepLaws → (port : Port) (v : ℕ) (old new : Device) → old.hr ≡ false → (old.port port.0).st ≡ true → FaultsOnRecord old.tape (old.port port.0) port.0 → Reads (Px port Is) v old new → bit v 30 ≡ true →
+pub tfes_tells : StepLaws → (port : Port) (v : ℕ) (old new : Device) → old.hr ≡ false → (old.port port.0).st ≡ true → RecordsFaultsIfSt old.tape (old.port port.0) port.0 → Reads (Px port Is) v old new → bit v 30 ≡ true →
     IsFaulted (new.port port.0).halt
 tfes_tells laws port v old new off st h call set =
-    let x : PortRegisterRead port.0 Is v old new = laws.seen port Is v old new call off in
-    let now : RecordsFaults new.tape (new.port port.0) port.0 = reads_recorded port.0 (Px port Is) v old new call h ((x.keeps.keeps_outside_reset.controls port.0).st ∙ st) in
+    let x : PortRegisterRead port.0 Is v old new = laws.reading_shows_register port Is v old new call off in
+    let now : RecordsFaults new.tape (new.port port.0) port.0 = reads_recorded port.0 (Px port Is) v old new call h ((x.keeps.keeps_outside_reset.controls_are_kept port.0).st_is_kept ∙ st) in
     now.tfes_tells_fault (sym (x.shows 30 refl) ∙ set)
 
 -- the status and the error of the value
@@ -127,11 +127,11 @@ parts_read : (v tfd status error : ℕ) → v % 65536 ≡ tfd → tfd ≡ status
 parts_read v tfd status error e f low high = (omega (arith, e, f, low, high), omega (arith, e, f, low, high))
 
 -- TFD of a port that a fault has halted shows the last one
-pub fault_is_read : StepLaws → (port : Port) (v : ℕ) (old new : Device) → old.hr ≡ false → (old.port port.0).st ≡ true → FaultsOnRecord old.tape (old.port port.0) port.0 → IsFaulted (old.port port.0).halt →
+pub fault_is_read : StepLaws → (port : Port) (v : ℕ) (old new : Device) → old.hr ≡ false → (old.port port.0).st ≡ true → RecordsFaultsIfSt old.tape (old.port port.0) port.0 → IsFaulted (old.port port.0).halt →
     Reads (Px port Tfd) v old new → (s : ShowsFault (drop (new.port port.0).notes.st_set_at new.tape) (new.port port.0) port.0) × (v % 256 ≡ s.fault.status) × (v / 256 % 256 ≡ s.fault.error)
 fault_is_read laws port v old new off st h faulted call =
-    let x : PortRegisterRead port.0 Tfd v old new = laws.seen port Tfd v old new call off in
-    let now : RecordsFaults new.tape (new.port port.0) port.0 = reads_recorded port.0 (Px port Tfd) v old new call h ((x.keeps.keeps_outside_reset.controls port.0).st ∙ st) in
+    let x : PortRegisterRead port.0 Tfd v old new = laws.reading_shows_register port Tfd v old new call off in
+    let now : RecordsFaults new.tape (new.port port.0) port.0 = reads_recorded port.0 (Px port Tfd) v old new call h ((x.keeps.keeps_outside_reset.controls_are_kept port.0).st_is_kept ∙ st) in
     let s : ShowsFault (drop (new.port port.0).notes.st_set_at new.tape) (new.port port.0) port.0 = now.shows_last_fault (reads_faulted laws port.0 (Px port Tfd) v old new off st h faulted call) in
     let parts = parts_read v (new.port port.0).tfd s.fault.status s.fault.error x.shows s.tfd_is s.bytes_fit.0 s.bytes_fit.1 in
     (s, parts.0, parts.1)
@@ -140,4 +140,4 @@ fault_is_read laws port v old new off st h faulted call =
 pub fault_has_a_use : (uses : SlotStates) (m : Machine) (d : Device) (port : ℕ) (entries : List Entry) → StateRelation uses m d → (s : ShowsFault entries (d.port port) port) → uses port s.fault.slot.0 ≢ Free
 fault_has_a_use uses m d port entries a s u =
     let h : IsEmptySlot (d.port port) s.fault.slot.0 = subst (λ (w : SlotState). RelatesSlot m d.memory d.tape (d.port port) port s.fault.slot.0 w) u (a.relates_slots port s.fault.slot.0) in
-    over_unused (d.port port) s.fault.slot.0 (record { issued = h.issued; free = h.free }) s.slot_is_in_use
+    over_unused (d.port port) s.fault.slot.0 (record { is_not_issued = h.is_not_issued; is_not_taken = h.is_not_taken }) s.slot_is_in_use

@@ -3,7 +3,7 @@ use Rattle.std.proofs.Common.{ℕ, ◌≡◌, ◌++◌, List, refl, sym, ◌∙�
 use Rattle.hba_regs.specs.declared.reg.Reg.{Reg}
 use Rattle.hba_regs.specs.declared.reg.Reg.TheVariants.{Cap, Ghc, Pi, Vs, Cap2, Bohc, Px}
 use Rattle.hba_regs.specs.declared.reg.Reg.TheVariants as adapter
-use Rattle.adapter.specs.Access.{written}
+use Rattle.adapter.specs.Access.{device_after_write}
 use Rattle.adapter.specs.Device.{DevicePort, Device}
 use Rattle.adapter.specs.FirstRead.{first_read_device, reading_port, empty_port}
 use Rattle.adapter.specs.Memory.{changed}
@@ -40,7 +40,7 @@ at_port H Q d p port new h here other =
     (λ k ne e. subst (λ (k : ℕ). Q (d.port k)) (sym e) (other (λ x. ne (e ∙ x)) h))
     port refl
 
-pub written_tape : (r : Reg) (v : ℕ) (d : Device) → (written r v d).tape ≡ d.tape
+pub written_tape : (r : Reg) (v : ℕ) (d : Device) → (device_after_write r v d).tape ≡ d.tape
 written_tape (Px p r) v d = refl
 written_tape adapter.Is v d = refl
 written_tape Cap v d = refl
@@ -54,13 +54,13 @@ written_tape Bohc v d = refl
 
 pub first_healthy : RunsWell (first_read_device.port 0)
 first_healthy = subst RunsWell (sym (changed_same (λ _. empty_port) 0 reading_port)) (record {
-  st = refl;
-  cr = refl;
-  det = refl;
+  st_is_set = refl;
+  cr_is_set = refl;
+  det_is_3 = refl;
   present = refl;
   fresh = refl;
   no_link_is_due = refl;
   is_not_halted = refl;
   is_not_broken = refl;
-  shows_no_trouble = record { serr_n = refl; serr_x = refl; no_error_bit_is_set = λ place low up. refl };
+  shows_no_trouble = record { serr_n_is_clear = refl; serr_x_is_clear = refl; no_error_bit_is_set = λ place low up. refl };
 })

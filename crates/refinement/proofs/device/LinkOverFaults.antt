@@ -10,15 +10,15 @@ use Rattle.adapter.specs.Access.{Access, Does, Writes, port_after_write, port_af
 use Rattle.adapter.specs.Access.Access.{Writing}
 use Rattle.adapter.specs.Device.{DevicePort, Device}
 use Rattle.adapter.specs.Device.Halt.{NotHalted}
-use Rattle.adapter.specs.KeptBySteps.{Keeps}
+use Rattle.adapter.specs.KeptBySteps.{KeepsOverSteps}
 use Rattle.adapter.specs.Steps.{DeviceTransition, Can, device_after, TransitionsLead, Steps}
 use Rattle.adapter.specs.Steps.DeviceTransition.{Fetch, FetchFault, Move, Clear, Done, Fault, Fatal, Fall, FrFall, LinkUp, Unplug, Plug, ResetEnds, Scribble}
 use Rattle.adapter.specs.declared.tape.Entry.{Entry}
 use Rattle.adapter.proofs.Changed.{changed_same}
 use Rattle.refinement.specs.StepLaws.{StepLaws}
-use Rattle.refinement.specs.Errors.{NoneFatal, IsFatalOf}
-use Rattle.refinement.specs.Links.{DoesNotWrite, NoPlugEvents, LeavesDisk, SameLink, ComesUp, LeavesLink, IsPlugEvent}
-use Rattle.refinement.specs.StartedPort.{IsUp, IsStarted, ClearsNoStart}
+use Rattle.refinement.specs.Errors.{NoFatalErrors, IsFatalErrorOf}
+use Rattle.refinement.specs.PreservedParts.{DoesNotWrite, NoPlugEvents, KeepsDisk, SameLink, ComesUp, LinkIsSameOrComesUp, IsPlugEvent}
+use Rattle.refinement.specs.StartedPort.{IsUpForStart, IsStarted, ClearsNoStart}
 use Rattle.refinement.proofs.device.FactsOverAccesses.{access_steps, effect_keeps}
 use Rattle.refinement.proofs.device.FaultlessStretches.{fatal_parts}
 use Rattle.refinement.proofs.device.TapeGains.{NoneOf, gained_none}
@@ -29,18 +29,18 @@ use Rattle.refinement.specs.HaltRecovery.{IsLinked, RunsLinked}
 -- ---- the link
 
 -- the same link of the same disk
-linked_on : (p new : DevicePort) → LeavesLink p new → LeavesDisk p new → new.sctl_det ≡ p.sctl_det → IsLinked p → IsLinked new
+linked_on : (p new : DevicePort) → LinkIsSameOrComesUp p new → KeepsDisk p new → new.sctl_det ≡ p.sctl_det → IsLinked p → IsLinked new
 linked_on p new l disk control h = record {
-  det = ⊎_elim (λ (s : SameLink p new). s.det ∙ h.det) (λ (c : ComesUp p new). c.det) l;
+  det_is_3 = ⊎_elim (λ (s : SameLink p new). s.det ∙ h.det_is_3) (λ (c : ComesUp p new). c.det) l;
   present = disk.present ∙ h.present;
   fresh = ⊎_elim (λ (s : SameLink p new). s.fresh ∙ h.fresh) (λ (c : ComesUp p new). c.fresh) l;
-  no_link_is_due = ⊎_elim (λ (s : SameLink p new). s.due ∙ h.no_link_is_due) (λ (c : ComesUp p new). c.up) l;
+  no_link_is_due = ⊎_elim (λ (s : SameLink p new). s.due ∙ h.no_link_is_due) (λ (c : ComesUp p new). c.link_is_not_due_any_more) l;
   comreset_is_over = λ one. h.comreset_is_over (sym control ∙ one);
 }
 
 pub steps_linked : StepLaws → (port : ℕ) (old new : Device) → old.hr ≡ false → NoPlugEvents port old new → Steps old new → IsLinked (old.port port) → IsLinked (new.port port)
 steps_linked laws port old new off none s h =
-    linked_on (old.port port) (new.port port) (steps_link laws port old new off s none) (steps_disk laws port old new s none) (((laws.keeps _ _ s).keeps_outside_reset off).controls port).sctl_det h
+    linked_on (old.port port) (new.port port) (steps_link laws port old new off s none) (steps_disk laws port old new s none) (((laws.steps_keep _ _ s).keeps_outside_reset off).controls_are_kept port).sctl_det_is_kept h
 
 pub access_linked : StepLaws → (port : Port) (access : Access) (old new : Device) → old.hr ≡ false → DoesNotWrite (Px port Sctl) access → NoPlugEvents port.0 old new → Does access old new → IsLinked (old.port port.0) → IsLinked (new.port port.0)
 access_linked laws port access old new off spares none x h =
@@ -48,10 +48,10 @@ access_linked laws port access old new off spares none x h =
     ((access_controls laws port access old new off x).control spares).0 h
 
 pub started_linked : (p : DevicePort) → IsStarted p → p.sctl_det ≢ 1 → IsLinked p
-started_linked p h released = record { det = h.det; present = h.present; fresh = h.fresh; no_link_is_due = h.no_link_is_due; comreset_is_over = released }
+started_linked p h released = record { det_is_3 = h.det_is_3; present = h.present; fresh = h.fresh; no_link_is_due = h.no_link_is_due; comreset_is_over = released }
 
-pub up_linked : (p : DevicePort) → IsUp p → IsLinked p
-up_linked p h = record { det = h.det; present = h.present; fresh = h.fresh; no_link_is_due = h.no_link_is_due; comreset_is_over = h.comreset_is_over }
+pub up_linked : (p : DevicePort) → IsUpForStart p → IsLinked p
+up_linked p h = record { det_is_3 = h.det_is_3; present = h.present; fresh = h.fresh; no_link_is_due = h.no_link_is_due; comreset_is_over = h.comreset_is_over }
 
 -- ---- a port that runs with it
 
@@ -59,12 +59,12 @@ abbrev Runs : DevicePort → Type 0
 Runs p = (p.st ≡ true) × (p.cr ≡ true) × (p.ssts_det ≡ 3) × (p.present ≡ true) × (p.fresh ≡ true) × (p.link_due ≡ false) × (p.broken ≡ false)
 
 runs_of : (p : DevicePort) → RunsLinked p → Runs p
-runs_of p h = (h.st, h.cr, h.det, h.present, h.fresh, h.no_link_is_due, h.is_not_broken)
+runs_of p h = (h.st_is_set, h.cr_is_set, h.det_is_3, h.present, h.fresh, h.no_link_is_due, h.is_not_broken)
 
 is_running : (p : DevicePort) → Runs p → RunsLinked p
-is_running p h = record { st = h.0; cr = h.1; det = h.2; present = h.3; fresh = h.4; no_link_is_due = h.5; is_not_broken = h.6 }
+is_running p h = record { st_is_set = h.0; cr_is_set = h.1; det_is_3 = h.2; present = h.3; fresh = h.4; no_link_is_due = h.5; is_not_broken = h.6 }
 
-module _ (port : ℕ) (d : Device) (gained others : List Entry) (none : NoneOf (IsPlugEvent port) gained) (calm : NoneOf (IsFatalOf port) others) where
+module _ (port : ℕ) (d : Device) (gained others : List Entry) (none : NoneOf (IsPlugEvent port) gained) (calm : NoneOf (IsFatalErrorOf port) others) where
   step_runs : (step : DeviceTransition) → d.hr ≡ false → Can step d → (device_after step d).tape ≡ d.tape ++ gained → (device_after step d).tape ≡ d.tape ++ others → Runs (d.port port) → Runs ((device_after step d).port port)
   step_runs (Fetch p slot c places) off can is too h = at_port Runs Runs d p port _ h (λ e x. x) (λ ne x. x)
   step_runs (FetchFault p slot queued kept_bits) off can is too h = at_port Runs Runs d p port _ h (λ e x. x) (λ ne x. x)
@@ -73,7 +73,7 @@ module _ (port : ℕ) (d : Device) (gained others : List Entry) (none : NoneOf (
   step_runs (Done p slot flag t) off can is too h = at_port Runs Runs d p port _ h (λ e x. x) (λ ne x. x)
   step_runs (Fault p slot error kept_bits t) off can is too h = at_port Runs Runs d p port _ h (λ e x. x) (λ ne x. x)
   step_runs (Fatal p place) off can is too h = at_port Runs Runs d p port _ h
-      (λ e x. absurd (gained_none (IsFatalOf port) d.tape _ others too calm e)) (λ ne x. x)
+      (λ e x. absurd (gained_none (IsFatalErrorOf port) d.tape _ others too calm e)) (λ ne x. x)
   step_runs (Fall p) off can is too h = at_port Runs Runs d p port _ h (λ e x. absurd (both_ways _ can.0 x.0)) (λ ne x. x)
   step_runs (FrFall p) off can is too h = at_port Runs Runs d p port _ h (λ e x. x) (λ ne x. x)
   step_runs (LinkUp p sig n) off can is too h = at_port Runs Runs d p port _ h (λ e x. absurd (both_ways _ x.5 can.link_is_due)) (λ ne x. x)
@@ -84,17 +84,17 @@ module _ (port : ℕ) (d : Device) (gained others : List Entry) (none : NoneOf (
   step_runs ResetEnds off can is too h = absurd (both_ways _ off can)
   step_runs (Scribble p slot at bytes) off can is too h = h
 
-leads_run : StepLaws → (port : ℕ) (steps : List DeviceTransition) (old new : Device) → old.hr ≡ false → NoPlugEvents port old new → NoneFatal port old new → TransitionsLead steps old new → Runs (old.port port) → Runs (new.port port)
+leads_run : StepLaws → (port : ℕ) (steps : List DeviceTransition) (old new : Device) → old.hr ≡ false → NoPlugEvents port old new → NoFatalErrors port old new → TransitionsLead steps old new → Runs (old.port port) → Runs (new.port port)
 leads_run laws port [] old new off none calm e h = subst (λ (d : Device). Runs (d.port port)) (sym e) h
 leads_run laws port (step ∷ steps) old new off none calm (can, lead) h =
-    let k : Keeps old (device_after step old) = laws.step step _ can in
-    let l : Keeps (device_after step old) new = laws.keeps _ _ (record { steps = steps; lead = lead }) in
+    let k : KeepsOverSteps old (device_after step old) = laws.one_step_keeps step _ can in
+    let l : KeepsOverSteps (device_after step old) new = laws.steps_keep _ _ (record { steps = steps; lead = lead }) in
     let plugs = plugs_parts port old (device_after step old) new k.new_entries l.new_entries k.tape_grows l.tape_grows none in
     let fatal = fatal_parts port old (device_after step old) new k.new_entries l.new_entries k.tape_grows l.tape_grows calm in
     leads_run laws port steps (device_after step old) new (k.keeps_outside_reset off).no_reset plugs.1 fatal.1 lead
     (step_runs port old plugs.0.new_entries fatal.0.new_entries plugs.0.no_such_entry fatal.0.no_such_entry step off can plugs.0.tape_is fatal.0.tape_is h)
 
-pub steps_run : StepLaws → (port : ℕ) (old new : Device) → old.hr ≡ false → NoPlugEvents port old new → NoneFatal port old new → Steps old new → RunsLinked (old.port port) → RunsLinked (new.port port)
+pub steps_run : StepLaws → (port : ℕ) (old new : Device) → old.hr ≡ false → NoPlugEvents port old new → NoFatalErrors port old new → Steps old new → RunsLinked (old.port port) → RunsLinked (new.port port)
 steps_run laws port old new off none calm s h = is_running (new.port port) (leads_run laws port s.steps old new off none calm s.lead (runs_of (old.port port) h))
 
 -- ST stays 1
@@ -109,10 +109,10 @@ written_runs Sctl v tape p on other h = absurd (other refl)
 written_runs _ v tape p on other h = h
 
 -- before the effect of an access the tape has what it has after it
-fatal_before : (port : ℕ) (old mid new : Device) → new.tape ≡ mid.tape → NoneFatal port old new → NoneFatal port old mid
+fatal_before : (port : ℕ) (old mid new : Device) → new.tape ≡ mid.tape → NoFatalErrors port old new → NoFatalErrors port old mid
 fatal_before port old mid new same h = record { new_entries = h.new_entries; tape_is = sym same ∙ h.tape_is; no_such_entry = h.no_such_entry }
 
-pub access_runs : StepLaws → (port : Port) (access : Access) (old new : Device) → old.hr ≡ false → ClearsNoStart port access → DoesNotWrite (Px port Sctl) access → NoPlugEvents port.0 old new → NoneFatal port.0 old new → Does access old new →
+pub access_runs : StepLaws → (port : Port) (access : Access) (old new : Device) → old.hr ≡ false → ClearsNoStart port access → DoesNotWrite (Px port Sctl) access → NoPlugEvents port.0 old new → NoFatalErrors port.0 old new → Does access old new →
     RunsLinked (old.port port.0) → RunsLinked (new.port port.0)
 access_runs laws port access old new off keeps spares none calm x h =
     let s = access_steps access old new x in
@@ -127,15 +127,15 @@ running_now : (v tape : ℕ) (p : DevicePort) → bit v 0 ≡ true → p.st ≡ 
 running_now v tape p on off u =
     subst (λ (b : Bool). RunsLinked (port_after_fre_write (bit v 4) (port_after_st_write b tape p))) (sym on)
     (subst (λ (x : DevicePort). RunsLinked (port_after_fre_write (bit v 4) x)) (sym (cond-false p.st p _ off))
-    (record { st = refl; cr = refl; det = u.det; present = u.present; fresh = u.fresh; no_link_is_due = u.no_link_is_due; is_not_broken = refl }))
+    (record { st_is_set = refl; cr_is_set = refl; det_is_3 = u.det_is_3; present = u.present; fresh = u.fresh; no_link_is_due = u.no_link_is_due; is_not_broken = refl }))
 
 pub start_runs : StepLaws → (port : Port) (v : ℕ) (old new : Device) → old.hr ≡ false → (old.port port.0).st ≡ false → (old.port port.0).cr ≡ false → bit v 0 ≡ true → NoPlugEvents port.0 old new → Writes (Px port Cmd) v old new →
     IsLinked (old.port port.0) → RunsLinked (new.port port.0)
 start_runs laws port v old new off stopped stands on none call h =
-    let k : Keeps old call.mid = laws.keeps _ _ call.steps in
-    let before : NoPlugEvents port.0 old call.mid = plugs_before port.0 old call.mid new (ap (λ (d : Device). d.tape) call.effect ∙ written_tape (Px port Cmd) v call.mid) none in
-    subst RunsLinked (sym (ap (λ (d : Device). d.port port.0) call.effect ∙ changed_same call.mid.port port.0 _))
-    (running_now v (length call.mid.tape) (call.mid.port port.0) on ((k.ports_are_kept port.0).st stopped) (steps_linked laws port.0 old call.mid off before call.steps h))
+    let k : KeepsOverSteps old call.at_access = laws.steps_keep _ _ call.steps in
+    let before : NoPlugEvents port.0 old call.at_access = plugs_before port.0 old call.at_access new (ap (λ (d : Device). d.tape) call.effect ∙ written_tape (Px port Cmd) v call.at_access) none in
+    subst RunsLinked (sym (ap (λ (d : Device). d.port port.0) call.effect ∙ changed_same call.at_access.port port.0 _))
+    (running_now v (length call.at_access.tape) (call.at_access.port port.0) on ((k.ports_are_kept port.0).st_stays_clear stopped) (steps_linked laws port.0 old call.at_access off before call.steps h))
 
 pub running_started : (p : DevicePort) → RunsLinked p → p.halt ≡ NotHalted → IsStarted p
-running_started p h ends = record { st = h.st; cr = h.cr; det = h.det; present = h.present; fresh = h.fresh; no_link_is_due = h.no_link_is_due; is_not_halted = ends; is_not_broken = h.is_not_broken }
+running_started p h ends = record { st_is_set = h.st_is_set; cr_is_set = h.cr_is_set; det_is_3 = h.det_is_3; present = h.present; fresh = h.fresh; no_link_is_due = h.no_link_is_due; is_not_halted = ends; is_not_broken = h.is_not_broken }

@@ -8,11 +8,11 @@ use Rattle.hba_regs.specs.declared.reg.PortReg.TheVariants.{Is, Ssts}
 use Rattle.adapter.specs.Access.{Reads}
 use Rattle.adapter.specs.Access.Access.{Reading}
 use Rattle.adapter.specs.Device.{Device}
-use Rattle.adapter.specs.KeptBySteps.{KeepsControls}
+use Rattle.adapter.specs.KeptBySteps.{KeepsControlsFlagsRise}
 use Rattle.adapter.specs.RegisterEffects.{PortRegisterRead}
 use Rattle.refinement.specs.StepLaws.{StepLaws}
-use Rattle.refinement.specs.Errors.{ChangesByDisks, NoneFails}
-use Rattle.refinement.specs.Links.{NoPlugEvents, LeavesLink, SameLink, ComesUp}
+use Rattle.refinement.specs.Errors.{LinkErrorsRiseByDisks, NoFaults}
+use Rattle.refinement.specs.PreservedParts.{NoPlugEvents, LinkIsSameOrComesUp, SameLink, ComesUp}
 use Rattle.refinement.proofs.device.ErrorBits.{access_change, plugs_come}
 use Rattle.refinement.proofs.device.PortControls.{access_link}
 use Rattle.refinement.proofs.device.RaisedBits.{access_raises}
@@ -21,16 +21,16 @@ use Rattle.refinement.proofs.device.TroubleBits.{shown_place}
 module _ (laws : StepLaws) (port : Port) (v : ℕ) (old new : Device) (off : old.hr ≡ false) where
   module _ (call : Reads (Px port Is) v old new) where
     seen_is : PortRegisterRead port.0 Is v old new
-    seen_is = laws.seen port Is v old new call off
+    seen_is = laws.reading_shows_register port Is v old new call off
 
-    kept : KeepsControls (old.port port.0) (new.port port.0)
-    kept = seen_is.keeps.keeps_outside_reset.controls port.0
+    kept : KeepsControlsFlagsRise (old.port port.0) (new.port port.0)
+    kept = seen_is.keeps.keeps_outside_reset.controls_are_kept port.0
 
     pub causes_told : (place : ℕ) → 27 ≤ place → place ≤ 30 → (old.port port.0).is place ≡ true → bit v place ≡ true
-    causes_told place low up set = shown_place v (new.port port.0) seen_is.shows place low up ∙ kept.is place set
+    causes_told place low up set = shown_place v (new.port port.0) seen_is.shows place low up ∙ kept.causes_stay_set place set
 
     pub errors_told : ((old.port port.0).serr_n ≡ true → bit v 22 ≡ true) × ((old.port port.0).serr_x ≡ true → bit v 6 ≡ true)
-    errors_told = (λ n. seen_is.shows 22 refl ∙ kept.serr_n n, λ x. seen_is.shows 6 refl ∙ kept.serr_x x)
+    errors_told = (λ n. seen_is.shows 22 refl ∙ kept.serr_n_stays_set n, λ x. seen_is.shows 6 refl ∙ kept.serr_x_stays_set x)
 
     pub lost_told : (old.port port.0).link_due ≡ false → (bit v 22 ≡ true) ⊎ (bit v 6 ≡ true) →
         ((old.port port.0).serr_n ≡ true) ⊎ (((old.port port.0).serr_x ≡ true) ⊎ (NoPlugEvents port.0 old new → ⊥))
@@ -42,16 +42,16 @@ module _ (laws : StepLaws) (port : Port) (v : ℕ) (old new : Device) (off : old
         (cases_Bool (old.port port.0).serr_x))
         (cases_Bool (old.port port.0).serr_n)
       where
-        change : ChangesByDisks port.0 old new
+        change : LinkErrorsRiseByDisks port.0 old new
         change = access_change laws port (Reading (Px port Is) v) old new off undue call
 
         neither : (old.port port.0).serr_n ≡ false → (old.port port.0).serr_x ≡ false → NoPlugEvents port.0 old new → ⊥
         neither n x none = ⊎_elim
-            (λ (t : bit v 22 ≡ true). absurd (both_ways _ (seen_is.shows 22 refl ∙ change.serr_n none n) t))
-            (λ (t : bit v 6 ≡ true). absurd (both_ways _ (seen_is.shows 6 refl ∙ change.serr_x (plugs_come port.0 old new none) x) t))
+            (λ (t : bit v 22 ≡ true). absurd (both_ways _ (seen_is.shows 22 refl ∙ change.serr_n_rises_by_plug_events none n) t))
+            (λ (t : bit v 6 ≡ true). absurd (both_ways _ (seen_is.shows 6 refl ∙ change.serr_x_rises_by_disk_coming (plugs_come port.0 old new none) x) t))
             told
 
-    pub fault_told : bit v 30 ≡ true → ((old.port port.0).is 30 ≡ true) ⊎ (NoneFails port.0 old new → ⊥)
+    pub fault_told : bit v 30 ≡ true → ((old.port port.0).is 30 ≡ true) ⊎ (NoFaults port.0 old new → ⊥)
     fault_told told = ⊎_elim
         (λ (t : (old.port port.0).is 30 ≡ true). inl t)
         (λ (f : (old.port port.0).is 30 ≡ false). inr (λ none. absurd (both_ways _ (seen_is.shows 30 refl ∙ (access_raises laws port (Reading (Px port Is) v) old new call).fault none f) told)))
@@ -64,7 +64,7 @@ module _ (laws : StepLaws) (port : Port) (v : ℕ) (old new : Device) (off : old
       (cases_eq (old.port port.0).ssts_det 3)
     where
       shows : v % 16 ≡ (new.port port.0).ssts_det
-      shows = (laws.seen port Ssts v old new call off).shows
+      shows = (laws.reading_shows_register port Ssts v old new call off).shows
 
-      same : (old.port port.0).ssts_det ≡ 3 → LeavesLink (old.port port.0) (new.port port.0) → (new.port port.0).ssts_det ≡ 3
+      same : (old.port port.0).ssts_det ≡ 3 → LinkIsSameOrComesUp (old.port port.0) (new.port port.0) → (new.port port.0).ssts_det ≡ 3
       same three = ⊎_elim (λ (s : SameLink (old.port port.0) (new.port port.0)). s.det ∙ three) (λ (c : ComesUp (old.port port.0) (new.port port.0)). c.det)

@@ -9,8 +9,8 @@ use Rattle.hba_regs.specs.declared.reg.PortReg.TheVariants.{Clb, Clbu, Fb, Fbu, 
 use Rattle.adapter.specs.Access.{Access, Does, port_after_write}
 use Rattle.adapter.specs.Device.{DevicePort, Device}
 use Rattle.adapter.specs.declared.tape.Entry.{Entry}
-use Rattle.refinement.specs.PortFacts.{ShowsDrqTillLink, FaultsOnRecord}
-use Rattle.refinement.specs.Links.{DoesNotWrite}
+use Rattle.refinement.specs.PortFacts.{StoppedWithDrqTillLink, RecordsFaultsIfSt}
+use Rattle.refinement.specs.PreservedParts.{DoesNotWrite}
 use Rattle.refinement.proofs.steps.AdapterCalls.{note_times}
 use Rattle.refinement.proofs.device.AwaitedLink.{steps_awaited}
 use Rattle.refinement.proofs.device.FactsOverAccesses.{access_steps, effect_keeps}
@@ -19,16 +19,16 @@ use Rattle.refinement.proofs.device.RecordedFaults.{SameRecord, same_with, recor
 
 -- ---- the link
 
-written_awaits : (r : PortReg) (v tape : ℕ) (p : DevicePort) → (r ≡ Cmd → ⊥) → (r ≡ Sctl → ⊥) → ShowsDrqTillLink p → ShowsDrqTillLink (port_after_write r v tape p)
+written_awaits : (r : PortReg) (v tape : ℕ) (p : DevicePort) → (r ≡ Cmd → ⊥) → (r ≡ Sctl → ⊥) → StoppedWithDrqTillLink p → StoppedWithDrqTillLink (port_after_write r v tape p)
 written_awaits Cmd v tape p command control h = absurd (command refl)
 written_awaits Sctl v tape p command control h = absurd (control refl)
 written_awaits _ v tape p command control h = h
 
 pub access_awaited : (port : Port) (access : Access) (old new : Device) → DoesNotWrite (Px port Cmd) access → DoesNotWrite (Px port Sctl) access → Does access old new →
-    ShowsDrqTillLink (old.port port.0) → ShowsDrqTillLink (new.port port.0)
+    StoppedWithDrqTillLink (old.port port.0) → StoppedWithDrqTillLink (new.port port.0)
 access_awaited port access old new command control x h =
     let s = access_steps access old new x in
-    effect_keeps ShowsDrqTillLink port (λ p r v y. y) (λ p y. y) access old new x
+    effect_keeps StoppedWithDrqTillLink port (λ p r v y. y) (λ p y. y) access old new x
     (λ r v mid is steps y. written_awaits r v (length mid.tape) (mid.port port.0) (spared port r Cmd access v command is) (spared port r Sctl access v control is) y)
     (steps_awaited port.0 old s.0 s.1 h)
 
@@ -60,11 +60,11 @@ same_written Sig v tape p command control = same_with p _ _ _ _ _ _ _ _ _ _ _ _ 
 same_written Ssts v tape p command control = same_with p _ _ _ _ _ _ _ _ _ _ _ _ _ _ _
 
 pub access_recorded : (port : Port) (access : Access) (old new : Device) → DoesNotWrite (Px port Cmd) access → DoesNotWrite (Px port Sctl) access → Does access old new →
-    FaultsOnRecord old.tape (old.port port.0) port.0 → FaultsOnRecord new.tape (new.port port.0) port.0
+    RecordsFaultsIfSt old.tape (old.port port.0) port.0 → RecordsFaultsIfSt new.tape (new.port port.0) port.0
 access_recorded port access old new command control x h =
     let s = access_steps access old new x in
-    subst (λ (t : List Entry). FaultsOnRecord t (new.port port.0) port.0) (sym s.2)
-    (effect_keeps (λ p. FaultsOnRecord s.0.tape p port.0) port
+    subst (λ (t : List Entry). RecordsFaultsIfSt t (new.port port.0) port.0) (sym s.2)
+    (effect_keeps (λ p. RecordsFaultsIfSt s.0.tape p port.0) port
     (λ p r v y. recorded_on s.0.tape p _ port.0 (record { st = refl; set_at = (note_times r v p).0; linked = refl; flag = λ f. f; halt = refl; tfd = refl; used = λ slot u. u }) y)
     (λ p y. recorded_on s.0.tape p _ port.0 (record { st = refl; set_at = refl; linked = refl; flag = λ f. f; halt = refl; tfd = refl; used = λ slot u. u }) y)
     access old new x

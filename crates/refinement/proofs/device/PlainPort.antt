@@ -12,7 +12,7 @@ use Rattle.adapter.specs.Commands.{Meaning, is_queued}
 use Rattle.adapter.specs.Device.{Halt, FetchedCommand, DevicePort, Device}
 use Rattle.adapter.specs.Device.Halt.{NotHalted, HaltedPlain, HaltedQueued, LogOnly}
 use Rattle.adapter.specs.Memory.{changed}
-use Rattle.adapter.specs.Steps.{DeviceTransition, Can, device_after, TransitionsLead, Steps, halted, halt_after_start, begun, MayFetch}
+use Rattle.adapter.specs.Steps.{DeviceTransition, Can, device_after, TransitionsLead, Steps, halt_after_fault, halt_after_start, newly_fetched, MayFetch}
 use Rattle.adapter.specs.Steps.DeviceTransition.{Fetch, FetchFault, Move, Clear, Done, Fault, Fatal, Fall, FrFall, LinkUp, Unplug, Plug, ResetEnds, Scribble}
 use Rattle.adapter.proofs.SaysLemmas.{says_meaning}
 use Rattle.block_machine.specs.Histories.{IsReachable}
@@ -20,12 +20,12 @@ use Rattle.block_machine.specs.Expected as left
 use Rattle.block_machine.specs.State.{Machine}
 use Rattle.refinement.specs.StepLaws.{StepLaws}
 use Rattle.refinement.specs.Relation.{StateRelation}
-use Rattle.refinement.specs.PortFacts.{RunsWell, TellsNoTrouble}
+use Rattle.refinement.specs.PortFacts.{RunsWell, PxisValueTellsNoTrouble}
 use Rattle.refinement.specs.Simulation.{SimulatesSteps}
-use Rattle.refinement.specs.Links.{DoesNotWrite}
-use Rattle.refinement.specs.MemoryLayout.{scratch_of}
-use Rattle.refinement.specs.Slots.{SlotState, Free, Armed, Own, Serves, SlotStates, IsInSomeStage, OwnAwaitsFetch, OwnIsTaken, OwnIsOver, RelatesSlot, op_of}
-use Rattle.refinement.specs.StartedPort.{IsUp}
+use Rattle.refinement.specs.PreservedParts.{DoesNotWrite}
+use Rattle.refinement.specs.MemoryLayout.{scratch_frame_address}
+use Rattle.refinement.specs.Slots.{SlotState, Free, Armed, Own, Serves, SlotStates, IsInSomeStage, OwnAwaitsFetch, OwnIsTaken, OwnIsOver, RelatesSlot, client_operation_of}
+use Rattle.refinement.specs.StartedPort.{IsUpForStart}
 use Rattle.refinement.proofs.relation.OneSlot.{changed_at}
 use Rattle.refinement.proofs.device.BootedPort.{well_is_found}
 use Rattle.refinement.proofs.device.FactsOverAccesses.{access_steps, effect_keeps}
@@ -41,10 +41,10 @@ abbrev Plain : DevicePort → Type 0
 Plain p = (halt_after_start p.halt ≡ NotHalted) × ((slot : ℕ) → p.sact slot ≡ false) × ((slot : ℕ) (t : FetchedCommand) → p.taken slot ≡ Some t → is_queued t.meaning.operation ≡ false)
 
 plain_of : (p : DevicePort) → WorksPlainly p → Plain p
-plain_of p h = (h.start_ends_halt, h.unarmed, h.plain)
+plain_of p h = (h.start_ends_halt, h.unarmed, h.taken_are_plain)
 
 works_plainly : (p : DevicePort) → Plain p → WorksPlainly p
-works_plainly p h = record { start_ends_halt = h.0; unarmed = h.1; plain = h.2 }
+works_plainly p h = record { start_ends_halt = h.0; unarmed = h.1; taken_are_plain = h.2 }
 
 -- ---- what a slot says
 
@@ -54,11 +54,11 @@ module _ (uses : SlotStates) (m : Machine) (d : Device) (a : StateRelation uses 
   fetched_plain can clear = by (uses port slot) (a.relates_slots port slot)
     where
       by : (u : SlotState) → RelatesSlot m d.memory d.tape (d.port port) port slot u → is_queued c.operation ≡ false
-      by Free h = absurd (both_ways _ h.issued can.fetchable.issued)
-      by Armed h = absurd (both_ways _ h.issued can.fetchable.issued)
+      by Free h = absurd (both_ways _ h.is_not_issued can.fetchable.issued)
+      by Armed h = absurd (both_ways _ h.is_not_issued can.fetchable.issued)
       by (Own o) h =
-          let same : c ≡ h.command = says_meaning d.memory (d.port port).bases.clb slot c h.command places (scratch_of port ∷ []) can.says h.slot_decodes_to.decodes_to in
-          own_plain c.operation (ap (λ (x : Meaning). op_of x.operation) same ∙ ap op_of h.operation_is ∙ h.own)
+          let same : c ≡ h.command = says_meaning d.memory (d.port port).bases.clb slot c h.command places (scratch_frame_address port ∷ []) can.says h.slot_decodes_to.decodes_to in
+          own_plain c.operation (ap (λ (x : Meaning). client_operation_of x.operation) same ∙ ap client_operation_of h.operation_is ∙ h.operation_is_drivers_own)
       by (Serves id) h = of h.stage
         where
           same : c ≡ h.command
@@ -67,8 +67,8 @@ module _ (uses : SlotStates) (m : Machine) (d : Device) (a : StateRelation uses 
           of : IsInSomeStage d.memory (d.port port) port slot h.pending h.command h.places → is_queued c.operation ≡ false
           of (inl w) = ap (λ (x : Meaning). is_queued x.operation) same ∙ (sym w.sact ∙ clear)
           of (inr (inl t)) = absurd (none-some _ (sym can.fetchable.free ∙ t.taken))
-          of (inr (inr (inl x))) = absurd (both_ways _ x.issued can.fetchable.issued)
-          of (inr (inr (inr x))) = absurd (both_ways _ x.issued can.fetchable.issued)
+          of (inr (inr (inl x))) = absurd (both_ways _ x.is_not_issued can.fetchable.issued)
+          of (inr (inr (inr x))) = absurd (both_ways _ x.is_not_issued can.fetchable.issued)
 
 -- and one that is taken has a plain command, while ST is 1
 taken_plain : (uses : SlotStates) (m : Machine) (d : Device) (port slot : ℕ) (t : FetchedCommand) → StateRelation uses m d → (d.port port).st ≡ true → (d.port port).sact slot ≡ false → (d.port port).taken slot ≡ Some t → is_queued t.meaning.operation ≡ false
@@ -78,28 +78,28 @@ taken_plain uses m d port slot t a st clear is = by (uses port slot) (a.relates_
     here c w e f = ap (λ (x : FetchedCommand). x.meaning) (same_Some _ _ (sym is ∙ e)) ∙ f
 
     by : (u : SlotState) → RelatesSlot m d.memory d.tape (d.port port) port slot u → is_queued t.meaning.operation ≡ false
-    by Free h = absurd (none-some _ (sym h.free ∙ is))
-    by Armed h = absurd (none-some _ (sym h.free ∙ is))
+    by Free h = absurd (none-some _ (sym h.is_not_taken ∙ is))
+    by Armed h = absurd (none-some _ (sym h.is_not_taken ∙ is))
     by (Own o) h = of h.stage
       where
         of : OwnAwaitsFetch (d.port port) slot ⊎ (OwnIsTaken d.memory d.tape (d.port port) port slot h.command ⊎ OwnIsOver d.memory d.tape (d.port port) port slot h.command) → is_queued t.meaning.operation ≡ false
-        of (inl w) = absurd (none-some _ (sym w.free ∙ is))
-        of (inr (inl x)) = own_plain t.meaning.operation (ap (λ (w : Meaning). op_of w.operation) (here x.command h.command x.taken x.meaning) ∙ ap op_of h.operation_is ∙ h.own)
-        of (inr (inr x)) = absurd (none-some _ (sym x.over.free ∙ is))
+        of (inl w) = absurd (none-some _ (sym w.is_not_taken ∙ is))
+        of (inr (inl x)) = own_plain t.meaning.operation (ap (λ (w : Meaning). client_operation_of w.operation) (here x.command h.command x.taken x.meaning) ∙ ap client_operation_of h.operation_is ∙ h.operation_is_drivers_own)
+        of (inr (inr x)) = absurd (none-some _ (sym x.over.is_not_taken ∙ is))
     by (Serves id) h = of h.stage
       where
         of : IsInSomeStage d.memory (d.port port) port slot h.pending h.command h.places → is_queued t.meaning.operation ≡ false
-        of (inl w) = absurd (none-some _ (sym w.free ∙ is))
+        of (inl w) = absurd (none-some _ (sym w.is_not_taken ∙ is))
         of (inr (inl x)) =
             ap (λ (w : Meaning). is_queued w.operation) (here x.command h.command x.taken x.meaning)
             ∙ (ap (λ (b : Bool). b && is_queued h.command.operation) (sym st) ∙ (sym x.sact ∙ clear))
-        of (inr (inr (inl x))) = absurd (none-some _ (sym x.free ∙ is))
-        of (inr (inr (inr x))) = absurd (none-some _ (sym x.free ∙ is))
+        of (inr (inr (inl x))) = absurd (none-some _ (sym x.is_not_taken ∙ is))
+        of (inr (inr (inr x))) = absurd (none-some _ (sym x.is_not_taken ∙ is))
 
 -- ---- a step
 
 -- a plain fault is ended by a start, where the halt before it was
-halted_plain : (h : Halt) → halt_after_start h ≡ NotHalted → halt_after_start (halted h false) ≡ NotHalted
+halted_plain : (h : Halt) → halt_after_start h ≡ NotHalted → halt_after_start (halt_after_fault h false) ≡ NotHalted
 halted_plain NotHalted e = refl
 halted_plain HaltedPlain e = refl
 halted_plain HaltedQueued e = absurd (let z : LogOnly ≡ NotHalted = e in cc)
@@ -126,8 +126,8 @@ module _ (uses : SlotStates) (m : Machine) (d : Device) (a : StateRelation uses 
       (λ e x. (
         x.0,
         x.1,
-        taken_on (d.port p) slot (Some (begun c places))
-            (same_plain (begun c places) (begun c places) refl (fetched_plain uses m d a p slot c places can (x.1 slot))) x.2,
+        taken_on (d.port p) slot (Some (newly_fetched c places))
+            (same_plain (newly_fetched c places) (newly_fetched c places) refl (fetched_plain uses m d a p slot c places can (x.1 slot))) x.2,
       ))
       (λ ne x. x)
   step_plain (FetchFault p slot queued kept_bits) can = never_refused uses m d a p slot kept_bits can
@@ -139,7 +139,7 @@ module _ (uses : SlotStates) (m : Machine) (d : Device) (a : StateRelation uses 
       (λ e x. (refl, fallen_on (is_queued t.meaning.operation) (d.port p) slot x.1, taken_on (d.port p) slot None (λ z none. absurd (none-some _ none)) x.2)) (λ ne x. x)
   step_plain (Fault p slot error kept_bits t) can = at_port Plain Plain d p port _ h
       (λ e x. (
-        ap (λ (b : Bool). halt_after_start (halted (d.port p).halt b)) (x.2 slot t can.taken) ∙ halted_plain (d.port p).halt x.0,
+        ap (λ (b : Bool). halt_after_start (halt_after_fault (d.port p).halt b)) (x.2 slot t can.taken) ∙ halted_plain (d.port p).halt x.0,
         x.1,
         x.2,
       ))
@@ -157,7 +157,7 @@ leads_plain : StepLaws → (uses : SlotStates) (m : Machine) (port : ℕ) (steps
 leads_plain laws uses m port [] old new r a e h = subst (λ (d : Device). Plain (d.port port)) (sym e) h
 leads_plain laws uses m port (step ∷ steps) old new r a (can, lead) h =
     let f : SimulatesSteps uses m old (device_after step old) = step_follows uses m old step r a can in
-    leads_plain laws uses (left.after m f.steps) port steps (device_after step old) new (laws.reached m f.steps r f.may) f.agrees lead (step_plain uses m old a port h step can)
+    leads_plain laws uses (left.after m f.steps) port steps (device_after step old) new (laws.reachable_goes_on m f.steps r f.steps_are_enabled) f.state_relation lead (step_plain uses m old a port h step can)
 
 pub steps_plain : StepLaws → (uses : SlotStates) (m : Machine) (port : ℕ) (old new : Device) → IsReachable m → StateRelation uses m old → Steps old new → WorksPlainly (old.port port) → WorksPlainly (new.port port)
 steps_plain laws uses m port old new r a s h = works_plainly (new.port port) (leads_plain laws uses m port s.steps old new r a s.lead (plain_of (old.port port) h))
@@ -189,12 +189,12 @@ access_plain laws uses m port access old new r a spares x h =
 -- ---- where it begins, and what it gives
 
 pub running_plainly : (uses : SlotStates) (m : Machine) (port : ℕ) (d : Device) → StateRelation uses m d → (d.port port).st ≡ true → (d.port port).halt ≡ NotHalted → ((slot : ℕ) → (d.port port).sact slot ≡ false) → WorksPlainly (d.port port)
-running_plainly uses m port d a st runs clear = record { start_ends_halt = ap halt_after_start runs; unarmed = clear; plain = λ slot t is. taken_plain uses m d port slot t a st (clear slot) is }
+running_plainly uses m port d a st runs clear = record { start_ends_halt = ap halt_after_start runs; unarmed = clear; taken_are_plain = λ slot t is. taken_plain uses m d port slot t a st (clear slot) is }
 
-pub plainly_up : (p : DevicePort) → IsLinked p → WorksPlainly p → IsUp p
-plainly_up p l w = record { det = l.det; present = l.present; fresh = l.fresh; no_link_is_due = l.no_link_is_due; comreset_is_over = l.comreset_is_over; start_ends_halt = w.start_ends_halt }
+pub plainly_up : (p : DevicePort) → IsLinked p → WorksPlainly p → IsUpForStart p
+plainly_up p l w = record { det_is_3 = l.det_is_3; present = l.present; fresh = l.fresh; no_link_is_due = l.no_link_is_due; comreset_is_over = l.comreset_is_over; start_ends_halt = w.start_ends_halt }
 
 pub plainly_well : StepLaws → (port : Port) (v causes : ℕ) (old mid new : Device) → old.hr ≡ false → (old.port port.0).st ≡ false → (old.port port.0).cr ≡ false → bit v 0 ≡ true → IsLinked (old.port port.0) → WorksPlainly (old.port port.0) →
-    Writes (Px port Cmd) v old mid → Reads (Px port Is) causes mid new → TellsNoTrouble causes → RunsWell (new.port port.0)
+    Writes (Px port Cmd) v old mid → Reads (Px port Is) causes mid new → PxisValueTellsNoTrouble causes → RunsWell (new.port port.0)
 plainly_well laws port v causes old mid new off stopped stands on l w start call calm =
     (well_is_found laws) port v causes old mid new off stopped stands on (plainly_up (old.port port.0) l w) start call calm

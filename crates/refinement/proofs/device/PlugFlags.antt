@@ -8,17 +8,17 @@ use Rattle.hba_regs.specs.Bits.{bit}
 use Rattle.hba_regs.specs.declared.reg.Reg.TheVariants.{Px}
 use Rattle.hba_regs.specs.declared.reg.PortReg.{PortReg}
 use Rattle.hba_regs.specs.declared.reg.PortReg.TheVariants.{Cmd, Serr}
-use Rattle.adapter.specs.Access.{Access, Does, Reads, note, port_after_write}
+use Rattle.adapter.specs.Access.{Access, Does, Reads, notes_after_reading, port_after_write}
 use Rattle.adapter.specs.Access.Access.{Reading}
 use Rattle.adapter.specs.Device.{DevicePort, Device}
-use Rattle.adapter.specs.KeptBySteps.{Keeps}
+use Rattle.adapter.specs.KeptBySteps.{KeepsOverSteps}
 use Rattle.adapter.specs.Memory.{changed}
 use Rattle.adapter.specs.Steps.{DeviceTransition, Can, device_after, TransitionsLead, Steps}
 use Rattle.adapter.specs.Steps.DeviceTransition.{Fetch, FetchFault, Move, Clear, Done, Fault, Fatal, Fall, FrFall, LinkUp, Unplug, Plug, ResetEnds, Scribble}
 use Rattle.adapter.specs.declared.tape.Entry.{Entry}
 use Rattle.adapter.proofs.Changed.{changed_same}
 use Rattle.refinement.specs.StepLaws.{StepLaws}
-use Rattle.refinement.specs.Links.{DoesNotWrite, IsPlugEvent, NoPlugEvents}
+use Rattle.refinement.specs.PreservedParts.{DoesNotWrite, IsPlugEvent, NoPlugEvents}
 use Rattle.refinement.proofs.device.FactsOverAccesses.{access_steps, effect_keeps}
 use Rattle.refinement.proofs.device.ErrorBits.{command_beside}
 use Rattle.refinement.proofs.device.TapeGains.{NoneOf, gained_parts}
@@ -74,12 +74,12 @@ leads_untold : StepLaws → (port : ℕ) (steps : List DeviceTransition) (old ne
 leads_untold laws port [] old new off e untold gained is =
     subst (NoneOf (IsPlugEvent port)) (append_cancel_left old.tape [] gained (append-nil old.tape ∙ ap (λ (d : Device). d.tape) (sym e) ∙ is)) (All-nil (λ e. IsPlugEvent port e → ⊥))
 leads_untold laws port (step ∷ steps) old new off (can, lead) untold gained is =
-    let k : Keeps old (device_after step old) = laws.step step _ can in
-    let l : Keeps (device_after step old) new = laws.keeps _ _ (record { steps = steps; lead = lead }) in
+    let k : KeepsOverSteps old (device_after step old) = laws.one_step_keeps step _ can in
+    let l : KeepsOverSteps (device_after step old) new = laws.steps_keep _ _ (record { steps = steps; lead = lead }) in
     let off' : (device_after step old).hr ≡ false = (k.keeps_outside_reset off).no_reset in
     subst (NoneOf (IsPlugEvent port)) (sym (gained_parts old.tape (device_after step old).tape new.tape k.new_entries l.new_entries gained k.tape_grows l.tape_grows is))
     (All-append (λ e. IsPlugEvent port e → ⊥) k.new_entries l.new_entries
-    (plugs port ((device_after step old).port port).serr_n k.new_entries (step_raises port old step can k.new_entries k.tape_grows) (λ x. untold (((l.keeps_outside_reset off').controls port).serr_n x)))
+    (plugs port ((device_after step old).port port).serr_n k.new_entries (step_raises port old step can k.new_entries k.tape_grows) (λ x. untold (((l.keeps_outside_reset off').controls_are_kept port).serr_n_stays_set x)))
     (leads_untold laws port steps (device_after step old) new off' lead untold l.new_entries l.tape_grows))
   where
     plugs : (port : ℕ) (noted : Bool) (gained : List Entry) → Raises port noted gained → (noted ≡ true → ⊥) → NoneOf (IsPlugEvent port) gained
@@ -88,8 +88,8 @@ leads_untold laws port (step ∷ steps) old new off (can, lead) untold gained is
 
 pub noted_plugs : StepLaws → (port : ℕ) (old new : Device) → old.hr ≡ false → Steps old new → (new.port port).serr_n ≡ false → ((old.port port).serr_n ≡ false) × NoPlugEvents port old new
 noted_plugs laws port old new off s clear =
-    let k : Keeps old new = laws.keeps _ _ s in (
-      was_false (old.port port).serr_n (new.port port).serr_n ((k.keeps_outside_reset off).controls port).serr_n clear,
+    let k : KeepsOverSteps old new = laws.steps_keep _ _ s in (
+      was_false (old.port port).serr_n (new.port port).serr_n ((k.keeps_outside_reset off).controls_are_kept port).serr_n_stays_set clear,
       record { new_entries = k.new_entries; tape_is = k.tape_grows; no_such_entry = leads_untold laws port s.steps old new off s.lead (λ n. absurd (both_ways _ clear n)) k.new_entries k.tape_grows },
     )
 
@@ -124,7 +124,7 @@ access_plugs laws port access old new off spares x clear =
 pub read_plugs : StepLaws → (port : Port) (v : ℕ) (old new : Device) → old.hr ≡ false → Reads (Px port Serr) v old new → bit v 16 ≡ false →
     ((new.port port.0).serr_n ≡ false) × ((old.port port.0).serr_n ≡ false) × NoPlugEvents port.0 old new
 read_plugs laws port v old new off x clear =
-    let is : new.port port.0 ≡ record (x.mid.port port.0) { notes = note Serr v (x.mid.port port.0) } = ap (λ (d : Device). d.port port.0) x.effect ∙ changed_same x.mid.port port.0 _ in
+    let is : new.port port.0 ≡ record (x.at_access.port port.0) { notes = notes_after_reading Serr v (x.at_access.port port.0) } = ap (λ (d : Device). d.port port.0) x.effect ∙ changed_same x.at_access.port port.0 _ in
     let n : (new.port port.0).serr_n ≡ false = ap (λ (p : DevicePort). p.serr_n) is ∙ sym x.shows.0 ∙ clear in
     let found = access_plugs laws port (Reading (Px port Serr) v) old new off tt x n in
     (n, found.0, found.1)

@@ -7,7 +7,7 @@ use Rattle.hba_regs.specs.declared.reg.PortReg.{PortReg}
 use Rattle.hba_regs.specs.declared.reg.PortReg.TheVariants.{Is, Cmd}
 use Rattle.adapter.specs.Access.{Access, Does, port_after_write}
 use Rattle.adapter.specs.Device.{DevicePort, Device}
-use Rattle.adapter.specs.KeptBySteps.{Keeps}
+use Rattle.adapter.specs.KeptBySteps.{KeepsOverSteps}
 use Rattle.adapter.specs.Steps.{DeviceTransition, Can, device_after, TransitionsLead, Steps}
 use Rattle.adapter.specs.Steps.DeviceTransition.{Fetch, FetchFault, Move, Clear, Done, Fault, Fatal, Fall, FrFall, LinkUp, Unplug, Plug, ResetEnds, Scribble}
 use Rattle.adapter.specs.declared.tape.Fault as tape_fault
@@ -16,7 +16,7 @@ use Rattle.adapter.specs.declared.tape.Entry.TheVariants as entry
 use Rattle.adapter.proofs.Changed.{changed_other}
 use Rattle.refinement.specs.StepLaws.{StepLaws}
 use Rattle.refinement.specs.Relation.{port_at}
-use Rattle.refinement.specs.Errors.{IsFatalOf, ChangesByErrors}
+use Rattle.refinement.specs.Errors.{IsFatalErrorOf, ErrorBitsRiseByErrors}
 use Rattle.refinement.specs.PortFacts.{IsFaultOf}
 use Rattle.refinement.proofs.device.FactsOverAccesses.{access_steps, effect_keeps}
 use Rattle.refinement.proofs.device.ErrorBits.{command_beside}
@@ -76,8 +76,8 @@ module _ (laws : StepLaws) (IsKind : Entry → Type 0) (port place : ℕ) (high 
   leads_unset : (steps : List DeviceTransition) (old new : Device) → TransitionsLead steps old new → GainsNone IsKind old new → Unset (old.port port) → Unset (new.port port)
   leads_unset [] old new e none h = subst (λ (d : Device). Unset (d.port port)) (sym e) h
   leads_unset (step ∷ steps) old new (can, lead) none h =
-      let k : Keeps old (device_after step old) = laws.step step _ can in
-      let l : Keeps (device_after step old) new = laws.keeps _ _ (record { steps = steps; lead = lead }) in
+      let k : KeepsOverSteps old (device_after step old) = laws.one_step_keeps step _ can in
+      let l : KeepsOverSteps (device_after step old) new = laws.steps_keep _ _ (record { steps = steps; lead = lead }) in
       let parts = gains_parts IsKind old (device_after step old) new k.new_entries l.new_entries k.tape_grows l.tape_grows none in
       leads_unset steps (device_after step old) new lead parts.1 (step_unset old parts.0.0 parts.0.2 step can parts.0.1 h)
 
@@ -105,16 +105,16 @@ no_fatal : (place : ℕ) → place ≡ 30 → (place ≡ 27) ⊎ (place ≡ 29) 
 no_fatal place e (inl z) = omega (arith, e, z)
 no_fatal place e (inr z) = omega (arith, e, z)
 
-pub steps_raise : StepLaws → (port : ℕ) (old new : Device) → Steps old new → ChangesByErrors port old new
+pub steps_raise : StepLaws → (port : ℕ) (old new : Device) → Steps old new → ErrorBitsRiseByErrors port old new
 steps_raise laws port old new s = record {
   fatal = λ none place low up h.
-      (steps_unset laws) (IsFatalOf port) port place low (λ f e z. no_fault place up z) (λ at e z. e) old new s (fatal_gains port old new none) h;
+      (steps_unset laws) (IsFatalErrorOf port) port place low (λ f e z. no_fault place up z) (λ at e z. e) old new s (fatal_gains port old new none) h;
   fault = λ none h. steps_unset laws (IsFaultOf port) port 30 (omega arith) (λ f e z. e) (λ at e z. no_fatal 30 refl z) old new s (fails_gains port old new none) h;
 }
 
-pub access_raises : StepLaws → (port : Port) (access : Access) (old new : Device) → Does access old new → ChangesByErrors port.0 old new
+pub access_raises : StepLaws → (port : Port) (access : Access) (old new : Device) → Does access old new → ErrorBitsRiseByErrors port.0 old new
 access_raises laws port access old new x = record {
   fatal = λ none place low up h.
-      (access_unset laws) (IsFatalOf port.0) port.0 place low (λ f e z. no_fault place up z) (λ at e z. e) access old new x (fatal_gains port.0 old new none) h;
+      (access_unset laws) (IsFatalErrorOf port.0) port.0 place low (λ f e z. no_fault place up z) (λ at e z. e) access old new x (fatal_gains port.0 old new none) h;
   fault = λ none h. access_unset laws (IsFaultOf port.0) port.0 30 (omega arith) (λ f e z. e) (λ at e z. no_fatal 30 refl z) access old new x (fails_gains port.0 old new none) h;
 }

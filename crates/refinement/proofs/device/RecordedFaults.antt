@@ -5,17 +5,17 @@ use Rattle.std.proofs.lemmas.Nat.{and_le_r}
 use Rattle.std.proofs.lemmas.List.{drop-append-le, length-append}
 use Rattle.std.proofs.lemmas.List.Elements.{All-nil, All-push}
 use Rattle.std.proofs.lemmas.Bool.{both_ways, false≢true}
-use Rattle.adapter.specs.Device.{Bases, Disk, Lasting, Halt, DevicePort, Device}
+use Rattle.adapter.specs.Device.{Bases, Disk, DurableState, Halt, DevicePort, Device}
 use Rattle.adapter.specs.Device.Halt.{NotHalted, HaltedPlain, HaltedQueued, LogOnly}
 use Rattle.adapter.specs.Memory.{changed}
 use Rattle.adapter.specs.Rules.{InUse}
-use Rattle.adapter.specs.Steps.{DeviceTransition, Can, device_after, TransitionsLead, Steps, AreBsyDrqBits, admits, halted, halt_after_start, fault_entry}
+use Rattle.adapter.specs.Steps.{DeviceTransition, Can, device_after, TransitionsLead, Steps, AreBsyDrqBits, admits, halt_after_fault, halt_after_start, fault_entry}
 use Rattle.adapter.specs.Steps.DeviceTransition.{Fetch, FetchFault, Move, Clear, Done, Fault, Fatal, Fall, FrFall, LinkUp, Unplug, Plug, ResetEnds, Scribble}
 use Rattle.adapter.specs.declared.command.Operation.{Operation}
 use Rattle.adapter.specs.declared.tape.Entry.{Entry}
 use Rattle.adapter.specs.declared.tape.Entry.TheVariants as entry
 use Rattle.adapter.proofs.Changed.{changed_other}
-use Rattle.refinement.specs.PortFacts.{IsFaulted, IsFaultOf, ShowsFault, RecordsFaults, FaultsOnRecord}
+use Rattle.refinement.specs.PortFacts.{IsFaulted, IsFaultOf, ShowsFault, RecordsFaults, RecordsFaultsIfSt}
 use Rattle.refinement.proofs.device.HealthyPort.{at_port}
 
 -- ---- halts
@@ -37,7 +37,7 @@ restarted_faulted HaltedQueued (inr e) = absurd cc
 restarted_faulted LogOnly (inl e) = absurd cc
 restarted_faulted LogOnly (inr e) = absurd cc
 
-pub fault_halts : (h : Halt) (queued : Bool) → IsFaulted (halted h queued)
+pub fault_halts : (h : Halt) (queued : Bool) → IsFaulted (halt_after_fault h queued)
 fault_halts HaltedQueued queued = inr refl
 fault_halts LogOnly queued = inr refl
 fault_halts NotHalted true = inr refl
@@ -58,7 +58,7 @@ pub record SameRecord (p new : DevicePort) : Type 0 where
   pub used : (slot : ℕ) → InUse p slot → InUse new slot
 
 -- where the command list and the received FIS area are, which disk is in, PxIE, and the bits of IS, SACT, SSTS and SERR, don't matter to it
-pub same_with : (p : DevicePort) (bases : Bases) (fre fr : Bool) (ie ssts_det : ℕ) (serr_n serr_x ips other_causes : Bool) (sact : ℕ → Bool) (disk : Disk) (plugged : List Disk) (lasting : Lasting) (present fresh : Bool) →
+pub same_with : (p : DevicePort) (bases : Bases) (fre fr : Bool) (ie ssts_det : ℕ) (serr_n serr_x ips other_causes : Bool) (sact : ℕ → Bool) (disk : Disk) (plugged : List Disk) (lasting : DurableState) (present fresh : Bool) →
     SameRecord p (record p {
       bases = bases;
       fre = fre;
@@ -67,11 +67,11 @@ pub same_with : (p : DevicePort) (bases : Bases) (fre fr : Bool) (ie ssts_det : 
       ssts_det = ssts_det;
       serr_n = serr_n;
       serr_x = serr_x;
-      ips = ips;
+      ips_latched = ips;
       other_causes = other_causes;
       sact = sact;
       disk = disk;
-      plugged = plugged;
+      plug_history = plugged;
       lasting = lasting;
       present = present;
       fresh = fresh;
@@ -92,7 +92,7 @@ shows_on entries p new port same s = record {
   slot_is_in_use = same.used s.fault.slot.0 s.slot_is_in_use;
 }
 
-pub recorded_on : (tape : List Entry) (p new : DevicePort) (port : ℕ) → SameRecord p new → FaultsOnRecord tape p port → FaultsOnRecord tape new port
+pub recorded_on : (tape : List Entry) (p new : DevicePort) (port : ℕ) → SameRecord p new → RecordsFaultsIfSt tape p port → RecordsFaultsIfSt tape new port
 recorded_on tape p new port same h st =
     let x : RecordsFaults tape p port = h (sym same.st ∙ st) in
     record {
@@ -120,7 +120,7 @@ shows_more entries e p port none s = record {
 longer : (tape : List Entry) (e : Entry) (n : ℕ) → n ≤ length tape → n ≤ length (tape ++ e ∷ [])
 longer tape e n le = let l = length-append tape (e ∷ []) in omega (arith, le, l)
 
-recorded_more : (tape : List Entry) (e : Entry) (p : DevicePort) (port : ℕ) → (IsFaultOf port e → ⊥) → FaultsOnRecord tape p port → FaultsOnRecord (tape ++ e ∷ []) p port
+recorded_more : (tape : List Entry) (e : Entry) (p : DevicePort) (port : ℕ) → (IsFaultOf port e → ⊥) → RecordsFaultsIfSt tape p port → RecordsFaultsIfSt (tape ++ e ∷ []) p port
 recorded_more tape e p port none h st =
     let x : RecordsFaults tape p port = h st in
     record {
@@ -140,7 +140,7 @@ record Worked (o : Operation) (p new : DevicePort) : Type 0 where
   pub flag : new.is 30 ≡ true → p.is 30 ≡ true
   pub halt : IsFaulted new.halt → IsFaulted p.halt
 
-recorded_worked : (tape later : List Entry) (o : Operation) (p new : DevicePort) (port : ℕ) → length tape ≤ length later → Worked o p new → FaultsOnRecord tape p port → FaultsOnRecord later new port
+recorded_worked : (tape later : List Entry) (o : Operation) (p new : DevicePort) (port : ℕ) → length tape ≤ length later → Worked o p new → RecordsFaultsIfSt tape p port → RecordsFaultsIfSt later new port
 recorded_worked tape later o p new port more w h st =
     let x : RecordsFaults tape p port = h (sym w.st ∙ st) in
     record {
@@ -156,8 +156,8 @@ status_fits kept_bits kept = let l = and_le_r kept_bits 0x88 in let k : bit_and 
 
 -- a fault
 recorded_fault : (tape : List Entry) (p new : DevicePort) (port q slot error kept_bits : ℕ) (queued : Bool) → q ≡ port → new.st ≡ p.st → new.notes.st_set_at ≡ p.notes.st_set_at → new.link_due ≡ p.link_due →
-    new.halt ≡ halted p.halt queued → new.tfd ≡ 0x41 + kept_bits + 256 * error → (0x41 + kept_bits < 256) × (error < 256) → InUse new slot →
-    FaultsOnRecord tape p port → FaultsOnRecord (tape ++ fault_entry q slot error kept_bits ∷ []) new port
+    new.halt ≡ halt_after_fault p.halt queued → new.tfd ≡ 0x41 + kept_bits + 256 * error → (0x41 + kept_bits < 256) × (error < 256) → InUse new slot →
+    RecordsFaultsIfSt tape p port → RecordsFaultsIfSt (tape ++ fault_entry q slot error kept_bits ∷ []) new port
 recorded_fault tape p new port q slot error kept_bits queued here st set_at linked halt tfd fits used h on =
     let x : RecordsFaults tape p port = h (sym st ∙ on) in
     let n : ℕ = p.notes.st_set_at in
@@ -179,7 +179,7 @@ recorded_fault tape p new port q slot error kept_bits queued here st set_at link
     }
 
 -- a port whose ST is 0 has nothing to record
-pub stopped_recorded : (tape : List Entry) (p : DevicePort) (port : ℕ) → p.st ≡ false → FaultsOnRecord tape p port
+pub stopped_recorded : (tape : List Entry) (p : DevicePort) (port : ℕ) → p.st ≡ false → RecordsFaultsIfSt tape p port
 stopped_recorded tape p port off on = absurd (both_ways _ off on)
 
 -- ---- a step
@@ -200,19 +200,19 @@ fatal_flag place (inr z) e = omega (arith, z, e)
 one_longer : (tape : List Entry) (e : Entry) → length tape ≤ length (tape ++ e ∷ [])
 one_longer tape e = longer tape e (length tape) (le_refl (length tape))
 
-module _ (port : ℕ) (d : Device) (h : FaultsOnRecord d.tape (d.port port) port) where
+module _ (port : ℕ) (d : Device) (h : RecordsFaultsIfSt d.tape (d.port port) port) where
   -- a step of a port with an entry
-  entered : (p : ℕ) (new : DevicePort) (e : Entry) → (IsFaultOf port e → p ≡ port) → (p ≡ port → FaultsOnRecord d.tape (d.port p) port → FaultsOnRecord (d.tape ++ e ∷ []) new port) →
-      FaultsOnRecord (d.tape ++ e ∷ []) (changed d.port p new port) port
+  entered : (p : ℕ) (new : DevicePort) (e : Entry) → (IsFaultOf port e → p ≡ port) → (p ≡ port → RecordsFaultsIfSt d.tape (d.port p) port → RecordsFaultsIfSt (d.tape ++ e ∷ []) new port) →
+      RecordsFaultsIfSt (d.tape ++ e ∷ []) (changed d.port p new port) port
   entered p new e own here =
-      at_port (λ x. FaultsOnRecord d.tape x port) (λ x. FaultsOnRecord (d.tape ++ e ∷ []) x port) d p port new h here
+      at_port (λ x. RecordsFaultsIfSt d.tape x port) (λ x. RecordsFaultsIfSt (d.tape ++ e ∷ []) x port) d p port new h here
       (λ ne x. recorded_more d.tape e (d.port port) port (λ f. ne (sym (own f))) x)
 
   -- and one without
-  silent : (p : ℕ) (new : DevicePort) → (p ≡ port → FaultsOnRecord d.tape (d.port p) port → FaultsOnRecord d.tape new port) → FaultsOnRecord d.tape (changed d.port p new port) port
-  silent p new here = at_port (λ x. FaultsOnRecord d.tape x port) (λ x. FaultsOnRecord d.tape x port) d p port new h here (λ ne x. x)
+  silent : (p : ℕ) (new : DevicePort) → (p ≡ port → RecordsFaultsIfSt d.tape (d.port p) port → RecordsFaultsIfSt d.tape new port) → RecordsFaultsIfSt d.tape (changed d.port p new port) port
+  silent p new here = at_port (λ x. RecordsFaultsIfSt d.tape x port) (λ x. RecordsFaultsIfSt d.tape x port) d p port new h here (λ ne x. x)
 
-  step_recorded : (step : DeviceTransition) → Can step d → FaultsOnRecord (device_after step d).tape ((device_after step d).port port) port
+  step_recorded : (step : DeviceTransition) → Can step d → RecordsFaultsIfSt (device_after step d).tape ((device_after step d).port port) port
   step_recorded (Fetch p slot c places) can = silent p _
       (λ e x. recorded_worked d.tape d.tape c.operation (d.port p) _ port (le_refl (length d.tape))
       (record { admitted = can.working.admitted; st = refl; set_at = refl; linked = refl; flag = λ f. f; halt = λ f. f }) x)
@@ -245,9 +245,9 @@ module _ (port : ℕ) (d : Device) (h : FaultsOnRecord d.tape (d.port port) port
   step_recorded ResetEnds can = stopped_recorded d.tape _ port refl
   step_recorded (Scribble p slot at bytes) can = h
 
-leads_recorded : (port : ℕ) (steps : List DeviceTransition) (old new : Device) → TransitionsLead steps old new → FaultsOnRecord old.tape (old.port port) port → FaultsOnRecord new.tape (new.port port) port
-leads_recorded port [] old new e h = subst (λ (d : Device). FaultsOnRecord d.tape (d.port port) port) (sym e) h
+leads_recorded : (port : ℕ) (steps : List DeviceTransition) (old new : Device) → TransitionsLead steps old new → RecordsFaultsIfSt old.tape (old.port port) port → RecordsFaultsIfSt new.tape (new.port port) port
+leads_recorded port [] old new e h = subst (λ (d : Device). RecordsFaultsIfSt d.tape (d.port port) port) (sym e) h
 leads_recorded port (step ∷ steps) old new (can, lead) h = leads_recorded port steps (device_after step old) new lead (step_recorded port old h step can)
 
-pub steps_recorded : (port : ℕ) (old new : Device) → Steps old new → FaultsOnRecord old.tape (old.port port) port → FaultsOnRecord new.tape (new.port port) port
+pub steps_recorded : (port : ℕ) (old new : Device) → Steps old new → RecordsFaultsIfSt old.tape (old.port port) port → RecordsFaultsIfSt new.tape (new.port port) port
 steps_recorded port old new s h = leads_recorded port s.steps old new s.lead h

@@ -14,8 +14,8 @@ use Rattle.adapter.specs.Steps.DeviceTransition.{Fetch, FetchFault, Move, Clear,
 use Rattle.adapter.specs.declared.tape.Entry.{Entry}
 use Rattle.refinement.specs.StepLaws.{StepLaws}
 use Rattle.refinement.specs.PortFacts.{IsDisturbance, Undisturbed}
-use Rattle.refinement.specs.Links.{DoesNotWrite}
-use Rattle.refinement.specs.StartedPort.{IsUp, IsStarted}
+use Rattle.refinement.specs.PreservedParts.{DoesNotWrite}
+use Rattle.refinement.specs.StartedPort.{IsUpForStart, IsStarted}
 use Rattle.refinement.proofs.device.RisingLink.{Up, up_of, is_up}
 use Rattle.refinement.proofs.device.FactsOverAccesses.{access_steps, effect_keeps}
 use Rattle.refinement.proofs.device.TapeGains.{NoneOf, gained_none}
@@ -24,8 +24,8 @@ use Rattle.refinement.proofs.device.PortControls.{spared}
 use Rattle.refinement.proofs.device.RunningPort.{leads_calmly, calm_before}
 
 -- a port that was started has its link up
-pub started_up : (p : DevicePort) → IsStarted p → p.sctl_det ≢ 1 → IsUp p
-started_up p h released = record { det = h.det; present = h.present; fresh = h.fresh; no_link_is_due = h.no_link_is_due; comreset_is_over = released; start_ends_halt = ap halt_after_start h.is_not_halted }
+pub started_up : (p : DevicePort) → IsStarted p → p.sctl_det ≢ 1 → IsUpForStart p
+started_up p h released = record { det_is_3 = h.det_is_3; present = h.present; fresh = h.fresh; no_link_is_due = h.no_link_is_due; comreset_is_over = released; start_ends_halt = ap halt_after_start h.is_not_halted }
 
 -- ---- steps
 
@@ -53,10 +53,10 @@ module _ (port : ℕ) (d : Device) (gained : List Entry) (calm : NoneOf (IsDistu
 on_up : StepLaws → (port : ℕ) (old new : Device) → old.hr ≡ false → Undisturbed port old new → Steps old new → Up (old.port port) → Up (new.port port)
 on_up laws port old new off u s h =
     (leads_calmly laws port (λ d. (d.hr ≡ false) × Up (d.port port))
-    (λ d gained calm step can is x. (((laws.step step _ can).keeps_outside_reset x.0).no_reset, step_up port d gained calm step x.0 can is x.1))
+    (λ d gained calm step can is x. (((laws.one_step_keeps step _ can).keeps_outside_reset x.0).no_reset, step_up port d gained calm step x.0 can is x.1))
     s.steps old new s.lead u (off, h)).1
 
-pub steps_stay_up : StepLaws → (port : ℕ) (old new : Device) → old.hr ≡ false → Undisturbed port old new → Steps old new → IsUp (old.port port) → IsUp (new.port port)
+pub steps_stay_up : StepLaws → (port : ℕ) (old new : Device) → old.hr ≡ false → Undisturbed port old new → Steps old new → IsUpForStart (old.port port) → IsUpForStart (new.port port)
 steps_stay_up laws port old new off u s h = is_up (new.port port) (on_up laws port old new off u s (up_of (old.port port) h))
 
 -- ---- accesses
@@ -78,7 +78,7 @@ written_up Cmd v tape p other h = command_up v tape p h
 written_up Sctl v tape p other h = absurd (other refl)
 written_up _ v tape p other h = h
 
-pub access_stays_up : StepLaws → (port : Port) (access : Access) (old new : Device) → old.hr ≡ false → DoesNotWrite (Px port Sctl) access → Undisturbed port.0 old new → Does access old new → IsUp (old.port port.0) → IsUp (new.port port.0)
+pub access_stays_up : StepLaws → (port : Port) (access : Access) (old new : Device) → old.hr ≡ false → DoesNotWrite (Px port Sctl) access → Undisturbed port.0 old new → Does access old new → IsUpForStart (old.port port.0) → IsUpForStart (new.port port.0)
 access_stays_up laws port access old new off spares u x h =
     let s = access_steps access old new x in
     is_up (new.port port.0)

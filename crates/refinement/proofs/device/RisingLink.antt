@@ -11,15 +11,15 @@ use Rattle.adapter.specs.Access.{Access, Does, Reads, Writes, port_after_write, 
 use Rattle.adapter.specs.Access.Access.{Reading, Writing}
 use Rattle.adapter.specs.Device.{DevicePort, Device}
 use Rattle.adapter.specs.Device.Halt.{NotHalted}
-use Rattle.adapter.specs.KeptBySteps.{Keeps, KeepsPort}
+use Rattle.adapter.specs.KeptBySteps.{KeepsOverSteps, PortBitsOnlyFall}
 use Rattle.adapter.specs.Steps.{DeviceTransition, Can, device_after, TransitionsLead, Steps, halt_after_start}
 use Rattle.adapter.specs.Steps.DeviceTransition.{Fetch, FetchFault, Move, Clear, Done, Fault, Fatal, Fall, FrFall, LinkUp, Unplug, Plug, ResetEnds, Scribble}
 use Rattle.adapter.specs.declared.tape.Entry.{Entry}
 use Rattle.adapter.proofs.Changed.{changed_same}
 use Rattle.refinement.specs.StepLaws.{StepLaws}
 use Rattle.refinement.specs.Errors.{IsDiskComing, NoDiskComes}
-use Rattle.refinement.specs.Links.{DoesNotWrite, NoPlugEvents, SameLink, ComesUp}
-use Rattle.refinement.specs.StartedPort.{IsUp, IsComingUp, SetsNoStart}
+use Rattle.refinement.specs.PreservedParts.{DoesNotWrite, NoPlugEvents, SameLink, ComesUp}
+use Rattle.refinement.specs.StartedPort.{IsUpForStart, IsComingUp, SetsNoStart}
 use Rattle.refinement.proofs.device.FactsOverAccesses.{access_steps, effect_keeps}
 use Rattle.refinement.proofs.device.ErrorBits.{comes_parts, comes_before, plugs_come}
 use Rattle.refinement.proofs.device.TapeGains.{NoneOf, gained_none}
@@ -36,11 +36,11 @@ Up p = (p.ssts_det ≡ 3) × (p.present ≡ true) × (p.fresh ≡ true) × (p.li
 abbrev Coming : DevicePort → Type 0
 Coming p = (p.cr ≡ false) × (p.ssts_det ≡ 3 → Up p)
 
-pub up_of : (p : DevicePort) → IsUp p → Up p
-up_of p u = (u.det, u.present, u.fresh, u.no_link_is_due, u.comreset_is_over, u.start_ends_halt)
+pub up_of : (p : DevicePort) → IsUpForStart p → Up p
+up_of p u = (u.det_is_3, u.present, u.fresh, u.no_link_is_due, u.comreset_is_over, u.start_ends_halt)
 
-pub is_up : (p : DevicePort) → Up p → IsUp p
-is_up p u = record { det = u.0; present = u.1; fresh = u.2; no_link_is_due = u.3; comreset_is_over = u.4; start_ends_halt = u.5 }
+pub is_up : (p : DevicePort) → Up p → IsUpForStart p
+is_up p u = record { det_is_3 = u.0; present = u.1; fresh = u.2; no_link_is_due = u.3; comreset_is_over = u.4; start_ends_halt = u.5 }
 
 coming_of : (p : DevicePort) → IsComingUp p → Coming p
 coming_of p h = (h.cr_is_clear, λ det. up_of p (h.is_up_if_shown det))
@@ -63,12 +63,12 @@ module _ (port : ℕ) (d : Device) (gained : List Entry) (none : NoneOf (IsDiskC
   works p runs e = absurd (both_ways _ (ap (λ (k : ℕ). (d.port k).cr) e ∙ h.0) runs)
 
   step_coming : (step : DeviceTransition) → Can step d → (device_after step d).tape ≡ d.tape ++ gained → Coming ((device_after step d).port port)
-  step_coming (Fetch p slot c places) can is = at_port Coming Coming d p port _ h (λ e x. works p can.working.running e) (λ ne x. x)
-  step_coming (FetchFault p slot queued kept_bits) can is = at_port Coming Coming d p port _ h (λ e x. works p can.working.running e) (λ ne x. x)
+  step_coming (Fetch p slot c places) can is = at_port Coming Coming d p port _ h (λ e x. works p can.working.cr_is_set e) (λ ne x. x)
+  step_coming (FetchFault p slot queued kept_bits) can is = at_port Coming Coming d p port _ h (λ e x. works p can.working.cr_is_set e) (λ ne x. x)
   step_coming (Move p slot t bytes) can is = at_port Coming Coming d p port _ h (λ e x. x) (λ ne x. x)
   step_coming (Clear p slot t first count) can is = at_port Coming Coming d p port _ h (λ e x. x) (λ ne x. x)
-  step_coming (Done p slot flag t) can is = at_port Coming Coming d p port _ h (λ e x. works p can.works.working.running e) (λ ne x. x)
-  step_coming (Fault p slot error kept_bits t) can is = at_port Coming Coming d p port _ h (λ e x. works p can.running e) (λ ne x. x)
+  step_coming (Done p slot flag t) can is = at_port Coming Coming d p port _ h (λ e x. works p can.works.working.cr_is_set e) (λ ne x. x)
+  step_coming (Fault p slot error kept_bits t) can is = at_port Coming Coming d p port _ h (λ e x. works p can.cr_is_set e) (λ ne x. x)
   step_coming (Fatal p place) can is = at_port Coming Coming d p port _ h (λ e x. x) (λ ne x. x)
   step_coming (Fall p) can is = at_port Coming Coming d p port _ h (λ e x. works p can.1 e) (λ ne x. x)
   step_coming (FrFall p) can is = at_port Coming Coming d p port _ h (λ e x. x) (λ ne x. x)
@@ -83,8 +83,8 @@ module _ (port : ℕ) (d : Device) (gained : List Entry) (none : NoneOf (IsDiskC
 leads_coming : StepLaws → (port : ℕ) (steps : List DeviceTransition) (old new : Device) → TransitionsLead steps old new → NoDiskComes port old new → Coming (old.port port) → Coming (new.port port)
 leads_coming laws port [] old new e none h = subst (λ (d : Device). Coming (d.port port)) (sym e) h
 leads_coming laws port (step ∷ steps) old new (can, lead) none h =
-    let k : Keeps old (device_after step old) = laws.step step _ can in
-    let l : Keeps (device_after step old) new = laws.keeps _ _ (record { steps = steps; lead = lead }) in
+    let k : KeepsOverSteps old (device_after step old) = laws.one_step_keeps step _ can in
+    let l : KeepsOverSteps (device_after step old) new = laws.steps_keep _ _ (record { steps = steps; lead = lead }) in
     let parts = comes_parts port old (device_after step old) new k.new_entries l.new_entries k.tape_grows l.tape_grows none in
     leads_coming laws port steps (device_after step old) new lead parts.1 (step_coming port old parts.0.new_entries parts.0.no_such_entry h step can parts.0.tape_is)
 
@@ -132,24 +132,24 @@ module _ (laws : StepLaws) (port : Port) (access : Access) (old new : Device) (o
 
 pub comreset_comes : StepLaws → (port : Port) (v : ℕ) (old new : Device) → (old.port port.0).cr ≡ false → v % 16 ≡ 1 → Writes (Px port Sctl) v old new → IsComingUp (new.port port.0)
 comreset_comes laws port v old new stands one call =
-    let k : KeepsPort (old.port port.0) (call.mid.port port.0) = (laws.keeps _ _ call.steps).ports_are_kept port.0 in
-    subst IsComingUp (sym (ap (λ (d : Device). d.port port.0) call.effect ∙ changed_same call.mid.port port.0 _))
-    (is_coming _ (subst (λ (n : ℕ). Coming (port_after_det_write n (length call.mid.tape) (call.mid.port port.0))) (sym one) (k.cr stands, λ det. not_three det)))
+    let k : PortBitsOnlyFall (old.port port.0) (call.at_access.port port.0) = (laws.steps_keep _ _ call.steps).ports_are_kept port.0 in
+    subst IsComingUp (sym (ap (λ (d : Device). d.port port.0) call.effect ∙ changed_same call.at_access.port port.0 _))
+    (is_coming _ (subst (λ (n : ℕ). Coming (port_after_det_write n (length call.at_access.tape) (call.at_access.port port.0))) (sym one) (k.cr_stays_clear stands, λ det. not_three det)))
 
 pub reset_comes : StepLaws → (v : ℕ) (old new : Device) → old.hr ≡ true → Reads Ghc v old new → bit v 0 ≡ false → (port : ℕ) → NoDiskComes port old new → IsComingUp (new.port port)
 reset_comes laws v old new on call clear port none =
     let s = reset_read v old new on call clear in
-    let a : Keeps old (device_after ResetEnds s.0) = laws.keeps _ _ s.2 in
-    let b : Keeps (device_after ResetEnds s.0) new = laws.keeps _ _ s.1 in
+    let a : KeepsOverSteps old (device_after ResetEnds s.0) = laws.steps_keep _ _ s.2 in
+    let b : KeepsOverSteps (device_after ResetEnds s.0) new = laws.steps_keep _ _ s.1 in
     let parts = comes_parts port old (device_after ResetEnds s.0) new a.new_entries b.new_entries a.tape_grows b.tape_grows none in
     (steps_coming laws) port (device_after ResetEnds s.0) new parts.1 s.1 (is_coming _ (refl, λ det. not_three det))
 
 -- ---- it is found up
 
-pub up_is_found : StepLaws → (port : Port) (v : ℕ) (old new : Device) → NoDiskComes port.0 old new → Reads (Px port Ssts) v old new → v % 16 ≡ 3 → IsComingUp (old.port port.0) → IsUp (new.port port.0)
+pub up_is_found : StepLaws → (port : Port) (v : ℕ) (old new : Device) → NoDiskComes port.0 old new → Reads (Px port Ssts) v old new → v % 16 ≡ 3 → IsComingUp (old.port port.0) → IsUpForStart (new.port port.0)
 up_is_found laws port v old new none call three h =
     (access_coming laws port (Reading (Px port Ssts) v) old new (λ w e. absurd (let z : Reading (Px port Ssts) v ≡ Writing (Px port Cmd) w = e in cc)) call none h).is_up_if_shown
-    (ap (λ (d : Device). (d.port port.0).ssts_det) call.effect ∙ ap (λ (p : DevicePort). p.ssts_det) (changed_same call.mid.port port.0 _) ∙ sym call.shows ∙ three)
+    (ap (λ (d : Device). (d.port port.0).ssts_det) call.effect ∙ ap (λ (p : DevicePort). p.ssts_det) (changed_same call.at_access.port port.0 _) ∙ sym call.shows ∙ three)
 
 -- ---- and stays so
 
@@ -157,13 +157,13 @@ up_is_found laws port v old new none call three h =
 still_three : (p new : DevicePort) → p.ssts_det ≡ 3 → SameLink p new ⊎ ComesUp p new → new.ssts_det ≡ 3
 still_three p new three = ⊎_elim (λ (s : SameLink p new). s.det ∙ three) (λ (c : ComesUp p new). c.det)
 
-pub steps_up : StepLaws → (port : ℕ) (old new : Device) → old.hr ≡ false → (old.port port).cr ≡ false → NoPlugEvents port old new → Steps old new → IsUp (old.port port) → IsUp (new.port port)
+pub steps_up : StepLaws → (port : ℕ) (old new : Device) → old.hr ≡ false → (old.port port).cr ≡ false → NoPlugEvents port old new → Steps old new → IsUpForStart (old.port port) → IsUpForStart (new.port port)
 steps_up laws port old new off stands none s u =
     (steps_coming laws port old new (plugs_come port old new none) s (record { cr_is_clear = stands; is_up_if_shown = λ _. u })).is_up_if_shown
-    (still_three (old.port port) (new.port port) u.det (steps_link laws port old new off s none))
+    (still_three (old.port port) (new.port port) u.det_is_3 (steps_link laws port old new off s none))
 
 pub access_up : StepLaws → (port : Port) (access : Access) (old new : Device) → old.hr ≡ false → (old.port port.0).cr ≡ false → SetsNoStart port access → DoesNotWrite (Px port Sctl) access → NoPlugEvents port.0 old new → Does access old new →
-    IsUp (old.port port.0) → IsUp (new.port port.0)
+    IsUpForStart (old.port port.0) → IsUpForStart (new.port port.0)
 access_up laws port access old new off stands sets spares none x u =
     (access_coming laws port access old new sets x (plugs_come port.0 old new none) (record { cr_is_clear = stands; is_up_if_shown = λ _. u })).is_up_if_shown
-    (still_three (old.port port.0) (new.port port.0) u.det (access_link laws port access old new off spares x none))
+    (still_three (old.port port.0) (new.port port.0) u.det_is_3 (access_link laws port access old new off spares x none))

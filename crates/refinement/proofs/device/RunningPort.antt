@@ -11,15 +11,15 @@ use Rattle.adapter.specs.Access.{Access, Does, Reads, Writes, port_after_write, 
 use Rattle.adapter.specs.Access.Access.{Reading, Writing}
 use Rattle.adapter.specs.Device.{DevicePort, Device}
 use Rattle.adapter.specs.Device.Halt.{NotHalted}
-use Rattle.adapter.specs.KeptBySteps.{Keeps}
+use Rattle.adapter.specs.KeptBySteps.{KeepsOverSteps}
 use Rattle.adapter.specs.Steps.{DeviceTransition, Can, device_after, TransitionsLead, Steps}
 use Rattle.adapter.specs.Steps.DeviceTransition.{Fetch, FetchFault, Move, Clear, Done, Fault, Fatal, Fall, FrFall, LinkUp, Unplug, Plug, ResetEnds, Scribble}
 use Rattle.adapter.specs.declared.tape.Entry.{Entry}
 use Rattle.refinement.specs.StepLaws.{StepLaws}
 use Rattle.refinement.specs.Relation.{port_at}
-use Rattle.refinement.specs.Errors.{ChangesByDisks, StaysClear}
+use Rattle.refinement.specs.Errors.{LinkErrorsRiseByDisks, ErrorBitsStayClear}
 use Rattle.refinement.specs.PortFacts.{RunsWell, IsDisturbance, Undisturbed, ShowsNoTrouble}
-use Rattle.refinement.specs.Links.{DoesNotWrite}
+use Rattle.refinement.specs.PreservedParts.{DoesNotWrite}
 use Rattle.refinement.specs.StartedPort.{IsStarted, ClearsNoStart}
 use Rattle.refinement.proofs.device.FactsOverAccesses.{access_steps, effect_keeps}
 use Rattle.refinement.proofs.device.ErrorBits.{plugs_come, steps_change, access_change}
@@ -40,8 +40,8 @@ pub leads_calmly : StepLaws → (port : ℕ) (P : Device → Type 0) →
     (steps : List DeviceTransition) (old new : Device) → TransitionsLead steps old new → Undisturbed port old new → P old → P new
 leads_calmly laws port P keep [] old new e u h = subst P (sym e) h
 leads_calmly laws port P keep (step ∷ steps) old new (can, lead) u h =
-    let k : Keeps old (device_after step old) = laws.step step _ can in
-    let l : Keeps (device_after step old) new = laws.keeps _ _ (record { steps = steps; lead = lead }) in
+    let k : KeepsOverSteps old (device_after step old) = laws.one_step_keeps step _ can in
+    let l : KeepsOverSteps (device_after step old) new = laws.steps_keep _ _ (record { steps = steps; lead = lead }) in
     let parts = undisturbed_parts port old (device_after step old) new k.new_entries l.new_entries k.tape_grows l.tape_grows u in
     leads_calmly laws port P keep steps (device_after step old) new lead parts.1 (keep old parts.0.new_entries parts.0.no_disturbance step can parts.0.tape_is h)
 
@@ -53,10 +53,10 @@ Started p =
     × (p.broken ≡ false)
 
 started_of : (p : DevicePort) → IsStarted p → Started p
-started_of p h = (h.st, h.cr, h.det, h.present, h.fresh, h.no_link_is_due, h.is_not_halted, h.is_not_broken)
+started_of p h = (h.st_is_set, h.cr_is_set, h.det_is_3, h.present, h.fresh, h.no_link_is_due, h.is_not_halted, h.is_not_broken)
 
 is_started : (p : DevicePort) → Started p → IsStarted p
-is_started p h = record { st = h.0; cr = h.1; det = h.2; present = h.3; fresh = h.4; no_link_is_due = h.5; is_not_halted = h.6; is_not_broken = h.7 }
+is_started p h = record { st_is_set = h.0; cr_is_set = h.1; det_is_3 = h.2; present = h.3; fresh = h.4; no_link_is_due = h.5; is_not_halted = h.6; is_not_broken = h.7 }
 
 module _ (port : ℕ) (d : Device) (gained : List Entry) (calm : NoneOf (IsDisturbance port) gained) where
   abbrev At : DevicePort → Type 0
@@ -90,7 +90,7 @@ OnStarted port d = (d.hr ≡ false) × Started (d.port port)
 on_started : StepLaws → (port : ℕ) (old new : Device) → old.hr ≡ false → Undisturbed port old new → Steps old new → Started (old.port port) → Started (new.port port)
 on_started laws port old new off u s h =
     (leads_calmly laws port (OnStarted port)
-    (λ d gained calm step can is x. (((laws.step step _ can).keeps_outside_reset x.0).no_reset, step_started port d gained calm step x.0 can is x.1))
+    (λ d gained calm step can is x. (((laws.one_step_keeps step _ can).keeps_outside_reset x.0).no_reset, step_started port d gained calm step x.0 can is x.1))
     s.steps old new s.lead u (off, h)).1
 
 pub steps_started : StepLaws → (port : ℕ) (old new : Device) → old.hr ≡ false → Undisturbed port old new → Steps old new → IsStarted (old.port port) → IsStarted (new.port port)
@@ -130,24 +130,24 @@ access_quiets : StepLaws → (port : ℕ) (access : Access) (old new : Device) �
 access_quiets laws port access old new u x = λ place low up clear. access_unset laws (IsDisturbance port) port place low (λ f e z. e) (λ at e z. e) access old new x (u.new_entries, u.tape_is, u.no_disturbance) clear
 
 -- N and X, where no link is due
-clear_of : (port : ℕ) (old new : Device) → Undisturbed port old new → ChangesByDisks port old new → Quiets (old.port port) (new.port port) → StaysClear (old.port port) (new.port port)
+clear_of : (port : ℕ) (old new : Device) → Undisturbed port old new → LinkErrorsRiseByDisks port old new → Quiets (old.port port) (new.port port) → ErrorBitsStayClear (old.port port) (new.port port)
 clear_of port old new u c quiets =
     let none = undisturbed_plugs port old new u in
-    record { serr_n = c.serr_n none; serr_x = c.serr_x (plugs_come port old new none); pxis_stays_clear = quiets }
+    record { serr_n_stays_clear = c.serr_n_rises_by_plug_events none; serr_x_stays_clear = c.serr_x_rises_by_disk_coming (plugs_come port old new none); pxis_stays_clear = quiets }
 
-pub steps_clear : StepLaws → (port : ℕ) (old new : Device) → old.hr ≡ false → (old.port port).link_due ≡ false → Undisturbed port old new → Steps old new → StaysClear (old.port port) (new.port port)
+pub steps_clear : StepLaws → (port : ℕ) (old new : Device) → old.hr ≡ false → (old.port port).link_due ≡ false → Undisturbed port old new → Steps old new → ErrorBitsStayClear (old.port port) (new.port port)
 steps_clear laws port old new off undue u s = clear_of port old new u (steps_change laws port old new off undue s) (on_quiets laws port old new u s)
 
-pub access_clear : StepLaws → (port : Port) (access : Access) (old new : Device) → old.hr ≡ false → (old.port port.0).link_due ≡ false → Undisturbed port.0 old new → Does access old new → StaysClear (old.port port.0) (new.port port.0)
+pub access_clear : StepLaws → (port : Port) (access : Access) (old new : Device) → old.hr ≡ false → (old.port port.0).link_due ≡ false → Undisturbed port.0 old new → Does access old new → ErrorBitsStayClear (old.port port.0) (new.port port.0)
 access_clear laws port access old new off undue u x = clear_of port.0 old new u (access_change laws port access old new off undue x) (access_quiets laws port.0 access old new u x)
 
 -- ---- both
 
 pub well_of : (p : DevicePort) → IsStarted p → ShowsNoTrouble p → RunsWell p
 well_of p h quiet = record {
-  st = h.st;
-  cr = h.cr;
-  det = h.det;
+  st_is_set = h.st_is_set;
+  cr_is_set = h.cr_is_set;
+  det_is_3 = h.det_is_3;
   present = h.present;
   fresh = h.fresh;
   no_link_is_due = h.no_link_is_due;
@@ -157,13 +157,13 @@ well_of p h quiet = record {
 }
 
 pub started_well : (p : DevicePort) → RunsWell p → IsStarted p
-started_well p h = record { st = h.st; cr = h.cr; det = h.det; present = h.present; fresh = h.fresh; no_link_is_due = h.no_link_is_due; is_not_halted = h.is_not_halted; is_not_broken = h.is_not_broken }
+started_well p h = record { st_is_set = h.st_is_set; cr_is_set = h.cr_is_set; det_is_3 = h.det_is_3; present = h.present; fresh = h.fresh; no_link_is_due = h.no_link_is_due; is_not_halted = h.is_not_halted; is_not_broken = h.is_not_broken }
 
-pub shows_still : (p new : DevicePort) → StaysClear p new → ShowsNoTrouble p → ShowsNoTrouble new
-shows_still p new c h = record { serr_n = c.serr_n h.serr_n; serr_x = c.serr_x h.serr_x; no_error_bit_is_set = λ place low up. c.pxis_stays_clear place low up (h.no_error_bit_is_set place low up) }
+pub shows_still : (p new : DevicePort) → ErrorBitsStayClear p new → ShowsNoTrouble p → ShowsNoTrouble new
+shows_still p new c h = record { serr_n_is_clear = c.serr_n_stays_clear h.serr_n_is_clear; serr_x_is_clear = c.serr_x_stays_clear h.serr_x_is_clear; no_error_bit_is_set = λ place low up. c.pxis_stays_clear place low up (h.no_error_bit_is_set place low up) }
 
-pub law_healthy_stays : StepLaws → (port : ℕ) (old new : Device) → old.hr ≡ false → Steps old new → Undisturbed port old new → RunsWell (old.port port) → RunsWell (new.port port)
-law_healthy_stays laws port old new off s u h =
+pub law_running_well_stays : StepLaws → (port : ℕ) (old new : Device) → old.hr ≡ false → Steps old new → Undisturbed port old new → RunsWell (old.port port) → RunsWell (new.port port)
+law_running_well_stays laws port old new off s u h =
     well_of (new.port port) (steps_started laws port old new off u s (started_well (old.port port) h))
     (shows_still (old.port port) (new.port port) (steps_clear laws port old new off h.no_link_is_due u s) h.shows_no_trouble)
 

@@ -10,7 +10,7 @@ use Rattle.adapter.specs.Device.{DevicePort, Device}
 use Rattle.adapter.specs.Steps.{DeviceTransition, Can, device_after, TransitionsLead, Steps}
 use Rattle.adapter.specs.Steps.DeviceTransition.{Fetch, FetchFault, Move, Clear, Done, Fault, Fatal, Fall, FrFall, LinkUp, Unplug, Plug, ResetEnds, Scribble}
 use Rattle.refinement.specs.StepLaws.{StepLaws}
-use Rattle.refinement.specs.Links.{DoesNotWrite, ShowsDiskIfIn}
+use Rattle.refinement.specs.PreservedParts.{DoesNotWrite, ShowsDiskIfIn}
 use Rattle.refinement.proofs.device.FactsOverAccesses.{access_steps, effect_keeps}
 use Rattle.refinement.proofs.device.ErrorBits.{command_beside}
 use Rattle.refinement.proofs.device.HealthyPort.{at_port}
@@ -38,7 +38,7 @@ step_shown port d (Scribble p slot at bytes) off can h = h
 leads_shown : StepLaws → (port : ℕ) (steps : List DeviceTransition) (old new : Device) → old.hr ≡ false → TransitionsLead steps old new → Shown (old.port port) → Shown (new.port port)
 leads_shown laws port [] old new off e h = subst (λ (d : Device). Shown (d.port port)) (sym e) h
 leads_shown laws port (step ∷ steps) old new off (can, lead) h =
-    leads_shown laws port steps (device_after step old) new ((laws.step step _ can).keeps_outside_reset off).no_reset lead (step_shown port old step off can h)
+    leads_shown laws port steps (device_after step old) new ((laws.one_step_keeps step _ can).keeps_outside_reset off).no_reset lead (step_shown port old step off can h)
 
 pub steps_shown : StepLaws → (port : ℕ) (old new : Device) → old.hr ≡ false → Steps old new → ShowsDiskIfIn (old.port port) → ShowsDiskIfIn (new.port port)
 steps_shown laws port old new off s h = leads_shown laws port s.steps old new off s.lead h

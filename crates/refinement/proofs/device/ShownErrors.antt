@@ -8,15 +8,15 @@ use Rattle.hba_regs.specs.declared.reg.PortReg.{PortReg}
 use Rattle.hba_regs.specs.declared.reg.PortReg.TheVariants.{Is, Cmd}
 use Rattle.adapter.specs.Access.{Access, Does, port_after_write}
 use Rattle.adapter.specs.Device.{DevicePort, Device}
-use Rattle.adapter.specs.KeptBySteps.{Keeps, KeepsControls}
+use Rattle.adapter.specs.KeptBySteps.{KeepsOverSteps, KeepsControlsFlagsRise}
 use Rattle.adapter.specs.Memory.{changed}
 use Rattle.adapter.specs.Steps.{DeviceTransition, Can, device_after, TransitionsLead, Steps}
 use Rattle.adapter.specs.Steps.DeviceTransition.{Fetch, FetchFault, Move, Clear, Done, Fault, Fatal, Fall, FrFall, LinkUp, Unplug, Plug, ResetEnds, Scribble}
 use Rattle.adapter.specs.declared.tape.Entry.{Entry}
 use Rattle.adapter.specs.declared.tape.Entry.TheVariants as entry
-use Rattle.refinement.specs.Errors.{IsFatalOf, NoneFatal, NoneFails}
+use Rattle.refinement.specs.Errors.{IsFatalErrorOf, NoFatalErrors, NoFaults}
 use Rattle.refinement.specs.PortFacts.{IsFaultOf}
-use Rattle.refinement.specs.Links.{DoesNotWrite}
+use Rattle.refinement.specs.PreservedParts.{DoesNotWrite}
 use Rattle.refinement.proofs.relation.OneSlot.{changed_at}
 use Rattle.refinement.proofs.device.FactsOverAccesses.{access_steps, effect_keeps}
 use Rattle.refinement.proofs.device.ErrorBits.{command_beside}
@@ -35,7 +35,7 @@ IsErrorIn low high port (entry.Fatal at) = (at.0 ≡ port) × (low ≤ 27) × (2
 IsErrorIn low high port _ = ⊥
 
 -- Entries of a kind whose errors have these bits.
-module _ (keeps : (old new : Device) → Steps old new → Keeps old new) (low high : ℕ) (IsKind : Entry → Type 0) (port : ℕ) (only : (e : Entry) → IsKind e → IsErrorIn low high port e) where
+module _ (keeps : (old new : Device) → Steps old new → KeepsOverSteps old new) (low high : ℕ) (IsKind : Entry → Type 0) (port : ℕ) (only : (e : Entry) → IsKind e → IsErrorIn low high port e) where
   abbrev Untold : DevicePort → Type 0
   Untold p = (place : ℕ) → low ≤ place → place ≤ high → p.is place ≡ false
 
@@ -43,8 +43,8 @@ module _ (keeps : (old new : Device) → Steps old new → Keeps old new) (low h
   abbrev SameBits : DevicePort → DevicePort → Type 0
   SameBits first p = (place : ℕ) → p.is place ≡ first.is place
 
-  untold_before : (p q : DevicePort) → KeepsControls p q → Untold q → Untold p
-  untold_before p q k h = λ place from to. was_false (p.is place) (q.is place) (k.is place) (h place from to)
+  untold_before : (p q : DevicePort) → KeepsControlsFlagsRise p q → Untold q → Untold p
+  untold_before p q k h = λ place from to. was_false (p.is place) (q.is place) (k.causes_stay_set place) (h place from to)
 
   one : (e : Entry) → (IsKind e → ⊥) → NoneOf IsKind (e ∷ [])
   one e other = All-cons (λ x. IsKind x → ⊥) e [] other (All-nil (λ x. IsKind x → ⊥))
@@ -89,16 +89,16 @@ module _ (keeps : (old new : Device) → Steps old new → Keeps old new) (low h
   leads_untold : (steps : List DeviceTransition) (old new : Device) → old.hr ≡ false → TransitionsLead steps old new → Untold (new.port port) → GainsNone IsKind old new
   leads_untold [] old new off e h = subst (GainsNone IsKind old) (sym e) (gains_nothing IsKind old)
   leads_untold (step ∷ steps) old new off (can, lead) h =
-      let k : Keeps old (device_after step old) = keeps old (device_after step old) (record { steps = step ∷ []; lead = (can, refl) }) in
-      let l : Keeps (device_after step old) new = keeps (device_after step old) new (record { steps = steps; lead = lead }) in
+      let k : KeepsOverSteps old (device_after step old) = keeps old (device_after step old) (record { steps = step ∷ []; lead = (can, refl) }) in
+      let l : KeepsOverSteps (device_after step old) new = keeps (device_after step old) new (record { steps = steps; lead = lead }) in
       let off' : (device_after step old).hr ≡ false = (k.keeps_outside_reset off).no_reset in
-      let mid : Untold ((device_after step old).port port) = untold_before ((device_after step old).port port) (new.port port) ((l.keeps_outside_reset off').controls port) h in
+      let mid : Untold ((device_after step old).port port) = untold_before ((device_after step old).port port) (new.port port) ((l.keeps_outside_reset off').controls_are_kept port) h in
       gains_more IsKind old (device_after step old) new (step_untold old step can mid) (leads_untold steps (device_after step old) new off' lead h)
 
   steps_untold : (old new : Device) → old.hr ≡ false → Steps old new → Untold (new.port port) → Untold (old.port port) × GainsNone IsKind old new
   steps_untold old new off s h =
-      let k : Keeps old new = keeps old new s in (
-        untold_before (old.port port) (new.port port) ((k.keeps_outside_reset off).controls port) h,
+      let k : KeepsOverSteps old new = keeps old new s in (
+        untold_before (old.port port) (new.port port) ((k.keeps_outside_reset off).controls_are_kept port) h,
         leads_untold s.steps old new off s.lead h,
       )
 
@@ -131,7 +131,7 @@ alone p clear place from to = let e : 30 ≡ place = omega (arith, from, to) in 
 
 -- ---- fatal errors
 
-fatal_only : (port : ℕ) (e : Entry) → IsFatalOf port e → IsErrorIn 27 29 port e
+fatal_only : (port : ℕ) (e : Entry) → IsFatalErrorOf port e → IsErrorIn 27 29 port e
 fatal_only port (entry.Fatal at) is = (is, omega arith, omega arith)
 fatal_only port _ is = absurd is
 
@@ -140,25 +140,25 @@ ShowsNoFatal p = (place : ℕ) → 27 ≤ place → place ≤ 29 → p.is place 
 
 -- ---- both
 
-module _ (keeps : (old new : Device) → Steps old new → Keeps old new) where
-  as_fails : (port : ℕ) (old new : Device) → Untold keeps 30 30 (IsFaultOf port) port (fault_only port) (old.port port) × GainsNone (IsFaultOf port) old new → ((old.port port).is 30 ≡ false) × NoneFails port old new
+module _ (keeps : (old new : Device) → Steps old new → KeepsOverSteps old new) where
+  as_fails : (port : ℕ) (old new : Device) → Untold keeps 30 30 (IsFaultOf port) port (fault_only port) (old.port port) × GainsNone (IsFaultOf port) old new → ((old.port port).is 30 ≡ false) × NoFaults port old new
   as_fails port old new (h, g) = (h 30 (omega arith) (omega arith), record { new_entries = g.0; tape_is = g.1; no_such_entry = g.2 })
 
-  pub steps_fault : (port : ℕ) (old new : Device) → old.hr ≡ false → Steps old new → (new.port port).is 30 ≡ false → ((old.port port).is 30 ≡ false) × NoneFails port old new
+  pub steps_fault : (port : ℕ) (old new : Device) → old.hr ≡ false → Steps old new → (new.port port).is 30 ≡ false → ((old.port port).is 30 ≡ false) × NoFaults port old new
   steps_fault port old new off s clear = as_fails port old new (steps_untold keeps 30 30 (IsFaultOf port) port (fault_only port) old new off s (alone (new.port port) clear))
 
   pub access_fault : (port : Port) (access : Access) (old new : Device) → old.hr ≡ false → DoesNotWrite (Px port Is) access → Does access old new → (new.port port.0).is 30 ≡ false →
-      ((old.port port.0).is 30 ≡ false) × NoneFails port.0 old new
+      ((old.port port.0).is 30 ≡ false) × NoFaults port.0 old new
   access_fault port access old new off spares x clear =
       as_fails port.0 old new (access_untold keeps 30 30 (IsFaultOf port.0) port.0 (fault_only port.0) port access old new refl off spares x (alone (new.port port.0) clear))
 
-  as_fatal : (port : ℕ) (old new : Device) → ShowsNoFatal (old.port port) × GainsNone (IsFatalOf port) old new → ShowsNoFatal (old.port port) × NoneFatal port old new
+  as_fatal : (port : ℕ) (old new : Device) → ShowsNoFatal (old.port port) × GainsNone (IsFatalErrorOf port) old new → ShowsNoFatal (old.port port) × NoFatalErrors port old new
   as_fatal port old new (h, g) = (h, record { new_entries = g.0; tape_is = g.1; no_such_entry = g.2 })
 
-  pub steps_fatal : (port : ℕ) (old new : Device) → old.hr ≡ false → Steps old new → ShowsNoFatal (new.port port) → ShowsNoFatal (old.port port) × NoneFatal port old new
-  steps_fatal port old new off s clear = as_fatal port old new (steps_untold keeps 27 29 (IsFatalOf port) port (fatal_only port) old new off s clear)
+  pub steps_fatal : (port : ℕ) (old new : Device) → old.hr ≡ false → Steps old new → ShowsNoFatal (new.port port) → ShowsNoFatal (old.port port) × NoFatalErrors port old new
+  steps_fatal port old new off s clear = as_fatal port old new (steps_untold keeps 27 29 (IsFatalErrorOf port) port (fatal_only port) old new off s clear)
 
   pub access_fatal : (port : Port) (access : Access) (old new : Device) → old.hr ≡ false → DoesNotWrite (Px port Is) access → Does access old new → ShowsNoFatal (new.port port.0) →
-      ShowsNoFatal (old.port port.0) × NoneFatal port.0 old new
+      ShowsNoFatal (old.port port.0) × NoFatalErrors port.0 old new
   access_fatal port access old new off spares x clear =
-      as_fatal port.0 old new (access_untold keeps 27 29 (IsFatalOf port.0) port.0 (fatal_only port.0) port access old new refl off spares x clear)
+      as_fatal port.0 old new (access_untold keeps 27 29 (IsFatalErrorOf port.0) port.0 (fatal_only port.0) port access old new refl off spares x clear)

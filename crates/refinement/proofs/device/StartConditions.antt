@@ -10,15 +10,15 @@ use Rattle.hba_regs.specs.declared.reg.Reg.{Reg}
 use Rattle.hba_regs.specs.declared.reg.Reg.TheVariants.{Px}
 use Rattle.hba_regs.specs.declared.reg.PortReg.{PortReg}
 use Rattle.hba_regs.specs.declared.reg.PortReg.TheVariants.{Clb, Clbu, Fb, Fbu, Is, Ie, Cmd, Tfd, Sig, Ssts, Sctl, Serr, Sact, Ci}
-use Rattle.adapter.specs.Access.{Reads, Writes, port_after_write, port_after_st_write, port_after_fre_write, note}
+use Rattle.adapter.specs.Access.{Reads, Writes, port_after_write, port_after_st_write, port_after_fre_write, notes_after_reading}
 use Rattle.adapter.specs.Device.{DevicePort, Device}
-use Rattle.adapter.specs.KeptBySteps.{KeepsPort}
+use Rattle.adapter.specs.KeptBySteps.{PortBitsOnlyFall}
 use Rattle.adapter.specs.Steps.{DeviceTransition, Can, device_after, Steps}
 use Rattle.adapter.specs.Steps.DeviceTransition.{Fetch, FetchFault, Move, Clear, Done, Fault, Fatal, Fall, FrFall, LinkUp, Unplug, Plug, ResetEnds, Scribble}
 use Rattle.adapter.proofs.Changed.{changed_same}
 use Rattle.refinement.specs.StepLaws.{StepLaws}
 use Rattle.refinement.specs.Relation.{port_at}
-use Rattle.refinement.specs.PortFacts.{ShowsDrqTillLink, StoppedTfesClear, IsCleanToStart}
+use Rattle.refinement.specs.PortFacts.{StoppedWithDrqTillLink, StoppedTfesClear, IsCleanToStart}
 use Rattle.refinement.proofs.device.FactsOverAccesses.{noted_on, written_on}
 use Rattle.refinement.proofs.device.AwaitedLink.{leads_keep, steps_awaited, steps_unflagged}
 use Rattle.refinement.proofs.device.HealthyPort.{at_port}
@@ -57,20 +57,20 @@ steps_linked port old new s h = leads_keep IsLinked step_linked port s.steps old
 pub steps_quiet : (port : ℕ) (old new : Device) → Steps old new → IsCleanToStart (old.port port) → IsCleanToStart (new.port port)
 steps_quiet port old new s q =
     let l : IsLinked (new.port port) = steps_linked port old new s (q.no_link_is_due, q.no_comreset) in
-    record { tfes_is_clear = steps_unflagged port old new s q.tfes_is_clear; no_link_is_due = l.0; no_comreset = l.1 }
+    record { is_stopped_tfes_clear = steps_unflagged port old new s q.is_stopped_tfes_clear; no_link_is_due = l.0; no_comreset = l.1 }
 
 -- ---- TFES over readings and writes
 
 pub reads_unflagged : (port : ℕ) (r : Reg) (v : ℕ) (old new : Device) → Reads r v old new → StoppedTfesClear (old.port port) → StoppedTfesClear (new.port port)
 reads_unflagged port r v old new x h =
-    subst (λ (d : Device). StoppedTfesClear (d.port port)) (sym x.effect) (noted_on StoppedTfesClear (port_at port) (λ p q w y. y) r v x.mid (steps_unflagged port old x.mid x.steps h))
+    subst (λ (d : Device). StoppedTfesClear (d.port port)) (sym x.effect) (noted_on StoppedTfesClear (port_at port) (λ p q w y. y) r v x.at_access (steps_unflagged port old x.at_access x.steps h))
 
 -- PxIS is written with bit 30
 pub clearing_unflags : StepLaws → (port : Port) (v : ℕ) (old new : Device) → (old.port port.0).cr ≡ false → bit v 30 ≡ true → Writes (Px port Is) v old new → StoppedTfesClear (new.port port.0)
 clearing_unflags laws port v old new cr set call =
-    let k : KeepsPort (old.port port.0) (call.mid.port port.0) = (laws.keeps _ _ call.steps).ports_are_kept port.0 in
-    subst StoppedTfesClear (sym (ap (λ (d : Device). d.port port.0) call.effect ∙ changed_same call.mid.port port.0 _))
-    (k.cr cr, and_right ((call.mid.port port.0).is 30) (not (bit v 30)) (ap not set))
+    let k : PortBitsOnlyFall (old.port port.0) (call.at_access.port port.0) = (laws.steps_keep _ _ call.steps).ports_are_kept port.0 in
+    subst StoppedTfesClear (sym (ap (λ (d : Device). d.port port.0) call.effect ∙ changed_same call.at_access.port port.0 _))
+    (k.cr_stays_clear cr, and_right ((call.at_access.port port.0).is 30) (not (bit v 30)) (ap not set))
 
 stopped_unflagged : (p : DevicePort) (v tape : ℕ) → bit v 0 ≡ false → StoppedTfesClear p → StoppedTfesClear (port_after_write Cmd v tape p)
 stopped_unflagged p v tape off h = subst (λ (b : Bool). StoppedTfesClear (port_after_fre_write (bit v 4) (port_after_st_write b tape p))) (sym off) h
@@ -94,14 +94,14 @@ port_unflagged Ci v tape p off h = h
 pub writes_unflagged : (port : Port) (r : Reg) (v : ℕ) (old new : Device) → (r ≡ Px port Cmd → bit v 0 ≡ false) → Writes r v old new → StoppedTfesClear (old.port port.0) → StoppedTfesClear (new.port port.0)
 writes_unflagged port r v old new off x h =
     subst (λ (d : Device). StoppedTfesClear (d.port port.0)) (sym x.effect)
-    (written_on StoppedTfesClear port (λ p q w y. y) (λ p y. y) r v x.mid
-    (λ q is. port_unflagged q v (length x.mid.tape) (x.mid.port port.0) (λ c. off (is ∙ ap (Px port) c)))
-    (steps_unflagged port.0 old x.mid x.steps h))
+    (written_on StoppedTfesClear port (λ p q w y. y) (λ p y. y) r v x.at_access
+    (λ q is. port_unflagged q v (length x.at_access.tape) (x.at_access.port port.0) (λ c. off (is ∙ ap (Px port) c)))
+    (steps_unflagged port.0 old x.at_access x.steps h))
 
 -- ---- no link is due, over readings and writes
 
 linked_quiet : (p : DevicePort) → StoppedTfesClear p → IsLinked p → IsCleanToStart p
-linked_quiet p u l = record { tfes_is_clear = u; no_link_is_due = l.0; no_comreset = l.1 }
+linked_quiet p u l = record { is_stopped_tfes_clear = u; no_link_is_due = l.0; no_comreset = l.1 }
 
 stopped_linked : (p : DevicePort) (v tape : ℕ) → bit v 0 ≡ false → IsLinked p → IsLinked (port_after_write Cmd v tape p)
 stopped_linked p v tape off h = subst (λ (b : Bool). IsLinked (port_after_fre_write (bit v 4) (port_after_st_write b tape p))) (sym off) h
@@ -124,16 +124,16 @@ port_linked Ci v tape p off sends h = h
 
 pub reads_quiet : (port : ℕ) (r : Reg) (v : ℕ) (old new : Device) → Reads r v old new → IsCleanToStart (old.port port) → IsCleanToStart (new.port port)
 reads_quiet port r v old new x q =
-    linked_quiet (new.port port) (reads_unflagged port r v old new x q.tfes_is_clear)
-    (subst (λ (d : Device). IsLinked (d.port port)) (sym x.effect) (noted_on IsLinked (port_at port) (λ p z w y. y) r v x.mid (steps_linked port old x.mid x.steps (q.no_link_is_due, q.no_comreset))))
+    linked_quiet (new.port port) (reads_unflagged port r v old new x q.is_stopped_tfes_clear)
+    (subst (λ (d : Device). IsLinked (d.port port)) (sym x.effect) (noted_on IsLinked (port_at port) (λ p z w y. y) r v x.at_access (steps_linked port old x.at_access x.steps (q.no_link_is_due, q.no_comreset))))
 
 pub writes_quiet : (port : Port) (r : Reg) (v : ℕ) (old new : Device) → (r ≡ Px port Cmd → bit v 0 ≡ false) → (r ≡ Px port Sctl → v % 16 ≢ 1) → Writes r v old new → IsCleanToStart (old.port port.0) → IsCleanToStart (new.port port.0)
 writes_quiet port r v old new off sends x q =
-    linked_quiet (new.port port.0) (writes_unflagged port r v old new off x q.tfes_is_clear)
+    linked_quiet (new.port port.0) (writes_unflagged port r v old new off x q.is_stopped_tfes_clear)
     (subst (λ (d : Device). IsLinked (d.port port.0)) (sym x.effect)
-    (written_on IsLinked port (λ p z w y. y) (λ p y. y) r v x.mid
-    (λ z is. port_linked z v (length x.mid.tape) (x.mid.port port.0) (λ c. off (is ∙ ap (Px port) c)) (λ c. sends (is ∙ ap (Px port) c)))
-    (steps_linked port.0 old x.mid x.steps (q.no_link_is_due, q.no_comreset))))
+    (written_on IsLinked port (λ p z w y. y) (λ p y. y) r v x.at_access
+    (λ z is. port_linked z v (length x.at_access.tape) (x.at_access.port port.0) (λ c. off (is ∙ ap (Px port) c)) (λ c. sends (is ∙ ap (Px port) c)))
+    (steps_linked port.0 old x.at_access x.steps (q.no_link_is_due, q.no_comreset))))
 
 -- ---- the task file is read
 
@@ -145,15 +145,15 @@ drq_read v tfd e = ap (λ (n : ℕ). n == 1) (ap (λ (n : ℕ). bit_at n 3) (sym
     low = omega arith
 
 -- without DRQ the link isn't awaited
-pub law_quiet_is_found : (port : Port) (v : ℕ) (old new : Device) → ShowsDrqTillLink (old.port port.0) → StoppedTfesClear (old.port port.0) → Reads (Px port Tfd) v old new → bit v 3 ≡ false → IsCleanToStart (new.port port.0)
-law_quiet_is_found port v old new awaited unflagged call clear =
-    let u : StoppedTfesClear (call.mid.port port.0) = steps_unflagged port.0 old call.mid call.steps unflagged in
-    let w : ShowsDrqTillLink (call.mid.port port.0) = steps_awaited port.0 old call.mid call.steps awaited in
-    let none : ((call.mid.port port.0).link_due ≡ true) ⊎ ((call.mid.port port.0).sctl_det ≡ 1) → ⊥ = λ due. absurd (both_ways _ clear (sym (drq_read v (call.mid.port port.0).tfd call.shows) ∙ (w due).1)) in
-    let q : IsCleanToStart (call.mid.port port.0) = record {
-      tfes_is_clear = u;
-      no_link_is_due = ⊎_elim (λ (t : (call.mid.port port.0).link_due ≡ true). absurd (none (inl t))) (λ (f : (call.mid.port port.0).link_due ≡ false). f) (cases_Bool (call.mid.port port.0).link_due);
+pub law_clean_to_start_is_found : (port : Port) (v : ℕ) (old new : Device) → StoppedWithDrqTillLink (old.port port.0) → StoppedTfesClear (old.port port.0) → Reads (Px port Tfd) v old new → bit v 3 ≡ false → IsCleanToStart (new.port port.0)
+law_clean_to_start_is_found port v old new awaited unflagged call clear =
+    let u : StoppedTfesClear (call.at_access.port port.0) = steps_unflagged port.0 old call.at_access call.steps unflagged in
+    let w : StoppedWithDrqTillLink (call.at_access.port port.0) = steps_awaited port.0 old call.at_access call.steps awaited in
+    let none : ((call.at_access.port port.0).link_due ≡ true) ⊎ ((call.at_access.port port.0).sctl_det ≡ 1) → ⊥ = λ due. absurd (both_ways _ clear (sym (drq_read v (call.at_access.port port.0).tfd call.shows) ∙ (w due).1)) in
+    let q : IsCleanToStart (call.at_access.port port.0) = record {
+      is_stopped_tfes_clear = u;
+      no_link_is_due = ⊎_elim (λ (t : (call.at_access.port port.0).link_due ≡ true). absurd (none (inl t))) (λ (f : (call.at_access.port port.0).link_due ≡ false). f) (cases_Bool (call.at_access.port port.0).link_due);
       no_comreset = λ e. none (inr e);
     } in
-    let is : new.port port.0 ≡ record (call.mid.port port.0) { notes = note Tfd v (call.mid.port port.0) } = ap (λ (d : Device). d.port port.0) call.effect ∙ changed_same call.mid.port port.0 _ in
-    subst IsCleanToStart (sym is) (record { tfes_is_clear = q.tfes_is_clear; no_link_is_due = q.no_link_is_due; no_comreset = q.no_comreset })
+    let is : new.port port.0 ≡ record (call.at_access.port port.0) { notes = notes_after_reading Tfd v (call.at_access.port port.0) } = ap (λ (d : Device). d.port port.0) call.effect ∙ changed_same call.at_access.port port.0 _ in
+    subst IsCleanToStart (sym is) (record { is_stopped_tfes_clear = q.is_stopped_tfes_clear; no_link_is_due = q.no_link_is_due; no_comreset = q.no_comreset })

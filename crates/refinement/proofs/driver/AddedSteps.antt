@@ -15,7 +15,7 @@ use Rattle.block_machine.specs.Histories.{IsReachable, IsSimulatedBySteps}
 use Rattle.block_machine.proofs.EventLemmas.{after-append}
 use Rattle.refinement.specs.Slots.{SlotStates}
 use Rattle.refinement.specs.Relation.{StateRelation}
-use Rattle.refinement.specs.Driver.{MayStore, LeavesUses, DriverState, DriverRelation, IsBacked, IsBackedByDeviceAlone}
+use Rattle.refinement.specs.Driver.{MayStore, KeepsSlotStates, DriverState, DriverRelation, TapeBacksSteps, IsBackedByDeviceAlone}
 use Rattle.refinement.specs.Simulation.{SimulatesSteps}
 use Rattle.refinement.specs.Tape.{TellsEntry, TapeTells, TellsDeviceSteps, NoneByDevice}
 use Rattle.refinement.proofs.steps.AdapterCalls.{read_follows, load_follows, store_follows}
@@ -63,63 +63,63 @@ among_append m (entry ∷ entries) then early late a b = (
   ap (λ (steps : List Step). late ++ steps) a.6 ∙ sym (append_assoc late a.2 (a.1 ++ a.0)),
 )
 
-pub backed_then : (old mid new : Device) (m : Machine) (early late : List Step) → IsBacked old mid m early → IsBacked mid new (left.after m early) late → IsBacked old new m (late ++ early)
+pub backed_then : (old mid new : Device) (m : Machine) (early late : List Step) → TapeBacksSteps old mid m early → TapeBacksSteps mid new (left.after m early) late → TapeBacksSteps old new m (late ++ early)
 backed_then old mid new m early late a b = record {
-  telling = b.telling ∙ a.telling;
+  telling_is_same = b.telling_is_same ∙ a.telling_is_same;
   new_entries = a.new_entries ++ b.new_entries;
   tape_is = b.tape_is ∙ (ap (λ t. t ++ b.new_entries) a.tape_is ∙ append_assoc old.tape a.new_entries b.new_entries);
   tells_device_steps = among_append m a.new_entries b.new_entries early late a.tells_device_steps b.tells_device_steps;
-  steps_are_faithful = λ t. told_append m late early (a.steps_are_faithful t) (b.steps_are_faithful (a.telling ∙ t));
-  plugged = λ q.
-      let x = a.plugged q in
-      let y = b.plugged q in
-      (x.0 ++ y.0, y.1 ∙ ap (λ (l : List device.Disk). l ++ y.0) x.1 ∙ append_assoc (old.port q).plugged x.0 y.0, puts_append q x.0 y.0 early late x.2 y.2);
+  steps_are_faithful = λ t. told_append m late early (a.steps_are_faithful t) (b.steps_are_faithful (a.telling_is_same ∙ t));
+  plugged_disks_match_steps = λ q.
+      let x = a.plugged_disks_match_steps q in
+      let y = b.plugged_disks_match_steps q in
+      (x.0 ++ y.0, y.1 ∙ ap (λ (l : List device.Disk). l ++ y.0) x.1 ∙ append_assoc (old.port q).plug_history x.0 y.0, puts_append q x.0 y.0 early late x.2 y.2);
 }
 
-pub backed : (uses : SlotStates) (m : Machine) (old new : Device) → (f : SimulatesSteps uses m old new) → IsBacked old new m f.steps
-backed uses m old new f = record { telling = f.telling; new_entries = f.new_entries; tape_is = f.tape_is; tells_device_steps = tells_among m f.new_entries f.steps f.tape_tells_steps; steps_are_faithful = f.steps_are_faithful; plugged = f.plugged }
+pub backed : (uses : SlotStates) (m : Machine) (old new : Device) → (f : SimulatesSteps uses m old new) → TapeBacksSteps old new m f.steps
+backed uses m old new f = record { telling_is_same = f.telling_is_same; new_entries = f.new_entries; tape_is = f.tape_is; tells_device_steps = tells_among m f.new_entries f.steps f.tape_tells_steps; steps_are_faithful = f.steps_are_faithful; plugged_disks_match_steps = f.plugged_disks_match_steps }
 
 pub told_then : (old mid new : Device) (m : Machine) (early late : List Step) → IsBackedByDeviceAlone old mid m early → IsBackedByDeviceAlone mid new (left.after m early) late → IsBackedByDeviceAlone old new m (late ++ early)
-told_then old mid new m early late a b = record { is_backed = backed_then old mid new m early late a.is_backed b.is_backed; only = device_append late early b.only a.only }
+told_then old mid new m early late a b = record { is_backed = backed_then old mid new m early late a.is_backed b.is_backed; all_steps_are_devices = device_append late early b.all_steps_are_devices a.all_steps_are_devices }
 
-pub nothing_backed : (d : Device) (m : Machine) → IsBacked d d m []
+pub nothing_backed : (d : Device) (m : Machine) → TapeBacksSteps d d m []
 nothing_backed d m = record {
-  telling = refl;
+  telling_is_same = refl;
   new_entries = [];
   tape_is = sym (append-nil d.tape);
   tells_device_steps = tt;
   steps_are_faithful = λ _. tt;
-  plugged = λ q. ([], sym (append-nil (d.port q).plugged), refl);
+  plugged_disks_match_steps = λ q. ([], sym (append-nil (d.port q).plug_history), refl);
 }
 
 -- what is followed is known
-pub knowing_goes_on : (k : DriverState) (m : Machine) (new : Device) → DriverRelation m k → (f : SimulatesSteps k.uses m k.device new) →
+pub knowing_goes_on : (k : DriverState) (m : Machine) (new : Device) → DriverRelation m k → (f : SimulatesSteps k.slot_states m k.device new) →
     DriverRelation (left.after m f.steps) (record k { device = new }) × IsBackedByDeviceAlone k.device new m f.steps
 knowing_goes_on k m new x f = (
-  record { state_relation = f.agrees; have_slots = λ port. follows_have k.uses m k.device new f port (k.parked port) (x.have_slots port) },
-  record { is_backed = backed k.uses m k.device new f; only = tells_device m f.new_entries f.steps f.tape_tells_steps },
+  record { state_relation = f.state_relation; have_slots = λ port. follows_have k.slot_states m k.device new f port (k.awaiting_disposition port) (x.have_slots port) },
+  record { is_backed = backed k.slot_states m k.device new f; all_steps_are_devices = tells_device m f.new_entries f.steps f.tape_tells_steps },
 )
 
 -- what is followed, with the slots as they were used
-pub follows_adds : (k : DriverState) (new : Device) → ((m : Machine) → IsReachable m → StateRelation k.uses m k.device → SimulatesSteps k.uses m k.device new) →
+pub follows_adds : (k : DriverState) (new : Device) → ((m : Machine) → IsReachable m → StateRelation k.slot_states m k.device → SimulatesSteps k.slot_states m k.device new) →
     IsSimulatedBySteps DriverRelation k (record k { device = new }) (IsBackedByDeviceAlone k.device new)
 follows_adds k new f = record {
   simulates = λ m r x.
       let y = f m r x.state_relation in
-      (y.steps, y.may, record { state_relation = y.agrees; have_slots = λ port. follows_have k.uses m k.device new y port (k.parked port) (x.have_slots port) }, record { is_backed = backed k.uses m k.device new y; only = tells_device m y.new_entries y.steps y.tape_tells_steps });
+      (y.steps, y.steps_are_enabled, record { state_relation = y.state_relation; have_slots = λ port. follows_have k.slot_states m k.device new y port (k.awaiting_disposition port) (x.have_slots port) }, record { is_backed = backed k.slot_states m k.device new y; all_steps_are_devices = tells_device m y.new_entries y.steps y.tape_tells_steps });
 }
 
 pub device_adds : (k : DriverState) (new : Device) → Steps k.device new → IsSimulatedBySteps DriverRelation k (record k { device = new }) (IsBackedByDeviceAlone k.device new)
-device_adds k new s = follows_adds k new (λ m r a. steps_follow k.uses m k.device new r a s)
+device_adds k new s = follows_adds k new (λ m r a. steps_follow k.slot_states m k.device new r a s)
 
 pub read_adds : (k : DriverState) (r : Reg) (v : ℕ) (new : Device) → Reads r v k.device new → IsSimulatedBySteps DriverRelation k (record k { device = new }) (IsBackedByDeviceAlone k.device new)
-read_adds k r v new call = follows_adds k new (λ m reached a. read_follows k.uses m r v k.device new reached a call)
+read_adds k r v new call = follows_adds k new (λ m reached a. read_follows k.slot_states m r v k.device new reached a call)
 
 pub load_adds : (k : DriverState) (at : ℕ) (bytes : List ℕ) (new : Device) → Loads at bytes k.device new → IsSimulatedBySteps DriverRelation k (record k { device = new }) (IsBackedByDeviceAlone k.device new)
-load_adds k at bytes new call = follows_adds k new (λ m reached a. load_follows k.uses m at bytes k.device new reached a call)
+load_adds k at bytes new call = follows_adds k new (λ m reached a. load_follows k.slot_states m at bytes k.device new reached a call)
 
-pub store_adds : (k : DriverState) (at : ℕ) (bytes : List ℕ) (new : Device) → MayStore k.uses at (length bytes) → Stores at bytes k.device new → IsSimulatedBySteps DriverRelation k (record k { device = new }) (IsBackedByDeviceAlone k.device new)
-store_adds k at bytes new may call = follows_adds k new (λ m reached a. store_follows k.uses m at bytes k.device new reached a may call)
+pub store_adds : (k : DriverState) (at : ℕ) (bytes : List ℕ) (new : Device) → MayStore k.slot_states at (length bytes) → Stores at bytes k.device new → IsSimulatedBySteps DriverRelation k (record k { device = new }) (IsBackedByDeviceAlone k.device new)
+store_adds k at bytes new may call = follows_adds k new (λ m reached a. store_follows k.slot_states m at bytes k.device new reached a may call)
 
-pub write_adds : (k : DriverState) (r : Reg) (v : ℕ) (new : Device) → IsStable (MayWrite r v) k.device → LeavesUses k.uses r v k.device → Writes r v k.device new → IsSimulatedBySteps DriverRelation k (record k { device = new }) (IsBackedByDeviceAlone k.device new)
-write_adds k r v new may x call = follows_adds k new (λ m reached a. write_follows k.uses m r v k.device new reached a may x call)
+pub write_adds : (k : DriverState) (r : Reg) (v : ℕ) (new : Device) → IsStable (MayWrite r v) k.device → KeepsSlotStates k.slot_states r v k.device → Writes r v k.device new → IsSimulatedBySteps DriverRelation k (record k { device = new }) (IsBackedByDeviceAlone k.device new)
+write_adds k r v new may x call = follows_adds k new (λ m reached a. write_follows k.slot_states m r v k.device new reached a may x call)

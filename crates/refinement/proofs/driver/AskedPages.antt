@@ -8,7 +8,7 @@ use Rattle.std.proofs.lemmas.Option.{none-some, same_Some}
 use Rattle.adapter.specs.Access.{Access, Does}
 use Rattle.adapter.specs.Commands.{Meaning, is_queued}
 use Rattle.adapter.specs.Device.{FetchedCommand, DevicePort, Device}
-use Rattle.adapter.specs.KeptBySteps.{Keeps, KeepsPort}
+use Rattle.adapter.specs.KeptBySteps.{KeepsOverSteps, PortBitsOnlyFall}
 use Rattle.adapter.specs.Memory.{changed}
 use Rattle.adapter.specs.Steps.{Can, device_after, TransitionsLead, Steps, MayMove, block_after, move_of}
 use Rattle.adapter.specs.Steps as steps
@@ -23,8 +23,8 @@ use Rattle.block_machine.specs.State.{Machine}
 use Rattle.refinement.specs.StepLaws.{StepLaws}
 use Rattle.refinement.specs.Relation.{StateRelation}
 use Rattle.refinement.specs.Simulation.{SimulatesSteps}
-use Rattle.refinement.specs.MemoryLayout.{scratch_of}
-use Rattle.refinement.specs.Slots.{SlotState, Free, Own, Serves, SlotStates, IsMove, OwnAwaitsFetch, OwnIsTaken, OwnIsOver, ServesOwn, IsOver, RelatesSlot, op_of, Armed}
+use Rattle.refinement.specs.MemoryLayout.{scratch_frame_address}
+use Rattle.refinement.specs.Slots.{SlotState, Free, Own, Serves, SlotStates, IsMove, OwnAwaitsFetch, OwnIsTaken, OwnIsOver, ServesOwn, IsOver, RelatesSlot, client_operation_of, Armed}
 use Rattle.refinement.specs.Tape.{OneAtMost}
 use Rattle.refinement.proofs.device.FactsOverAccesses.{access_steps}
 use Rattle.refinement.proofs.steps.EndedCommand.{own_clear}
@@ -40,23 +40,23 @@ IsSpent p = IsOver p 0 ⊎ ((t : FetchedCommand) × (p.taken 0 ≡ Some t) × (t
 
 -- ---- a step
 
-module _ (laws : StepLaws) (uses : SlotStates) (m : Machine) (d : Device) (a : StateRelation uses m d) (port : ℕ) (o : Operation) (own : op_of o ≡ None) where
+module _ (laws : StepLaws) (uses : SlotStates) (m : Machine) (d : Device) (a : StateRelation uses m d) (port : ℕ) (o : Operation) (own : client_operation_of o ≡ None) where
   -- a page that comes is of the command in slot 0
   page_asked : (p slot : ℕ) (t : FetchedCommand) (bytes : List ℕ) → MayMove d p slot t bytes → IsMove port o (entry.Move (move_of p slot t bytes)) →
       (uses port 0 ≡ Own o) × (p ≡ port) × (slot ≡ 0)
   page_asked p slot t bytes can x = by (uses p slot) refl (a.relates_slots p slot)
     where
       by : (u : SlotState) → uses p slot ≡ u → RelatesSlot m d.memory d.tape (d.port p) p slot u → (uses port 0 ≡ Own o) × (p ≡ port) × (slot ≡ 0)
-      by Free u h = absurd (none-some _ (sym h.free ∙ can.works.taken))
-      by Armed u h = absurd (none-some _ (sym h.free ∙ can.works.taken))
+      by Free u h = absurd (none-some _ (sym h.is_not_taken ∙ can.works.taken))
+      by Armed u h = absurd (none-some _ (sym h.is_not_taken ∙ can.works.taken))
       by (Serves id) u h =
           let known : TakenAs d.memory (d.port p) p slot h.pending h.command h.places t = taken_as d.memory (d.port p) p slot h.pending h.command h.places t can.works.taken h.stage in
-          none_op (sym own ∙ ap op_of (sym x.1) ∙ ap (λ (c : Meaning). op_of c.operation) known.meaning ∙ h.means.op_is)
+          none_op (sym own ∙ ap client_operation_of (sym x.1) ∙ ap (λ (c : Meaning). client_operation_of c.operation) known.meaning ∙ h.means.op_is)
       by (Own w) u h = of h.stage
         where
           of : OwnAwaitsFetch (d.port p) slot ⊎ (OwnIsTaken d.memory d.tape (d.port p) p slot h.command ⊎ OwnIsOver d.memory d.tape (d.port p) p slot h.command) → (uses port 0 ≡ Own o) × (p ≡ port) × (slot ≡ 0)
-          of (inl y) = absurd (none-some _ (sym y.free ∙ can.works.taken))
-          of (inr (inr y)) = absurd (none-some _ (sym y.over.free ∙ can.works.taken))
+          of (inl y) = absurd (none-some _ (sym y.is_not_taken ∙ can.works.taken))
+          of (inr (inr y)) = absurd (none-some _ (sym y.over.is_not_taken ∙ can.works.taken))
           of (inr (inl y)) =
               let same : y.command ≡ t = same_Some _ _ (sym y.taken ∙ can.works.taken) in
               let is : w ≡ o = sym h.operation_is ∙ ap (λ (c : Meaning). c.operation) (sym y.meaning) ∙ ap (λ (z : FetchedCommand). z.meaning.operation) same ∙ x.1 in
@@ -84,18 +84,18 @@ module _ (laws : StepLaws) (uses : SlotStates) (m : Machine) (d : Device) (a : S
       left = can.piece_is_left
 
       unspent : IsSpent (d.port port) → ⊥
-      unspent (inl over) = absurd (none-some _ (sym over.free ∙ taken))
+      unspent (inl over) = absurd (none-some _ (sym over.is_not_taken ∙ taken))
       unspent (inr (z, there, all)) =
           let full : t.moved ≡ length t.places = subst (λ (y : FetchedCommand). y.moved ≡ length y.places) (same_Some _ _ (sym there ∙ taken)) all in
           let l = left in
           omega (arith, full, l)
 
       of : OwnAwaitsFetch (d.port port) 0 ⊎ (OwnIsTaken d.memory d.tape (d.port port) port 0 served.command ⊎ OwnIsOver d.memory d.tape (d.port port) port 0 served.command) → IsSpent ((device_after (Move p slot t bytes) d).port port)
-      of (inl y) = absurd (none-some _ (sym y.free ∙ taken))
-      of (inr (inr y)) = absurd (none-some _ (sym y.over.free ∙ taken))
+      of (inl y) = absurd (none-some _ (sym y.is_not_taken ∙ taken))
+      of (inr (inr y)) = absurd (none-some _ (sym y.over.is_not_taken ∙ taken))
       of (inr (inl y)) =
           let same : y.command ≡ t = same_Some _ _ (sym y.taken ∙ taken) in
-          let places : t.places ≡ scratch_of port ∷ [] = ap (λ (z : FetchedCommand). z.places) (sym same) ∙ y.places_are in
+          let places : t.places ≡ scratch_frame_address port ∷ [] = ap (λ (z : FetchedCommand). z.places) (sym same) ∙ y.places_are in
           let one : length t.places ≡ 1 = ap length places in
           let l = left in
           at_port (λ q. Unit {0}) IsSpent d p port _ tt
@@ -134,8 +134,8 @@ module _ (laws : StepLaws) (uses : SlotStates) (m : Machine) (d : Device) (a : S
   -- and it goes on having none
   step_spent : (uses port 0 ≡ Own o) → (step : steps.DeviceTransition) → Can step d → IsSpent (d.port port) → IsSpent ((device_after step d).port port)
   step_spent u step can (inl over) =
-      let k : KeepsPort (d.port port) ((device_after step d).port port) = (laws.step step _ can).ports_are_kept port in
-      inl (record { issued = k.ci 0 over.issued; free = k.slots_stay_free 0 over.issued over.free })
+      let k : PortBitsOnlyFall (d.port port) ((device_after step d).port port) = (laws.one_step_keeps step _ can).ports_are_kept port in
+      inl (record { is_not_issued = k.ci_stays_clear 0 over.is_not_issued; is_not_taken = k.slots_stay_free 0 over.is_not_issued over.is_not_taken })
   step_spent u step can (inr (t, is, all)) = by step can
     where
       served : ServesOwn d.memory d.tape (d.port port) port 0 o
@@ -145,14 +145,14 @@ module _ (laws : StepLaws) (uses : SlotStates) (m : Machine) (d : Device) (a : S
       taken = of served.stage
         where
           of : OwnAwaitsFetch (d.port port) 0 ⊎ (OwnIsTaken d.memory d.tape (d.port port) port 0 served.command ⊎ OwnIsOver d.memory d.tape (d.port port) port 0 served.command) → OwnIsTaken d.memory d.tape (d.port port) port 0 served.command
-          of (inl y) = absurd (none-some _ (sym y.free ∙ is))
+          of (inl y) = absurd (none-some _ (sym y.is_not_taken ∙ is))
           of (inr (inl y)) = y
-          of (inr (inr y)) = absurd (none-some _ (sym y.over.free ∙ is))
+          of (inr (inr y)) = absurd (none-some _ (sym y.over.is_not_taken ∙ is))
 
       plain : is_queued t.meaning.operation ≡ false
       plain =
           let same : taken.command ≡ t = same_Some _ _ (sym taken.taken ∙ is) in
-          own_plain t.meaning.operation (ap (λ (z : FetchedCommand). op_of z.meaning.operation) (sym same) ∙ ap (λ (c : Meaning). op_of c.operation) taken.meaning ∙ ap op_of served.operation_is ∙ own)
+          own_plain t.meaning.operation (ap (λ (z : FetchedCommand). client_operation_of z.meaning.operation) (sym same) ∙ ap (λ (c : Meaning). client_operation_of c.operation) taken.meaning ∙ ap client_operation_of served.operation_is ∙ own)
 
       -- what slot 0 has taken is the same, or another slot's changed
       still : (p : ℕ) (new : DevicePort) → (p ≡ port → new.taken 0 ≡ (d.port p).taken 0) → IsSpent (changed d.port p new port)
@@ -180,16 +180,16 @@ module _ (laws : StepLaws) (uses : SlotStates) (m : Machine) (d : Device) (a : S
       by (Done p slot flag z) can = ⊎_elim
           (λ (f : slot ≡ 0). at_port (λ x. x.taken 0 ≡ Some t) IsSpent d p port _ is
           (λ e x. inl (subst (λ (s : ℕ). IsOver (steps.port_after_flush (steps.port_after_done (d.port p) s flag z.meaning.operation) z.meaning.operation (length d.tape)) 0) (sym f) (record {
-            issued = own_clear (is_queued z.meaning.operation) (d.port p).ci 0 (subst (λ (y : FetchedCommand). is_queued y.meaning.operation ≡ false) (at_slot p slot z e f can.works.taken) plain);
-            free = changed_same (d.port p).taken 0 None;
+            is_not_issued = own_clear (is_queued z.meaning.operation) (d.port p).ci 0 (subst (λ (y : FetchedCommand). is_queued y.meaning.operation ≡ false) (at_slot p slot z e f can.works.taken) plain);
+            is_not_taken = changed_same (d.port p).taken 0 None;
           })))
           (λ ne x. inr (t, x, all)))
           (λ (ne : slot ≡ 0 → ⊥). slot_still p slot _ _ (λ e f. ne f) refl)
           (cases_eq slot 0)
       by (Fall p) can = at_port (λ x. x.ci 0 ≡ x.st) IsSpent d p port _ taken.issued
-          (λ e x. inl (record { issued = x ∙ can.0; free = refl }))
+          (λ e x. inl (record { is_not_issued = x ∙ can.0; is_not_taken = refl }))
           (λ ne x. inr (t, is, all))
-      by ResetEnds can = inl (record { issued = refl; free = refl })
+      by ResetEnds can = inl (record { is_not_issued = refl; is_not_taken = refl })
       by (FetchFault p slot queued kept_bits) can = still p _ (λ e. refl)
       by (Fault p slot error kept_bits z) can = still p _ (λ e. refl)
       by (Fatal p place) can = still p _ (λ e. refl)
@@ -201,7 +201,7 @@ module _ (laws : StepLaws) (uses : SlotStates) (m : Machine) (d : Device) (a : S
 
 -- ---- lists of steps
 
-module _ (laws : StepLaws) (uses : SlotStates) (port : ℕ) (o : Operation) (own : op_of o ≡ None) where
+module _ (laws : StepLaws) (uses : SlotStates) (port : ℕ) (o : Operation) (own : client_operation_of o ≡ None) where
   no_pages : NoneOf (IsMove port o) []
   no_pages = All-nil (λ e. IsMove port o e → ⊥)
 
@@ -213,11 +213,11 @@ module _ (laws : StepLaws) (uses : SlotStates) (port : ℕ) (o : Operation) (own
   leads_none m [] old new r a e spent gained is = subst (NoneOf (IsMove port o)) (sym (nothing_gained old new gained e is)) no_pages
   leads_none m (step ∷ steps) old new r a (can, lead) spent gained is =
       let f : SimulatesSteps uses m old (device_after step old) = step_follows uses m old step r a can in
-      let later = laws.keeps _ _ (record { steps = steps; lead = lead }) in
+      let later = laws.steps_keep _ _ (record { steps = steps; lead = lead }) in
       subst (NoneOf (IsMove port o)) (sym (gained_parts old.tape (device_after step old).tape new.tape f.new_entries later.new_entries gained f.tape_is later.tape_grows is))
       (All-append (λ e. IsMove port o e → ⊥) f.new_entries later.new_entries
       (first f.new_entries (step_gains laws uses m old a port o own step can f.new_entries f.tape_is))
-      (leads_none (left.after m f.steps) steps (device_after step old) new (laws.reached m f.steps r f.may) f.agrees lead (λ u. step_spent laws uses m old a port o own u step can (spent u)) later.new_entries later.tape_grows))
+      (leads_none (left.after m f.steps) steps (device_after step old) new (laws.reachable_goes_on m f.steps r f.steps_are_enabled) f.state_relation lead (λ u. step_spent laws uses m old a port o own u step can (spent u)) later.new_entries later.tape_grows))
     where
       first : (entries : List Entry) → (Gains laws) uses m old a port o own (device_after step old) entries → NoneOf (IsMove port o) entries
       first entries (inl e) = subst (NoneOf (IsMove port o)) (sym e) no_pages
@@ -227,11 +227,11 @@ module _ (laws : StepLaws) (uses : SlotStates) (port : ℕ) (o : Operation) (own
   leads_once m [] old new r a e gained is = subst (OneAtMost (IsMove port o)) (sym (nothing_gained old new gained e is)) tt
   leads_once m (step ∷ steps) old new r a (can, lead) gained is =
       let f : SimulatesSteps uses m old (device_after step old) = step_follows uses m old step r a can in
-      let later = laws.keeps _ _ (record { steps = steps; lead = lead }) in
+      let later = laws.steps_keep _ _ (record { steps = steps; lead = lead }) in
       subst (OneAtMost (IsMove port o)) (sym (gained_parts old.tape (device_after step old).tape new.tape f.new_entries later.new_entries gained f.tape_is later.tape_grows is))
       (first f.new_entries later.new_entries (step_gains laws uses m old a port o own step can f.new_entries f.tape_is)
-      (λ spent. leads_none (left.after m f.steps) steps (device_after step old) new (laws.reached m f.steps r f.may) f.agrees lead (λ u. spent) later.new_entries later.tape_grows)
-      (leads_once (left.after m f.steps) steps (device_after step old) new (laws.reached m f.steps r f.may) f.agrees lead later.new_entries later.tape_grows))
+      (λ spent. leads_none (left.after m f.steps) steps (device_after step old) new (laws.reachable_goes_on m f.steps r f.steps_are_enabled) f.state_relation lead (λ u. spent) later.new_entries later.tape_grows)
+      (leads_once (left.after m f.steps) steps (device_after step old) new (laws.reachable_goes_on m f.steps r f.steps_are_enabled) f.state_relation lead later.new_entries later.tape_grows))
     where
       first : (entries later : List Entry) → (Gains laws) uses m old a port o own (device_after step old) entries → (IsSpent ((device_after step old).port port) → NoneOf (IsMove port o) later) → OneAtMost (IsMove port o) later → OneAtMost (IsMove port o) (entries ++ later)
       first entries later (inl e) none once = subst (λ (l : List Entry). OneAtMost (IsMove port o) (l ++ later)) (sym e) once
@@ -239,30 +239,30 @@ module _ (laws : StepLaws) (uses : SlotStates) (port : ℕ) (o : Operation) (own
 
 -- ---- accesses
 
-pub pages_asked : StepLaws → (uses : SlotStates) (m : Machine) (old new : Device) (port : ℕ) (o : Operation) (gained : List Entry) → IsReachable m → StateRelation uses m old → Steps old new → new.tape ≡ old.tape ++ gained → op_of o ≡ None →
+pub pages_asked : StepLaws → (uses : SlotStates) (m : Machine) (old new : Device) (port : ℕ) (o : Operation) (gained : List Entry) → IsReachable m → StateRelation uses m old → Steps old new → new.tape ≡ old.tape ++ gained → client_operation_of o ≡ None →
     (uses port 0 ≡ Own o → IsOver (old.port port) 0) → All (λ e. IsMove port o e → ⊥) gained
 pages_asked laws uses m old new port o gained r a s is own over = leads_none laws uses port o own m s.steps old new r a s.lead (λ u. inl (over u)) gained is
 
-pub pages_once : StepLaws → (uses : SlotStates) (m : Machine) (old new : Device) (port : ℕ) (o : Operation) (gained : List Entry) → IsReachable m → StateRelation uses m old → Steps old new → new.tape ≡ old.tape ++ gained → op_of o ≡ None →
+pub pages_once : StepLaws → (uses : SlotStates) (m : Machine) (old new : Device) (port : ℕ) (o : Operation) (gained : List Entry) → IsReachable m → StateRelation uses m old → Steps old new → new.tape ≡ old.tape ++ gained → client_operation_of o ≡ None →
     OneAtMost (IsMove port o) gained
 pages_once laws uses m old new port o gained r a s is own = leads_once laws uses port o own m s.steps old new r a s.lead gained is
 
-pub access_pages_asked : StepLaws → (uses : SlotStates) (m : Machine) (access : Access) (old new : Device) (port : ℕ) (o : Operation) (gained : List Entry) → IsReachable m → StateRelation uses m old → Does access old new → new.tape ≡ old.tape ++ gained → op_of o ≡ None →
+pub access_pages_asked : StepLaws → (uses : SlotStates) (m : Machine) (access : Access) (old new : Device) (port : ℕ) (o : Operation) (gained : List Entry) → IsReachable m → StateRelation uses m old → Does access old new → new.tape ≡ old.tape ++ gained → client_operation_of o ≡ None →
     (uses port 0 ≡ Own o → IsOver (old.port port) 0) → All (λ e. IsMove port o e → ⊥) gained
 access_pages_asked laws uses m access old new port o gained r a x is own over =
     let s = access_steps access old new x in
     (pages_asked laws) uses m old s.0 port o gained r a s.1 (sym s.2 ∙ is) own over
 
 -- where slot 0 has no command for such a page
-pub access_sends_none : StepLaws → (uses : SlotStates) (m : Machine) (access : Access) (old new : Device) (port : ℕ) (o : Operation) → IsReachable m → StateRelation uses m old → Does access old new → op_of o ≡ None →
+pub access_sends_none : StepLaws → (uses : SlotStates) (m : Machine) (access : Access) (old new : Device) (port : ℕ) (o : Operation) → IsReachable m → StateRelation uses m old → Does access old new → client_operation_of o ≡ None →
     (uses port 0 ≡ Own o → ⊥) → GainsNone (IsMove port o) old new
 access_sends_none laws uses m access old new port o r a x own none =
     let s = access_steps access old new x in
-    let k : Keeps old s.0 = laws.keeps _ _ s.1 in
+    let k : KeepsOverSteps old s.0 = laws.steps_keep _ _ s.1 in
     let is : new.tape ≡ old.tape ++ k.new_entries = s.2 ∙ k.tape_grows in
     (k.new_entries, is, access_pages_asked laws uses m access old new port o k.new_entries r a x is own (λ u. absurd (none u)))
 
-pub access_pages_once : StepLaws → (uses : SlotStates) (m : Machine) (access : Access) (old new : Device) (port : ℕ) (o : Operation) (gained : List Entry) → IsReachable m → StateRelation uses m old → Does access old new → new.tape ≡ old.tape ++ gained → op_of o ≡ None →
+pub access_pages_once : StepLaws → (uses : SlotStates) (m : Machine) (access : Access) (old new : Device) (port : ℕ) (o : Operation) (gained : List Entry) → IsReachable m → StateRelation uses m old → Does access old new → new.tape ≡ old.tape ++ gained → client_operation_of o ≡ None →
     OneAtMost (IsMove port o) gained
 access_pages_once laws uses m access old new port o gained r a x is own =
     let s = access_steps access old new x in

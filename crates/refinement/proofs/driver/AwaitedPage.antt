@@ -13,10 +13,10 @@ use Rattle.adapter.specs.Access.{Access, Does, Reads, Writes, Loads, port_after_
 use Rattle.adapter.specs.Access.Access.{Writing}
 use Rattle.adapter.specs.Commands.{Meaning, is_queued}
 use Rattle.adapter.specs.Device.{FetchedCommand, DevicePort, Device}
-use Rattle.adapter.specs.KeptBySteps.{Keeps, KeepsOutsideReset}
+use Rattle.adapter.specs.KeptBySteps.{KeepsOverSteps, KeepsOutsideReset}
 use Rattle.adapter.specs.Memory.{changed}
 use Rattle.adapter.specs.Decoding.{DecodesTo}
-use Rattle.adapter.specs.Steps.{DeviceTransition, Can, device_after, TransitionsLead, Steps, begun, move_of}
+use Rattle.adapter.specs.Steps.{DeviceTransition, Can, device_after, TransitionsLead, Steps, newly_fetched, move_of}
 use Rattle.adapter.specs.Steps.DeviceTransition.{Fetch, FetchFault, Move, Clear, Done, Fault, Fatal, Fall, FrFall, LinkUp, Unplug, Plug, ResetEnds, Scribble}
 use Rattle.adapter.specs.declared.command.Operation.{Operation}
 use Rattle.adapter.specs.declared.tape.Entry.{Entry}
@@ -29,12 +29,12 @@ use Rattle.block_machine.specs.Expected as left
 use Rattle.block_machine.specs.State.{Machine}
 use Rattle.refinement.specs.StepLaws.{StepLaws}
 use Rattle.refinement.specs.Relation.{StateRelation}
-use Rattle.refinement.specs.AwaitedPage.{HasMovedNothing, PageHasCome, AwaitsPage}
+use Rattle.refinement.specs.AwaitedPage.{Slot0HasMovedNothing, PageHasCome, AwaitsOrHasPage}
 use Rattle.refinement.specs.Driver.{IsOwnPrepared}
 use Rattle.refinement.specs.PortFacts.{FindsOwnPage}
 use Rattle.refinement.specs.Simulation.{SimulatesSteps}
-use Rattle.refinement.specs.MemoryLayout.{scratch_of}
-use Rattle.refinement.specs.Slots.{SlotState, Own, SlotStates, set_slot_state, IsMove, IsOver, PageStandsInScratch, OwnAwaitsFetch, OwnIsTaken, OwnIsOver, ServesOwn, RelatesSlot, op_of}
+use Rattle.refinement.specs.MemoryLayout.{scratch_frame_address}
+use Rattle.refinement.specs.Slots.{SlotState, Own, SlotStates, set_slot_state, IsMove, IsOver, PageStandsInScratch, OwnAwaitsFetch, OwnIsTaken, OwnIsOver, ServesOwn, RelatesSlot, client_operation_of}
 use Rattle.refinement.specs.StartedPort.{ClearsNoStart}
 use Rattle.refinement.proofs.driver.IssueWrite.{own_prepared_stays}
 use Rattle.refinement.proofs.device.FactsOverAccesses.{access_steps, effect_keeps}
@@ -90,13 +90,13 @@ brought_since : (memory : ℕ → ℕ) (tape : List Entry) (port : ℕ) (o : Ope
 brought_since memory tape port o since n h b = (
   record {
     before = b.before;
-    came_since = (let a = h.came_since in let l = not_later (IsMove port o) b.before (entry.Move b.move) b.later h.before h.move h.later (sym b.tape_is_split ∙ h.tape_is_split) b.last h.is_move in omega (arith, a, l));
+    came_since = (let a = h.came_since in let l = not_later (IsMove port o) b.before (entry.Move b.move) b.later h.before h.move h.later (sym b.tape_is_split ∙ h.tape_is_split) b.no_later_move h.is_move in omega (arith, a, l));
     move = b.move;
     later = b.later;
     tape_is_split = b.tape_is_split;
     is_move = b.is_move;
-    last = b.last;
-    bytes = b.bytes;
+    no_later_move = b.no_later_move;
+    scratch_holds_page = b.scratch_holds_page;
   },
   refl,
 )
@@ -124,18 +124,18 @@ module _ (uses : SlotStates) (m : Machine) (d : Device) (a : StateRelation uses 
   served = subst (λ (v : SlotState). RelatesSlot m d.memory d.tape (d.port port) port 0 v) u (a.relates_slots port 0)
 
   -- what slot 0 has taken is the driver's command
-  taken_of : (t : FetchedCommand) → (d.port port).taken 0 ≡ Some t → (t.meaning ≡ served.command) × (t.places ≡ scratch_of port ∷ [])
+  taken_of : (t : FetchedCommand) → (d.port port).taken 0 ≡ Some t → (t.meaning ≡ served.command) × (t.places ≡ scratch_frame_address port ∷ [])
   taken_of t is = of served.stage
     where
-      of : OwnAwaitsFetch (d.port port) 0 ⊎ (OwnIsTaken d.memory d.tape (d.port port) port 0 served.command ⊎ OwnIsOver d.memory d.tape (d.port port) port 0 served.command) → (t.meaning ≡ served.command) × (t.places ≡ scratch_of port ∷ [])
-      of (inl y) = absurd (none-some _ (sym y.free ∙ is))
+      of : OwnAwaitsFetch (d.port port) 0 ⊎ (OwnIsTaken d.memory d.tape (d.port port) port 0 served.command ⊎ OwnIsOver d.memory d.tape (d.port port) port 0 served.command) → (t.meaning ≡ served.command) × (t.places ≡ scratch_frame_address port ∷ [])
+      of (inl y) = absurd (none-some _ (sym y.is_not_taken ∙ is))
       of (inr (inl y)) =
           let same : y.command ≡ t = same_Some _ _ (sym y.taken ∙ is) in
           (ap (λ (z : FetchedCommand). z.meaning) (sym same) ∙ y.meaning, ap (λ (z : FetchedCommand). z.places) (sym same) ∙ y.places_are)
-      of (inr (inr y)) = absurd (none-some _ (sym y.over.free ∙ is))
+      of (inr (inr y)) = absurd (none-some _ (sym y.over.is_not_taken ∙ is))
 
   plain : (c : Meaning) → c ≡ served.command → is_queued c.operation ≡ false
-  plain c same = own_plain c.operation (ap (λ (w : Meaning). op_of w.operation) same ∙ ap op_of served.operation_is ∙ served.own)
+  plain c same = own_plain c.operation (ap (λ (w : Meaning). client_operation_of w.operation) same ∙ ap client_operation_of served.operation_is ∙ served.operation_is_drivers_own)
 
   -- a step of this slot, or of another
   which : (p slot : ℕ) → ((p ≡ port) × (slot ≡ 0)) ⊎ (p ≡ port → slot ≡ 0 → ⊥)
@@ -167,9 +167,9 @@ module _ (uses : SlotStates) (m : Machine) (d : Device) (a : StateRelation uses 
 
   step_awaits : (step : DeviceTransition) → Can step d → Out (device_after step d)
   step_awaits (Fetch p slot c places) can = ⊎_elim
-      (λ x. inl (now p slot _ (begun c places) x
+      (λ x. inl (now p slot _ (newly_fetched c places) x
       (plain_left (is_queued c.operation) (d.port p).ci _
-      (plain c (says_meaning d.memory (d.port port).bases.clb 0 c served.command places (scratch_of port ∷ [])
+      (plain c (says_meaning d.memory (d.port port).bases.clb 0 c served.command places (scratch_frame_address port ∷ [])
       (subst (λ (q : ℕ). DecodesTo d.memory (d.port q).bases.clb 0 c places) x.0 (subst (λ (s : ℕ). DecodesTo d.memory (d.port p).bases.clb s c places) x.1 can.says)) served.slot_decodes_to.decodes_to)))
       refl refl))
       (λ ne. inl (still p _ (λ e. other_left (is_queued c.operation) (d.port p).ci slot (ne e)) (taken_beside p slot _ ne)))
@@ -214,31 +214,31 @@ module _ (uses : SlotStates) (m : Machine) (d : Device) (a : StateRelation uses 
 longer : (tape gained new : List Entry) (n : ℕ) → new ≡ tape ++ gained → n ≤ length tape → n ≤ length new
 longer tape gained new n is le = let l = length-append tape gained in let same : length new ≡ length (tape ++ gained) = ap length is in omega (arith, l, same, le)
 
-step_waits : StepLaws → (uses : SlotStates) (m : Machine) (port : ℕ) (o : Operation) (since : ℕ) (step : DeviceTransition) (d : Device) → StateRelation uses m d → Can step d → AwaitsPage uses port o since d → AwaitsPage uses port o since (device_after step d)
+step_waits : StepLaws → (uses : SlotStates) (m : Machine) (port : ℕ) (o : Operation) (since : ℕ) (step : DeviceTransition) (d : Device) → StateRelation uses m d → Can step d → AwaitsOrHasPage uses port o since d → AwaitsOrHasPage uses port o since (device_after step d)
 step_waits laws uses m port o since step d a can w =
-    let k : Keeps d (device_after step d) = laws.step step _ can in
+    let k : KeepsOverSteps d (device_after step d) = laws.one_step_keeps step _ can in
     let on : KeepsOutsideReset d (device_after step d) = k.keeps_outside_reset w.hr_is_clear in
     record {
       hr_is_clear = on.no_reset;
-      st = (on.controls port).st ∙ w.st;
-      own = w.own;
+      st_is_set = (on.controls_are_kept port).st_is_kept ∙ w.st_is_set;
+      slot_0_has_own_command = w.slot_0_has_own_command;
       since_is_on_tape = longer d.tape k.new_entries (device_after step d).tape since k.tape_grows w.since_is_on_tape;
       page_is_awaited_or_came = ⊎_elim
-          (λ (x : HasMovedNothing (d.port port)). ⊎_elim
+          (λ (x : Slot0HasMovedNothing (d.port port)). ⊎_elim
           (λ (y : Un ((device_after step d).port port)). inl (record { issued = y.0; unmoved = y.1 }))
           (λ (y : PageHasCome (device_after step d).tape port o (length d.tape)). inr (come_since (device_after step d).tape port o since (length d.tape) w.since_is_on_tape y))
-          (step_awaits uses m d a port o w.own w.hr_is_clear w.st (x.issued, x.unmoved) step can))
+          (step_awaits uses m d a port o w.slot_0_has_own_command w.hr_is_clear w.st_is_set (x.issued, x.unmoved) step can))
           (λ (x : PageHasCome d.tape port o since). inr (subst (λ (t : List Entry). PageHasCome t port o since) (sym k.tape_grows) (come_more d.tape k.new_entries port o since x)))
           w.page_is_awaited_or_came;
     }
 
-leads_wait : StepLaws → (uses : SlotStates) (m : Machine) (port : ℕ) (o : Operation) (since : ℕ) (steps : List DeviceTransition) (old new : Device) → IsReachable m → StateRelation uses m old → TransitionsLead steps old new → AwaitsPage uses port o since old → AwaitsPage uses port o since new
-leads_wait laws uses m port o since [] old new r a e w = subst (AwaitsPage uses port o since) (sym e) w
+leads_wait : StepLaws → (uses : SlotStates) (m : Machine) (port : ℕ) (o : Operation) (since : ℕ) (steps : List DeviceTransition) (old new : Device) → IsReachable m → StateRelation uses m old → TransitionsLead steps old new → AwaitsOrHasPage uses port o since old → AwaitsOrHasPage uses port o since new
+leads_wait laws uses m port o since [] old new r a e w = subst (AwaitsOrHasPage uses port o since) (sym e) w
 leads_wait laws uses m port o since (step ∷ steps) old new r a (can, lead) w =
     let f : SimulatesSteps uses m old (device_after step old) = step_follows uses m old step r a can in
-    leads_wait laws uses (left.after m f.steps) port o since steps (device_after step old) new (laws.reached m f.steps r f.may) f.agrees lead (step_waits laws uses m port o since step old a can w)
+    leads_wait laws uses (left.after m f.steps) port o since steps (device_after step old) new (laws.reachable_goes_on m f.steps r f.steps_are_enabled) f.state_relation lead (step_waits laws uses m port o since step old a can w)
 
-pub steps_wait : StepLaws → (uses : SlotStates) (m : Machine) (port : ℕ) (o : Operation) (since : ℕ) (old new : Device) → IsReachable m → StateRelation uses m old → Steps old new → AwaitsPage uses port o since old → AwaitsPage uses port o since new
+pub steps_wait : StepLaws → (uses : SlotStates) (m : Machine) (port : ℕ) (o : Operation) (since : ℕ) (old new : Device) → IsReachable m → StateRelation uses m old → Steps old new → AwaitsOrHasPage uses port o since old → AwaitsOrHasPage uses port o since new
 steps_wait laws uses m port o since old new r a s w = leads_wait laws uses m port o since s.steps old new r a s.lead w
 
 -- ---- accesses
@@ -267,18 +267,18 @@ written_un Ci v tape p on h = (or_left (p.ci 0) (bit v 0) h.0, h.1)
 written_un _ v tape p on h = h
 
 pub access_waits : StepLaws → (uses : SlotStates) (m : Machine) (port : Port) (o : Operation) (since : ℕ) (access : Access) (old new : Device) → IsReachable m → StateRelation uses m old → ClearsNoStart port access → new.hr ≡ false → Does access old new →
-    AwaitsPage uses port.0 o since old → AwaitsPage uses port.0 o since new
+    AwaitsOrHasPage uses port.0 o since old → AwaitsOrHasPage uses port.0 o since new
 access_waits laws uses m port o since access old new r a keeps off x w =
     let s = access_steps access old new x in
-    let y : AwaitsPage uses port.0 o since s.0 = steps_wait laws uses m port.0 o since old s.0 r a s.1 w in
+    let y : AwaitsOrHasPage uses port.0 o since s.0 = steps_wait laws uses m port.0 o since old s.0 r a s.1 w in
     record {
       hr_is_clear = off;
-      st = effect_keeps Runs port (λ p q v h. h) (λ p h. h) access old new x
-          (λ q v mid is steps h. written_runs q v (length mid.tape) (mid.port port.0) (λ e. keeps v (is ∙ ap (λ (z : PortReg). Writing (Px port z) v) e)) h) y.st;
-      own = w.own;
+      st_is_set = effect_keeps Runs port (λ p q v h. h) (λ p h. h) access old new x
+          (λ q v mid is steps h. written_runs q v (length mid.tape) (mid.port port.0) (λ e. keeps v (is ∙ ap (λ (z : PortReg). Writing (Px port z) v) e)) h) y.st_is_set;
+      slot_0_has_own_command = w.slot_0_has_own_command;
       since_is_on_tape = subst (λ (t : List Entry). since ≤ length t) (sym s.2) y.since_is_on_tape;
       page_is_awaited_or_came = ⊎_elim
-          (λ (z : HasMovedNothing (s.0.port port.0)).
+          (λ (z : Slot0HasMovedNothing (s.0.port port.0)).
           let n : Un (new.port port.0) = effect_keeps Un port (λ p q v h. h) (λ p h. h) access old new x
           (λ q v mid is steps h. written_un q v (length mid.tape) (mid.port port.0) (λ e. keeps v (is ∙ ap (λ (z : PortReg). Writing (Px port z) v) e)) h) (z.issued, z.unmoved) in
           inl (record { issued = n.0; unmoved = n.1 }))
@@ -289,41 +289,41 @@ access_waits laws uses m port o since access old new r a keeps off x w =
 -- ---- it is issued, found and loaded
 
 pub page_is_issued : StepLaws → (uses : SlotStates) (m : Machine) (port : Port) (o : Operation) (v : ℕ) (old new : Device) → IsReachable m → StateRelation uses m old → old.hr ≡ false → IsOwnPrepared uses old port.0 o v → Writes (Px port Ci) v old new →
-    AwaitsPage (set_slot_state uses port.0 0 (Own o)) port.0 o (length new.tape) new
+    AwaitsOrHasPage (set_slot_state uses port.0 0 (Own o)) port.0 o (length new.tape) new
 page_is_issued laws uses m port o v old new r a off x call =
-    let f : SimulatesSteps uses m old call.mid = steps_follow uses m old call.mid r a call.steps in
-    let y : IsOwnPrepared uses call.mid port.0 o v = own_prepared_stays uses m old call.mid port.0 o v r a off call.steps x in
-    let over : IsOver (call.mid.port port.0) 0 = own_over uses (left.after m f.steps) call.mid f.agrees port.0 o v y in
-    let is : new.port port.0 ≡ issued_port (call.mid.port port.0) v = ap (λ (d : Device). d.port port.0) call.effect ∙ changed_same call.mid.port port.0 _ in
+    let f : SimulatesSteps uses m old call.at_access = steps_follow uses m old call.at_access r a call.steps in
+    let y : IsOwnPrepared uses call.at_access port.0 o v = own_prepared_stays uses m old call.at_access port.0 o v r a off call.steps x in
+    let over : IsOver (call.at_access.port port.0) 0 = own_over uses (left.after m f.steps) call.at_access f.state_relation port.0 o v y in
+    let is : new.port port.0 ≡ issued_port (call.at_access.port port.0) v = ap (λ (d : Device). d.port port.0) call.effect ∙ changed_same call.at_access.port port.0 _ in
     record {
-      hr_is_clear = ap (λ (d : Device). d.hr) call.effect ∙ ((laws.keeps _ _ call.steps).keeps_outside_reset off).no_reset;
-      st = ap (λ (p : DevicePort). p.st) is ∙ y.st_is_set;
-      own = put_same uses port.0 0 (Own o);
+      hr_is_clear = ap (λ (d : Device). d.hr) call.effect ∙ ((laws.steps_keep _ _ call.steps).keeps_outside_reset off).no_reset;
+      st_is_set = ap (λ (p : DevicePort). p.st) is ∙ y.st_is_set;
+      slot_0_has_own_command = put_same uses port.0 0 (Own o);
       since_is_on_tape = le_refl (length new.tape);
       page_is_awaited_or_came = inl (record {
-        issued = ap (λ (p : DevicePort). p.ci 0) is ∙ or_right ((call.mid.port port.0).ci 0) (bit v 0) y.bit_is_set;
-        unmoved = λ t taken. absurd (none-some _ (sym over.free ∙ (sym (ap (λ (p : DevicePort). p.taken 0) is) ∙ taken)));
+        issued = ap (λ (p : DevicePort). p.ci 0) is ∙ or_right ((call.at_access.port port.0).ci 0) (bit v 0) y.bit_is_set;
+        unmoved = λ t taken. absurd (none-some _ (sym over.is_not_taken ∙ (sym (ap (λ (p : DevicePort). p.taken 0) is) ∙ taken)));
       });
     }
 
 -- the command isn't issued any more
-come_of : (uses : SlotStates) (port : ℕ) (o : Operation) (since : ℕ) (d : Device) → AwaitsPage uses port o since d → (d.port port).ci 0 ≡ false → PageHasCome d.tape port o since
-come_of uses port o since d w clear = ⊎_elim (λ (x : HasMovedNothing (d.port port)). absurd (both_ways _ clear x.issued)) (λ (x : PageHasCome d.tape port o since). x) w.page_is_awaited_or_came
+come_of : (uses : SlotStates) (port : ℕ) (o : Operation) (since : ℕ) (d : Device) → AwaitsOrHasPage uses port o since d → (d.port port).ci 0 ≡ false → PageHasCome d.tape port o since
+come_of uses port o since d w clear = ⊎_elim (λ (x : Slot0HasMovedNothing (d.port port)). absurd (both_ways _ clear x.issued)) (λ (x : PageHasCome d.tape port o since). x) w.page_is_awaited_or_came
 
-pub law_page_is_awaited : StepLaws → (uses : SlotStates) (m : Machine) (port : Port) (o : Operation) (since v : ℕ) (old new : Device) → IsReachable m → StateRelation uses m old → AwaitsPage uses port.0 o since old → Reads (Px port Ci) v old new → bit v 0 ≡ false →
+pub law_page_is_awaited : StepLaws → (uses : SlotStates) (m : Machine) (port : Port) (o : Operation) (since v : ℕ) (old new : Device) → IsReachable m → StateRelation uses m old → AwaitsOrHasPage uses port.0 o since old → Reads (Px port Ci) v old new → bit v 0 ≡ false →
     FindsOwnPage uses m port.0 o old new × PageStandsInScratch new.memory new.tape port.0 o since
 law_page_is_awaited laws uses m port o since v old new r a w call clear =
-    let page : FindsOwnPage uses m port.0 o old new = page_is_read laws uses m port o v old new r a w.hr_is_clear w.st w.own call clear in
-    let y : AwaitsPage uses port.0 o since call.mid = steps_wait laws uses m port.0 o since old call.mid r a call.steps w in
-    let come : PageHasCome call.mid.tape port.0 o since = come_of uses port.0 o since call.mid y (sym (call.shows 0 (omega arith)) ∙ clear) in
+    let page : FindsOwnPage uses m port.0 o old new = page_is_read laws uses m port o v old new r a w.hr_is_clear w.st_is_set w.slot_0_has_own_command call clear in
+    let y : AwaitsOrHasPage uses port.0 o since call.at_access = steps_wait laws uses m port.0 o since old call.at_access r a call.steps w in
+    let come : PageHasCome call.at_access.tape port.0 o since = come_of uses port.0 o since call.at_access y (sym (call.shows 0 (omega arith)) ∙ clear) in
     let there : PageHasCome new.tape port.0 o since = subst (λ (t : List Entry). PageHasCome t port.0 o since) (sym (ap (λ (d : Device). d.tape) call.effect)) come in
     (page, (brought_since new.memory new.tape port.0 o since (new.port port.0).notes.st_set_at there page.page_is_in_scratch).0)
 
-pub awaited_is_loaded : StepLaws → (uses : SlotStates) (m : Machine) (port : ℕ) (o : Operation) (since : ℕ) (bytes : List ℕ) (old new : Device) → IsReachable m → StateRelation uses m old → AwaitsPage uses port o since old → IsOver (old.port port) 0 →
-    Loads (scratch_of port) bytes old new → length bytes ≡ 512 → (b : PageStandsInScratch new.memory new.tape port o since) × (bytes ≡ b.move.bytes.value)
+pub awaited_is_loaded : StepLaws → (uses : SlotStates) (m : Machine) (port : ℕ) (o : Operation) (since : ℕ) (bytes : List ℕ) (old new : Device) → IsReachable m → StateRelation uses m old → AwaitsOrHasPage uses port o since old → IsOver (old.port port) 0 →
+    Loads (scratch_frame_address port) bytes old new → length bytes ≡ 512 → (b : PageStandsInScratch new.memory new.tape port o since) × (bytes ≡ b.move.bytes.value)
 awaited_is_loaded laws uses m port o since bytes old new r a w over call size =
-    let page = page_is_loaded laws uses m port o bytes old new r a w.hr_is_clear w.st w.own over call size in
-    let y : AwaitsPage uses port o since new = steps_wait laws uses m port o since old new r a call.steps w in
-    let come : PageHasCome new.tape port o since = come_of uses port o since new y (((laws.keeps _ _ call.steps).ports_are_kept port).ci 0 over.issued) in
+    let page = page_is_loaded laws uses m port o bytes old new r a w.hr_is_clear w.st_is_set w.slot_0_has_own_command over call size in
+    let y : AwaitsOrHasPage uses port o since new = steps_wait laws uses m port o since old new r a call.steps w in
+    let come : PageHasCome new.tape port o since = come_of uses port o since new y (((laws.steps_keep _ _ call.steps).ports_are_kept port).ci_stays_clear 0 over.is_not_issued) in
     let b = brought_since new.memory new.tape port o since (new.port port).notes.st_set_at come page.0.page_is_in_scratch in
     (b.0, page.1 ∙ ap (λ (x : tape_move.Move). x.bytes.value) (sym b.1))

@@ -20,7 +20,7 @@ use Rattle.block_machine.proofs.Configured.{owners_stay}
 use Rattle.block_machine.proofs.Limits.{owned}
 use Rattle.refinement.specs.StepLaws.{StepLaws}
 use Rattle.refinement.specs.Relation.{StateRelation}
-use Rattle.refinement.specs.Driver.{DriverState, DriverRelation, IsBacked, EndsInStep}
+use Rattle.refinement.specs.Driver.{DriverState, DriverRelation, TapeBacksSteps, EndsInOneStep}
 use Rattle.refinement.specs.Simulation.{SimulatesSteps}
 use Rattle.refinement.specs.Slots.{SlotStates}
 use Rattle.refinement.proofs.driver.AddedSteps.{backed, backed_then}
@@ -44,7 +44,7 @@ open_stays uses m old new f client frame offset n opens =
 -- the frame is a client's, and the bytes are in it
 pub open_in : (m : Machine) → IsReachable m → (client : ClientId) (frame : Frame) (offset n : ℕ) → MayAccessFrame m.owner m.lent client frame offset n → (DRIVER_FRAMES ≤ frame.0) × (offset + n ≤ 4096)
 open_in m r client frame offset n opens = (
-  (r.is_initial.owned frame client (sym (owners_stay r.initial_machine r.steps_since frame) ∙ ap (λ (x : Machine). x.owner frame) (sym r.leads_to_machine) ∙ owned (m.owner frame) client (opens FrameForeign))).2,
+  (r.is_initial.owned_frames_are_clients frame client (sym (owners_stay r.initial_machine r.steps_since frame) ∙ ap (λ (x : Machine). x.owner frame) (sym r.leads_to_machine) ∙ owned (m.owner frame) client (opens FrameForeign))).2,
   ⊎_elim (λ (l : 4096 < offset + n). absurd (opens OutsideFrame l)) (λ (g : offset + n ≤ 4096). g) (cases_lt 4096 (offset + n)),
 )
 
@@ -58,62 +58,62 @@ stored_on uses m d reached a client frame offset bytes opens =
     let fixed = fixed_stays NoPort uses d.memory (4096 * frame.0 + offset) bytes d.tape d.tape (inr (inr (inr (omega (arith, x.0))))) (λ q o u out. GainsNone-refl d.tape q o) in
     record {
       relates_slots = λ q k. slot_on NoPort uses m (after_step m (Store client frame offset bytes)) d a (patched d.memory (4096 * frame.0 + offset) bytes) d.tape fixed q k (d.port q) (SameSlot-refl (d.port q) k) (λ _ z. z) (λ id u e _ r. r);
-      serve_apart = a.serve_apart;
+      serve_distinct_requests = a.serve_distinct_requests;
       received_areas_are_placed = a.received_areas_are_placed;
-      disks_are_same = λ q. record { present = (a.disks_are_same q).present; id = (a.disks_are_same q).id; size = (a.disks_are_same q).size };
-      memory_is_same = λ f b from small. memory_put m d.memory (4096 * frame.0 + offset) frame offset bytes refl x.1 a.memory_is_same f b from small;
+      disks_are_same = λ q. record { present = (a.disks_are_same q).present; id = (a.disks_are_same q).id; sector_count = (a.disks_are_same q).sector_count };
+      client_frames_are_same = λ f b from small. memory_put m d.memory (4096 * frame.0 + offset) frame offset bytes refl x.1 a.client_frames_are_same f b from small;
       sectors_are_same = λ t q. let s = a.sectors_are_same t q in record { told_sectors = s.told_sectors; disk_tells = s.disk_tells; bytes_are_same = s.bytes_are_same };
-      has_lasting = a.has_lasting;
+      holds_replug_candidates = a.holds_replug_candidates;
     }
 
 pub client_stores : StepLaws → (k : DriverState) (m : Machine) (client : ClientId) (frame : Frame) (offset : ℕ) (bytes : List ℕ) (new : Device) → IsReachable m → DriverRelation m k → IsEnabled m (Store client frame offset bytes) →
-    Stores (4096 * frame.0 + offset) bytes k.device new → EndsInStep k m (Store client frame offset bytes) (record k { device = new })
+    Stores (4096 * frame.0 + offset) bytes k.device new → EndsInOneStep k m (Store client frame offset bytes) (record k { device = new })
 client_stores laws k m client frame offset bytes new r knows may call =
-    let f : SimulatesSteps k.uses m k.device call.mid = steps_follow k.uses m k.device call.mid r knows.state_relation call.steps in
-    let later : IsReachable (left.after m f.steps) = laws.reached m f.steps r f.may in
-    let opens = open_stays k.uses m k.device call.mid f client frame offset (length bytes) may in
-    let first : IsBacked k.device call.mid m f.steps = backed k.uses m k.device call.mid f in
-    let all : IsBacked k.device call.mid m (Store client frame offset bytes ∷ f.steps) = backed_then k.device call.mid call.mid m f.steps (Store client frame offset bytes ∷ []) first (own_backed call.mid (left.after m f.steps) (Store client frame offset bytes) (λ z. z)) in
+    let f : SimulatesSteps k.slot_states m k.device call.at_access = steps_follow k.slot_states m k.device call.at_access r knows.state_relation call.steps in
+    let later : IsReachable (left.after m f.steps) = laws.reachable_goes_on m f.steps r f.steps_are_enabled in
+    let opens = open_stays k.slot_states m k.device call.at_access f client frame offset (length bytes) may in
+    let first : TapeBacksSteps k.device call.at_access m f.steps = backed k.slot_states m k.device call.at_access f in
+    let all : TapeBacksSteps k.device call.at_access m (Store client frame offset bytes ∷ f.steps) = backed_then k.device call.at_access call.at_access m f.steps (Store client frame offset bytes ∷ []) first (own_backed call.at_access (left.after m f.steps) (Store client frame offset bytes) (λ z. z)) in
     record {
       steps = f.steps;
-      only = tells_device m f.new_entries f.steps f.tape_tells_steps;
-      steps_are_enabled = (f.may, opens);
-      is_backed = subst (λ (d : Device). IsBacked k.device d m (Store client frame offset bytes ∷ f.steps)) (sym call.effect)
-          (record { telling = all.telling; new_entries = all.new_entries; tape_is = all.tape_is; tells_device_steps = all.tells_device_steps; steps_are_faithful = all.steps_are_faithful; plugged = all.plugged });
+      all_steps_are_devices = tells_device m f.new_entries f.steps f.tape_tells_steps;
+      steps_are_enabled = (f.steps_are_enabled, opens);
+      is_backed = subst (λ (d : Device). TapeBacksSteps k.device d m (Store client frame offset bytes ∷ f.steps)) (sym call.effect)
+          (record { telling_is_same = all.telling_is_same; new_entries = all.new_entries; tape_is = all.tape_is; tells_device_steps = all.tells_device_steps; steps_are_faithful = all.steps_are_faithful; plugged_disks_match_steps = all.plugged_disks_match_steps });
       driver_relation = record {
-        state_relation = subst (λ (d : Device). StateRelation k.uses (after_step (left.after m f.steps) (Store client frame offset bytes)) d) (sym call.effect)
-            (stored_on k.uses (left.after m f.steps) call.mid later f.agrees client frame offset bytes opens);
-        have_slots = λ q. follows_have k.uses m k.device call.mid f q (k.parked q) (knows.have_slots q);
+        state_relation = subst (λ (d : Device). StateRelation k.slot_states (after_step (left.after m f.steps) (Store client frame offset bytes)) d) (sym call.effect)
+            (stored_on k.slot_states (left.after m f.steps) call.at_access later f.state_relation client frame offset bytes opens);
+        have_slots = λ q. follows_have k.slot_states m k.device call.at_access f q (k.awaiting_disposition q) (knows.have_slots q);
       };
     }
 
 -- ---- a load
 
 pub client_loads : StepLaws → (k : DriverState) (m : Machine) (client : ClientId) (frame : Frame) (offset : ℕ) (bytes : List ℕ) (new : Device) → IsReachable m → DriverRelation m k → MayAccessFrame m.owner m.lent client frame offset (length bytes) →
-    Loads (4096 * frame.0 + offset) bytes k.device new → EndsInStep k m (Load client frame offset bytes) (record k { device = new })
+    Loads (4096 * frame.0 + offset) bytes k.device new → EndsInOneStep k m (Load client frame offset bytes) (record k { device = new })
 client_loads laws k m client frame offset bytes new r knows may call =
-    let f : SimulatesSteps k.uses m k.device new = steps_follow k.uses m k.device new r knows.state_relation call.steps in
-    let later : IsReachable (left.after m f.steps) = laws.reached m f.steps r f.may in
-    let opens = open_stays k.uses m k.device new f client frame offset (length bytes) may in
+    let f : SimulatesSteps k.slot_states m k.device new = steps_follow k.slot_states m k.device new r knows.state_relation call.steps in
+    let later : IsReachable (left.after m f.steps) = laws.reachable_goes_on m f.steps r f.steps_are_enabled in
+    let opens = open_stays k.slot_states m k.device new f client frame offset (length bytes) may in
     let x = open_in (left.after m f.steps) later client frame offset (length bytes) opens in
-    let first : IsBacked k.device new m f.steps = backed k.uses m k.device new f in
+    let first : TapeBacksSteps k.device new m f.steps = backed k.slot_states m k.device new f in
     record {
       steps = f.steps;
-      only = tells_device m f.new_entries f.steps f.tape_tells_steps;
+      all_steps_are_devices = tells_device m f.new_entries f.steps f.tape_tells_steps;
       steps_are_enabled = (
-        f.may,
+        f.steps_are_enabled,
         (
           opens,
           λ b lt.
               ap (λ (l : List ℕ). slice_index l b) call.shows
               ∙ bytes_index new.memory (4096 * frame.0 + offset) (length bytes) b lt
               ∙ ap new.memory (let e : 4096 * frame.0 + offset + b ≡ 4096 * frame.0 + (offset + b) = omega arith in e)
-              ∙ f.agrees.memory_is_same frame (offset + b) x.0 (let y = x.1 in omega (arith, y, lt)),
+              ∙ f.state_relation.client_frames_are_same frame (offset + b) x.0 (let y = x.1 in omega (arith, y, lt)),
         ),
       );
       is_backed = backed_then k.device new new m f.steps (Load client frame offset bytes ∷ []) first (own_backed new (left.after m f.steps) (Load client frame offset bytes) (λ z. z));
       driver_relation = record {
-        state_relation = let a = f.agrees in record { relates_slots = a.relates_slots; serve_apart = a.serve_apart; received_areas_are_placed = a.received_areas_are_placed; disks_are_same = a.disks_are_same; memory_is_same = a.memory_is_same; sectors_are_same = a.sectors_are_same; has_lasting = a.has_lasting };
-        have_slots = λ q. follows_have k.uses m k.device new f q (k.parked q) (knows.have_slots q);
+        state_relation = let a = f.state_relation in record { relates_slots = a.relates_slots; serve_distinct_requests = a.serve_distinct_requests; received_areas_are_placed = a.received_areas_are_placed; disks_are_same = a.disks_are_same; client_frames_are_same = a.client_frames_are_same; sectors_are_same = a.sectors_are_same; holds_replug_candidates = a.holds_replug_candidates };
+        have_slots = λ q. follows_have k.slot_states m k.device new f q (k.awaiting_disposition q) (knows.have_slots q);
       };
     }

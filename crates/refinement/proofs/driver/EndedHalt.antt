@@ -23,9 +23,9 @@ use Rattle.block_machine.specs.State.{Machine}
 use Rattle.refinement.specs.StepLaws.{StepLaws}
 use Rattle.refinement.specs.Relation.{StateRelation}
 use Rattle.refinement.specs.Driver.{IsOwnPrepared}
-use Rattle.refinement.specs.PortFacts.{RunsWell, TellsNoTrouble}
+use Rattle.refinement.specs.PortFacts.{RunsWell, PxisValueTellsNoTrouble}
 use Rattle.refinement.specs.Simulation.{SimulatesSteps}
-use Rattle.refinement.specs.Links.{DoesNotWrite}
+use Rattle.refinement.specs.PreservedParts.{DoesNotWrite}
 use Rattle.refinement.proofs.device.ClearSactBits.{free_unarmed, steps_clear}
 use Rattle.refinement.specs.Slots.{SlotState, Free, Armed, Own, Serves, SlotStates, set_slot_state, IsInSomeStage, OwnAwaitsFetch, OwnIsTaken, OwnIsOver, IsEmptySlot, IsOver, RelatesSlot}
 use Rattle.refinement.specs.StartedPort.{ClearsNoStart}
@@ -41,7 +41,7 @@ use Rattle.refinement.proofs.driver.PutSlot.{put_other}
 use Rattle.refinement.proofs.device.RunningPort.{reading_clears}
 use Rattle.refinement.proofs.device.TroubleBits.{told_calm, reads_show}
 use Rattle.refinement.proofs.steps.TakenCommand.{never_refused}
-use Rattle.refinement.specs.HaltRecovery.{RunsLinked, EndsHalt}
+use Rattle.refinement.specs.HaltRecovery.{RunsLinked, OwnCommandEndsHalt}
 use Rattle.refinement.proofs.device.LinkOverFaults.{access_runs, running_started}
 use Rattle.refinement.proofs.device.PlainPort.{fetched_plain}
 
@@ -54,23 +54,23 @@ pub taken_issued : (uses : SlotStates) (m : Machine) (d : Device) (port slot : �
 taken_issued uses m d port slot t a st clear is = by (uses port slot) (a.relates_slots port slot)
   where
     by : (u : SlotState) → RelatesSlot m d.memory d.tape (d.port port) port slot u → (d.port port).ci slot ≡ true
-    by Free h = absurd (none-some _ (sym h.free ∙ is))
-    by Armed h = absurd (none-some _ (sym h.free ∙ is))
+    by Free h = absurd (none-some _ (sym h.is_not_taken ∙ is))
+    by Armed h = absurd (none-some _ (sym h.is_not_taken ∙ is))
     by (Own o) h = of h.stage
       where
         of : OwnAwaitsFetch (d.port port) slot ⊎ (OwnIsTaken d.memory d.tape (d.port port) port slot h.command ⊎ OwnIsOver d.memory d.tape (d.port port) port slot h.command) → (d.port port).ci slot ≡ true
         of (inl w) = w.issued
         of (inr (inl x)) = x.issued ∙ st
-        of (inr (inr x)) = absurd (none-some _ (sym x.over.free ∙ is))
+        of (inr (inr x)) = absurd (none-some _ (sym x.over.is_not_taken ∙ is))
     by (Serves id) h = of h.stage
       where
         of : IsInSomeStage d.memory (d.port port) port slot h.pending h.command h.places → (d.port port).ci slot ≡ true
         of (inl w) = w.issued
         of (inr (inl x)) =
             let plain : is_queued h.command.operation ≡ false = ap (λ (b : Bool). b && is_queued h.command.operation) (sym st) ∙ (sym x.sact ∙ clear) in
-            x.issued ∙ (ap (λ (b : Bool). b && not (is_queued h.command.operation)) st ∙ ap not plain)
-        of (inr (inr (inl x))) = absurd (none-some _ (sym x.free ∙ is))
-        of (inr (inr (inr x))) = absurd (none-some _ (sym x.free ∙ is))
+            x.ci_is_set_while_plain ∙ (ap (λ (b : Bool). b && not (is_queued h.command.operation)) st ∙ ap not plain)
+        of (inr (inr (inl x))) = absurd (none-some _ (sym x.is_not_taken ∙ is))
+        of (inr (inr (inr x))) = absurd (none-some _ (sym x.is_not_taken ∙ is))
 
 -- bit 0 of what falls at a place, or stays
 pub fallen_zero : (b : Bool) (f : ℕ → Bool) (slot : ℕ) → f 0 ≡ false → (if b then changed f slot false else f) 0 ≡ false
@@ -82,13 +82,13 @@ module _ (uses : SlotStates) (m : Machine) (d : Device) (a : StateRelation uses 
   beside_over : (p slot : ℕ) → p ≡ port → slot ≢ 0 → IsOver (d.port p) slot
   beside_over p slot e ne =
       let h : IsEmptySlot (d.port p) slot = subst (λ (u : SlotState). RelatesSlot m d.memory d.tape (d.port p) p slot u) (ap (λ (q : ℕ). uses q slot) e ∙ alone slot ne) (a.relates_slots p slot) in
-      record { issued = h.issued; free = h.free }
+      record { is_not_issued = h.is_not_issued; is_not_taken = h.is_not_taken }
 
   issued_first : (p slot : ℕ) → p ≡ port → (d.port p).ci slot ≡ true → slot ≡ 0
-  issued_first p slot e is = ⊎_elim (λ (z : slot ≡ 0). z) (λ (ne : slot ≡ 0 → ⊥). absurd (both_ways _ (beside_over p slot e ne).issued is)) (cases_eq slot 0)
+  issued_first p slot e is = ⊎_elim (λ (z : slot ≡ 0). z) (λ (ne : slot ≡ 0 → ⊥). absurd (both_ways _ (beside_over p slot e ne).is_not_issued is)) (cases_eq slot 0)
 
   taken_first : (p slot : ℕ) (t : FetchedCommand) → p ≡ port → (d.port p).taken slot ≡ Some t → slot ≡ 0
-  taken_first p slot t e is = ⊎_elim (λ (z : slot ≡ 0). z) (λ (ne : slot ≡ 0 → ⊥). absurd (none-some _ (sym (beside_over p slot e ne).free ∙ is))) (cases_eq slot 0)
+  taken_first p slot t e is = ⊎_elim (λ (z : slot ≡ 0). z) (λ (ne : slot ≡ 0 → ⊥). absurd (none-some _ (sym (beside_over p slot e ne).is_not_taken ∙ is))) (cases_eq slot 0)
 
   at_zero : (p slot : ℕ) → slot ≡ 0 → (d.port p).sact 0 ≡ false → (d.port p).sact slot ≡ false
   at_zero p slot z clear = subst (λ (n : ℕ). (d.port p).sact n ≡ false) (sym z) clear
@@ -129,13 +129,13 @@ leads_end : StepLaws → (uses : SlotStates) (m : Machine) (port : ℕ) → ((sl
 leads_end laws uses m port alone [] old new r a off e h = subst (λ (d : Device). (d.hr ≡ false) × Ends (d.port port)) (sym e) (off, h)
 leads_end laws uses m port alone (step ∷ steps) old new r a off (can, lead) h =
     let f : SimulatesSteps uses m old (device_after step old) = step_follows uses m old step r a can in
-    leads_end laws uses (left.after m f.steps) port alone steps (device_after step old) new (laws.reached m f.steps r f.may) f.agrees ((laws.step step _ can).keeps_outside_reset off).no_reset lead
+    leads_end laws uses (left.after m f.steps) port alone steps (device_after step old) new (laws.reachable_goes_on m f.steps r f.steps_are_enabled) f.state_relation ((laws.one_step_keeps step _ can).keeps_outside_reset off).no_reset lead
     (step_ends uses m old a port alone off h step can)
 
-pub steps_end : StepLaws → (uses : SlotStates) (m : Machine) (port : ℕ) (old new : Device) → IsReachable m → StateRelation uses m old → Steps old new → EndsHalt uses port old → EndsHalt uses port new
+pub steps_end : StepLaws → (uses : SlotStates) (m : Machine) (port : ℕ) (old new : Device) → IsReachable m → StateRelation uses m old → Steps old new → OwnCommandEndsHalt uses port old → OwnCommandEndsHalt uses port new
 steps_end laws uses m port old new r a s h =
-    let x = leads_end laws uses m port h.no_other_slot_is_used s.steps old new r a h.hr_is_clear s.lead (h.st, h.slot_0_is_plain, h.ends) in
-    record { hr_is_clear = x.0; st = x.1.0; slot_0_is_plain = x.1.1; no_other_slot_is_used = h.no_other_slot_is_used; ends = x.1.2 }
+    let x = leads_end laws uses m port h.no_other_slot_is_used s.steps old new r a h.hr_is_clear s.lead (h.st_is_set, h.slot_0_is_plain, h.unfinished_or_not_halted) in
+    record { hr_is_clear = x.0; st_is_set = x.1.0; slot_0_is_plain = x.1.1; no_other_slot_is_used = h.no_other_slot_is_used; unfinished_or_not_halted = x.1.2 }
 
 -- ---- an access
 
@@ -152,15 +152,15 @@ written_ends Ci v tape p on other h = (h.0, h.1, ⊎_elim (λ (i : p.ci 0 ≡ tr
 written_ends _ v tape p on other h = h
 
 pub access_ends : StepLaws → (uses : SlotStates) (m : Machine) (port : Port) (access : Access) (old new : Device) → IsReachable m → StateRelation uses m old → ClearsNoStart port access → DoesNotWrite (Px port Sact) access → new.hr ≡ false → Does access old new →
-    EndsHalt uses port.0 old → EndsHalt uses port.0 new
+    OwnCommandEndsHalt uses port.0 old → OwnCommandEndsHalt uses port.0 new
 access_ends laws uses m port access old new r a keeps spares off x h =
     let s = access_steps access old new x in
-    let c = leads_end laws uses m port.0 h.no_other_slot_is_used s.1.steps old s.0 r a h.hr_is_clear s.1.lead (h.st, h.slot_0_is_plain, h.ends) in
+    let c = leads_end laws uses m port.0 h.no_other_slot_is_used s.1.steps old s.0 r a h.hr_is_clear s.1.lead (h.st_is_set, h.slot_0_is_plain, h.unfinished_or_not_halted) in
     let e : Ends (new.port port.0) =
     effect_keeps Ends port (λ p q v y. y) (λ p y. y) access old new x
     (λ q v mid is steps y. written_ends q v (length mid.tape) (mid.port port.0)
     (λ z. keeps v (is ∙ ap (λ (w : PortReg). Writing (Px port w) v) z)) (spared port q Sact access v spares is) y) c.1 in
-    record { hr_is_clear = off; st = e.0; slot_0_is_plain = e.1; no_other_slot_is_used = h.no_other_slot_is_used; ends = e.2 }
+    record { hr_is_clear = off; st_is_set = e.0; slot_0_is_plain = e.1; no_other_slot_is_used = h.no_other_slot_is_used; unfinished_or_not_halted = e.2 }
 
 -- ---- where it begins
 
@@ -169,32 +169,32 @@ or_set true c e = refl
 or_set false c e = e
 
 pub issued_ends : StepLaws → (uses : SlotStates) (m : Machine) (port : Port) (o : Operation) (v : ℕ) (old new : Device) → IsReachable m → StateRelation uses m old → old.hr ≡ false → ((slot : ℕ) → slot ≢ 0 → uses port.0 slot ≡ Free) →
-    IsOwnPrepared uses old port.0 o v → Writes (Px port Ci) v old new → EndsHalt (set_slot_state uses port.0 0 (Own o)) port.0 new
+    IsOwnPrepared uses old port.0 o v → Writes (Px port Ci) v old new → OwnCommandEndsHalt (set_slot_state uses port.0 0 (Own o)) port.0 new
 issued_ends laws uses m port o v old new r a off alone x call =
-    let y : IsOwnPrepared uses call.mid port.0 o v = own_prepared_stays uses m old call.mid port.0 o v r a off call.steps x in
-    let is : new.port port.0 ≡ port_after_write Ci v (length call.mid.tape) (call.mid.port port.0) = ap (λ (d : Device). d.port port.0) call.effect ∙ changed_same call.mid.port port.0 _ in
+    let y : IsOwnPrepared uses call.at_access port.0 o v = own_prepared_stays uses m old call.at_access port.0 o v r a off call.steps x in
+    let is : new.port port.0 ≡ port_after_write Ci v (length call.at_access.tape) (call.at_access.port port.0) = ap (λ (d : Device). d.port port.0) call.effect ∙ changed_same call.at_access.port port.0 _ in
     record {
-      hr_is_clear = ap (λ (d : Device). d.hr) call.effect ∙ ((laws.keeps _ _ call.steps).keeps_outside_reset off).no_reset;
-      st = ap (λ (p : DevicePort). p.st) is ∙ y.st_is_set;
-      slot_0_is_plain = ap (λ (p : DevicePort). p.sact 0) is ∙ steps_clear laws port.0 0 old call.mid call.steps (free_unarmed uses m old a port.0 0 x.free);
+      hr_is_clear = ap (λ (d : Device). d.hr) call.effect ∙ ((laws.steps_keep _ _ call.steps).keeps_outside_reset off).no_reset;
+      st_is_set = ap (λ (p : DevicePort). p.st) is ∙ y.st_is_set;
+      slot_0_is_plain = ap (λ (p : DevicePort). p.sact 0) is ∙ steps_clear laws port.0 0 old call.at_access call.steps (free_unarmed uses m old a port.0 0 x.free);
       no_other_slot_is_used = λ slot ne. put_other uses port.0 0 (Own o) port.0 slot (λ _ z. ne z) ∙ alone slot ne;
-      ends = inl (ap (λ (p : DevicePort). p.ci 0) is ∙ or_set ((call.mid.port port.0).ci 0) (bit v 0) y.bit_is_set);
+      unfinished_or_not_halted = inl (ap (λ (p : DevicePort). p.ci 0) is ∙ or_set ((call.at_access.port port.0).ci 0) (bit v 0) y.bit_is_set);
     }
 
 -- ---- PxCI is read
 
-reads_end : StepLaws → (uses : SlotStates) (m : Machine) (port : Port) (v : ℕ) (old new : Device) → IsReachable m → StateRelation uses m old → EndsHalt uses port.0 old → Reads (Px port Ci) v old new → EndsHalt uses port.0 new
+reads_end : StepLaws → (uses : SlotStates) (m : Machine) (port : Port) (v : ℕ) (old new : Device) → IsReachable m → StateRelation uses m old → OwnCommandEndsHalt uses port.0 old → Reads (Px port Ci) v old new → OwnCommandEndsHalt uses port.0 new
 reads_end laws uses m port v old new r a h call =
-    let mid : EndsHalt uses port.0 call.mid = steps_end laws uses m port.0 old call.mid r a call.steps h in
+    let mid : OwnCommandEndsHalt uses port.0 call.at_access = steps_end laws uses m port.0 old call.at_access r a call.steps h in
     (access_ends laws) uses m port (Reading (Px port Ci) v) old new r a (reading_clears port (Px port Ci) v) tt (ap (λ (d : Device). d.hr) call.effect ∙ mid.hr_is_clear) call h
 
-pub halt_ended : StepLaws → (uses : SlotStates) (m : Machine) (port : Port) (v : ℕ) (old new : Device) → IsReachable m → StateRelation uses m old → EndsHalt uses port.0 old → Reads (Px port Ci) v old new → bit v 0 ≡ false → (new.port port.0).halt ≡ NotHalted
+pub halt_ended : StepLaws → (uses : SlotStates) (m : Machine) (port : Port) (v : ℕ) (old new : Device) → IsReachable m → StateRelation uses m old → OwnCommandEndsHalt uses port.0 old → Reads (Px port Ci) v old new → bit v 0 ≡ false → (new.port port.0).halt ≡ NotHalted
 halt_ended laws uses m port v old new r a h call clear =
-    let shown : (new.port port.0).ci 0 ≡ false = ap (λ (d : Device). (d.port port.0).ci 0) call.effect ∙ (ap (λ (p : DevicePort). p.ci 0) (changed_same call.mid.port port.0 _) ∙ (sym (call.shows 0 (omega arith)) ∙ clear)) in
-    ⊎_elim (λ (i : (new.port port.0).ci 0 ≡ true). absurd (both_ways _ shown i)) (λ (n : (new.port port.0).halt ≡ NotHalted). n) (reads_end laws uses m port v old new r a h call).ends
+    let shown : (new.port port.0).ci 0 ≡ false = ap (λ (d : Device). (d.port port.0).ci 0) call.effect ∙ (ap (λ (p : DevicePort). p.ci 0) (changed_same call.at_access.port port.0 _) ∙ (sym (call.shows 0 (omega arith)) ∙ clear)) in
+    ⊎_elim (λ (i : (new.port port.0).ci 0 ≡ true). absurd (both_ways _ shown i)) (λ (n : (new.port port.0).halt ≡ NotHalted). n) (reads_end laws uses m port v old new r a h call).unfinished_or_not_halted
 
-pub ended_well : StepLaws → (uses : SlotStates) (m : Machine) (port : Port) (v causes : ℕ) (old mid new : Device) → IsReachable m → StateRelation uses m old → EndsHalt uses port.0 old → RunsLinked (old.port port.0) → Reads (Px port Ci) v old mid → bit v 0 ≡ false →
-    Reads (Px port Is) causes mid new → TellsNoTrouble causes → RunsWell (new.port port.0)
+pub ended_well : StepLaws → (uses : SlotStates) (m : Machine) (port : Port) (v causes : ℕ) (old mid new : Device) → IsReachable m → StateRelation uses m old → OwnCommandEndsHalt uses port.0 old → RunsLinked (old.port port.0) → Reads (Px port Ci) v old mid → bit v 0 ≡ false →
+    Reads (Px port Is) causes mid new → PxisValueTellsNoTrouble causes → RunsWell (new.port port.0)
 ended_well laws uses m port v causes old mid new r a h runs read clear call calm =
     let off : mid.hr ≡ false = (reads_end laws uses m port v old mid r a h read).hr_is_clear in
     let late = reads_show laws port.0 (Px port Is) causes mid new off call (told_calm laws port causes mid new off call calm) in

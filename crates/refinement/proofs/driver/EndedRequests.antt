@@ -10,7 +10,7 @@ use Rattle.hba_regs.specs.declared.reg.PortReg.TheVariants.{Ci}
 use Rattle.adapter.specs.Access.{Reads, Loads}
 use Rattle.adapter.specs.Commands.{is_queued}
 use Rattle.adapter.specs.Device.{Device}
-use Rattle.adapter.specs.KeptBySteps.{Keeps, KeepsOutsideReset}
+use Rattle.adapter.specs.KeptBySteps.{KeepsOverSteps, KeepsOutsideReset}
 use Rattle.adapter.specs.Memory.{bytes_at}
 use Rattle.adapter.specs.declared.command.Operation.{Operation}
 use Rattle.adapter.specs.RegisterEffects.{PortRegisterRead}
@@ -24,7 +24,7 @@ use Rattle.refinement.specs.StepLaws.{StepLaws}
 use Rattle.refinement.specs.Relation.{StateRelation, port_at}
 use Rattle.refinement.specs.PortFacts.{EndedIn, IsSlotClear, FindsOwnPage}
 use Rattle.refinement.specs.Simulation.{SimulatesSteps}
-use Rattle.refinement.specs.MemoryLayout.{scratch_of}
+use Rattle.refinement.specs.MemoryLayout.{scratch_frame_address}
 use Rattle.refinement.specs.Slots.{SlotState, Own, Serves, SlotStates, IsEnded, IsInSomeStage, ServesRequest, PageStandsInScratch, OwnAwaitsFetch, OwnIsTaken, OwnIsOver, ServesOwn, IsOver, RelatesSlot}
 use Rattle.refinement.proofs.steps.AdapterCalls.{read_follows, load_follows}
 
@@ -36,7 +36,7 @@ both_clear false a b e f = absurd (both_ways _ e a)
 is_ended : (m : Machine) (d : Device) (port : Port) (slot : ℕ) (id : RequestId) (h : ServesRequest m d.memory (d.port port.0) port.0 slot id) → IsEnded (d.port port.0) slot h.pending →
     IsSlotClear (d.port port.0) slot × EndedIn m port id
 is_ended m d port slot id h x = (
-  record { over = record { issued = x.issued; free = x.free }; sact = x.sact },
+  record { over = record { is_not_issued = x.is_not_issued; is_not_taken = x.is_not_taken }; sact_is_clear = x.sact_is_clear },
   record {
     pending = h.pending;
     may_still_move = h.may_still_move;
@@ -79,10 +79,10 @@ clear_is_ended uses m d port slot id a u st issued sact = by (subst (λ (v : Slo
         of : IsInSomeStage d.memory (d.port port.0) port.0 slot h.pending h.command h.places → IsSlotClear (d.port port.0) slot × EndedIn m port id
         of (inl w) = absurd (both_ways _ issued w.issued)
         of (inr (inl t)) = both_clear (is_queued h.command.operation)
-            (t.issued ∙ ap (λ (b : Bool). b && not (is_queued h.command.operation)) st)
+            (t.ci_is_set_while_plain ∙ ap (λ (b : Bool). b && not (is_queued h.command.operation)) st)
             (t.sact ∙ ap (λ (b : Bool). b && is_queued h.command.operation) st) issued sact
         of (inr (inr (inl x))) = is_ended m d port slot id h x
-        of (inr (inr (inr x))) = absurd (both_ways _ x.stopped st)
+        of (inr (inr (inr x))) = absurd (both_ways _ x.st_is_clear st)
 
 -- ---- a page of the driver's own
 
@@ -105,31 +105,31 @@ module _ (uses : SlotStates) (m : Machine) (d : Device) (port : ℕ) (o : Operat
       own_over.page_is_brought
 
   own_clear : IsSlotClear (d.port port) 0
-  own_clear = record { over = own_over.over; sact = own.unqueued }
+  own_clear = record { over = own_over.over; sact_is_clear = own.unqueued }
 
 pub page_is_read : StepLaws → (uses : SlotStates) (m : Machine) (port : Port) (o : Operation) (v : ℕ) (old new : Device) → IsReachable m → StateRelation uses m old → old.hr ≡ false → (old.port port.0).st ≡ true →
     uses port.0 0 ≡ Own o → Reads (Px port Ci) v old new → bit v 0 ≡ false → FindsOwnPage uses m port.0 o old new
 page_is_read laws uses m port o v old new reached a h st u call clear =
     let f : SimulatesSteps uses m old new = read_follows uses m (Px port Ci) v old new reached a call in
-    let s : PortRegisterRead port.0 Ci v old new = laws.seen port Ci v old new call h in
-    let now : (new.port port.0).st ≡ true = (s.keeps.keeps_outside_reset.controls port.0).st ∙ st in
+    let s : PortRegisterRead port.0 Ci v old new = laws.reading_shows_register port Ci v old new call h in
+    let now : (new.port port.0).st ≡ true = (s.keeps.keeps_outside_reset.controls_are_kept port.0).st_is_kept ∙ st in
     let none : (new.port port.0).ci 0 ≡ false = sym (s.shows 0 (omega arith)) ∙ clear in
     record {
       simulates_steps = f;
-      slot_is_clear = own_clear uses (after m f.steps) new port.0 o f.agrees u now none;
-      page_is_in_scratch = own_brought uses (after m f.steps) new port.0 o f.agrees u now none;
+      slot_is_clear = own_clear uses (after m f.steps) new port.0 o f.state_relation u now none;
+      page_is_in_scratch = own_brought uses (after m f.steps) new port.0 o f.state_relation u now none;
     }
 
 pub page_is_loaded : StepLaws → (uses : SlotStates) (m : Machine) (port : ℕ) (o : Operation) (bytes : List ℕ) (old new : Device) → IsReachable m → StateRelation uses m old → old.hr ≡ false → (old.port port).st ≡ true →
-    uses port 0 ≡ Own o → IsOver (old.port port) 0 → Loads (scratch_of port) bytes old new → length bytes ≡ 512 →
+    uses port 0 ≡ Own o → IsOver (old.port port) 0 → Loads (scratch_frame_address port) bytes old new → length bytes ≡ 512 →
     (page : FindsOwnPage uses m port o old new) × (bytes ≡ page.page_is_in_scratch.move.bytes.value)
 page_is_loaded laws uses m port o bytes old new reached a h st u over call size =
-    let f : SimulatesSteps uses m old new = load_follows uses m (scratch_of port) bytes old new reached a call in
-    let k : Keeps old new = laws.keeps _ _ call.steps in
+    let f : SimulatesSteps uses m old new = load_follows uses m (scratch_frame_address port) bytes old new reached a call in
+    let k : KeepsOverSteps old new = laws.steps_keep _ _ call.steps in
     let on : KeepsOutsideReset old new = k.keeps_outside_reset h in
-    let now : (new.port port).st ≡ true = (on.controls port).st ∙ st in
-    let none : (new.port port).ci 0 ≡ false = (k.ports_are_kept port).ci 0 over.issued in
-    let b : PageStandsInScratch new.memory new.tape port o (new.port port).notes.st_set_at = own_brought uses (after m f.steps) new port o f.agrees u now none in (
-      record { simulates_steps = f; slot_is_clear = own_clear uses (after m f.steps) new port o f.agrees u now none; page_is_in_scratch = b },
-      call.shows ∙ ap (bytes_at new.memory (scratch_of port)) size ∙ b.bytes,
+    let now : (new.port port).st ≡ true = (on.controls_are_kept port).st_is_kept ∙ st in
+    let none : (new.port port).ci 0 ≡ false = (k.ports_are_kept port).ci_stays_clear 0 over.is_not_issued in
+    let b : PageStandsInScratch new.memory new.tape port o (new.port port).notes.st_set_at = own_brought uses (after m f.steps) new port o f.state_relation u now none in (
+      record { simulates_steps = f; slot_is_clear = own_clear uses (after m f.steps) new port o f.state_relation u now none; page_is_in_scratch = b },
+      call.shows ∙ ap (bytes_at new.memory (scratch_frame_address port)) size ∙ b.scratch_holds_page,
     )

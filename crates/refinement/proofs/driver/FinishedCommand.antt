@@ -11,16 +11,16 @@ use Rattle.hba_regs.specs.declared.reg.PortReg.TheVariants.{Clb, Clbu, Fb, Fbu, 
 use Rattle.adapter.specs.Access.{Access, Does, port_after_write, port_after_st_write, port_after_fre_write}
 use Rattle.adapter.specs.Access.Access.{Writing}
 use Rattle.adapter.specs.Device.{DevicePort, Device}
-use Rattle.adapter.specs.KeptBySteps.{KeepsPort}
+use Rattle.adapter.specs.KeptBySteps.{PortBitsOnlyFall}
 use Rattle.adapter.specs.Steps.{Steps}
 use Rattle.block_machine.specs.Events.{AllByDevice}
 use Rattle.block_machine.specs.Expected.{after}
 use Rattle.block_machine.specs.State.{Accepted, Pending, Machine}
-use Rattle.block_machine.specs.Steps.{Step, MayStillMove, NoneQuarantined}
+use Rattle.block_machine.specs.Steps.{Step, MayStillMove, NoneKept}
 use Rattle.refinement.specs.StepLaws.{StepLaws}
 use Rattle.refinement.specs.PortFacts.{EndedIn, IsSlotClear}
 use Rattle.refinement.specs.Slots.{IsOver}
-use Rattle.refinement.specs.SparedBook.{IsFurther, SparesBook}
+use Rattle.refinement.specs.SparedBook.{IsFurther, KeepsBookAndLoans}
 use Rattle.refinement.proofs.device.FactsOverAccesses.{access_steps, effect_keeps}
 use Rattle.refinement.proofs.steps.SparedBook.{steps_spare, found_later}
 use Rattle.refinement.proofs.device.ClearSactBits.{if_false}
@@ -30,11 +30,11 @@ use Rattle.refinement.proofs.steps.RegisterWrites.{or_false}
 
 pub steps_over : StepLaws → (port slot : ℕ) (old new : Device) → Steps old new → IsOver (old.port port) slot → IsOver (new.port port) slot
 steps_over laws port slot old new s h =
-    let k : KeepsPort (old.port port) (new.port port) = (laws.keeps _ _ s).ports_are_kept port in
-    record { issued = k.ci slot h.issued; free = k.slots_stay_free slot h.issued h.free }
+    let k : PortBitsOnlyFall (old.port port) (new.port port) = (laws.steps_keep _ _ s).ports_are_kept port in
+    record { is_not_issued = k.ci_stays_clear slot h.is_not_issued; is_not_taken = k.slots_stay_free slot h.is_not_issued h.is_not_taken }
 
 pub steps_clear : StepLaws → (port slot : ℕ) (old new : Device) → Steps old new → IsSlotClear (old.port port) slot → IsSlotClear (new.port port) slot
-steps_clear laws port slot old new s h = record { over = steps_over laws port slot old new s h.over; sact = ((laws.keeps _ _ s).ports_are_kept port).sact slot h.sact }
+steps_clear laws port slot old new s h = record { over = steps_over laws port slot old new s h.over; sact_is_clear = ((laws.steps_keep _ _ s).ports_are_kept port).sact_stays_clear slot h.sact_is_clear }
 
 -- the slot's bits are clear
 abbrev IsUnset : Bool → DevicePort → ℕ → Type 0
@@ -81,26 +81,26 @@ pub access_over : StepLaws → (port : Port) (slot : ℕ) (access : Access) (old
 access_over laws port slot access old new ci x h =
     let s = access_steps access old new x in
     let mid : IsOver (s.0.port port.0) slot = steps_over laws port.0 slot old s.0 s.1 h in
-    let e = effect_unset false port slot access old new x ci (λ a. absurd (false≢true a)) (mid.issued, mid.free, λ a. absurd (false≢true a)) in
-    record { issued = e.0; free = e.1 }
+    let e = effect_unset false port slot access old new x ci (λ a. absurd (false≢true a)) (mid.is_not_issued, mid.is_not_taken, λ a. absurd (false≢true a)) in
+    record { is_not_issued = e.0; is_not_taken = e.1 }
 
 pub access_clear : StepLaws → (port : Port) (slot : ℕ) (access : Access) (old new : Device) → ((v : ℕ) → access ≡ Writing (Px port Ci) v → bit v slot ≡ false) → ((v : ℕ) → access ≡ Writing (Px port Sact) v → bit v slot ≡ false) →
     Does access old new → IsSlotClear (old.port port.0) slot → IsSlotClear (new.port port.0) slot
 access_clear laws port slot access old new ci sact x h =
     let s = access_steps access old new x in
     let mid : IsSlotClear (s.0.port port.0) slot = steps_clear laws port.0 slot old s.0 s.1 h in
-    let e = effect_unset true port slot access old new x ci (λ a. sact) (mid.over.issued, mid.over.free, λ a. mid.sact) in
-    record { over = record { issued = e.0; free = e.1 }; sact = e.2 refl }
+    let e = effect_unset true port slot access old new x ci (λ a. sact) (mid.over.is_not_issued, mid.over.is_not_taken, λ a. mid.sact_is_clear) in
+    record { over = record { is_not_issued = e.0; is_not_taken = e.1 }; sact_is_clear = e.2 refl }
 
 -- ---- its request
 
 pub ended_stays : (m : Machine) (steps : List Step) (port : Port) (id : RequestId) → AllByDevice steps → EndedIn m port id → EndedIn (after m steps) port id
 ended_stays m steps port id is h = ⊎_elim booked kept h.may_still_move
   where
-    spares : SparesBook m (after m steps)
+    spares : KeepsBookAndLoans m (after m steps)
     spares = steps_spare m steps is
 
-    ended : (x : Pending) → IsFurther h.pending x → MayStillMove (after m steps) x → (NoneQuarantined (after m steps) port → Contains (after m steps).book x) → EndedIn (after m steps) port id
+    ended : (x : Pending) → IsFurther h.pending x → MayStillMove (after m steps) x → (NoneKept (after m steps) port → Contains (after m steps).book x) → EndedIn (after m steps) port id
     ended x f moves booked = record {
       pending = x;
       may_still_move = moves;

@@ -8,14 +8,14 @@ use Rattle.adapter.specs.Memory.{changed}
 use Rattle.adapter.proofs.Changed.{changed_same, changed_other}
 use Rattle.block_machine.specs.State.{Machine}
 use Rattle.block_machine.proofs.Members.{contains_none, contains_here, contains_there, contains_cases}
-use Rattle.refinement.specs.Relation.{StateRelation, ServeApart}
+use Rattle.refinement.specs.Relation.{StateRelation, ServeDistinctRequests}
 use Rattle.refinement.specs.Driver.{DriverState, DriverRelation, AllFree, HasNoSlot}
 use Rattle.refinement.specs.PortFacts.{IsEngineStopped}
 use Rattle.refinement.specs.Slots.{SlotState, Free, Armed, Own, Serves, SlotStates, ServesRequest, IsEmptySlot, RelatesSlot}
 use Rattle.refinement.proofs.relation.OneSlot.{changed_at}
 use Rattle.refinement.proofs.driver.PutSlot.{serves_not_free, serves_same}
 use Rattle.refinement.proofs.device.ClearSactBits.{over_unarmed}
-use Rattle.refinement.specs.GivingUp.{AreSlotsOver, prepend_slot_request, ids_in_slots, with_all_parked}
+use Rattle.refinement.specs.GivingUp.{AreSlotsOverAndUnarmed, prepend_slot_request, ids_in_slots, with_all_parked}
 
 -- ---- the requests that are served
 
@@ -68,80 +68,80 @@ served_below uses m k port slot id a u =
 
 module _ (k : DriverState) (port : ℕ) where
   abbrev now : SlotStates
-  now = changed k.uses port (λ slot. Free)
+  now = changed k.slot_states port (λ slot. Free)
 
-  pub all_free : AllFree (with_all_parked k port).uses port
-  all_free slot = ap (λ (f : ℕ → SlotState). f slot) (changed_same k.uses port (λ s. Free))
+  pub all_free : AllFree (with_all_parked k port).slot_states port
+  all_free slot = ap (λ (f : ℕ → SlotState). f slot) (changed_same k.slot_states port (λ s. Free))
 
-  pub others_same : (other : ℕ) → other ≢ port → ((with_all_parked k port).uses other ≡ k.uses other) × ((with_all_parked k port).parked other ≡ k.parked other)
-  others_same other ne = (changed_other k.uses port (λ s. Free) other ne, changed_other k.parked port (ids_in_slots k.uses port 32 ++ k.parked port) other ne)
+  pub others_same : (other : ℕ) → other ≢ port → ((with_all_parked k port).slot_states other ≡ k.slot_states other) × ((with_all_parked k port).awaiting_disposition other ≡ k.awaiting_disposition other)
+  others_same other ne = (changed_other k.slot_states port (λ s. Free) other ne, changed_other k.awaiting_disposition port (ids_in_slots k.slot_states port 32 ++ k.awaiting_disposition port) other ne)
 
   -- what serves a request then, served it before, and is of another port
-  still : (q s : ℕ) (id : RequestId) → now q s ≡ Serves id → (q ≢ port) × (k.uses q s ≡ Serves id)
-  still q s id = changed_at k.uses port (λ slot. Free) (λ n f. f s ≡ Serves id → (n ≢ port) × (k.uses n s ≡ Serves id))
+  still : (q s : ℕ) (id : RequestId) → now q s ≡ Serves id → (q ≢ port) × (k.slot_states q s ≡ Serves id)
+  still q s id = changed_at k.slot_states port (λ slot. Free) (λ n f. f s ≡ Serves id → (n ≢ port) × (k.slot_states n s ≡ Serves id))
       (λ e. absurd (let z : Free ≡ Serves id = e in cc)) (λ n ne e. (ne, e)) q
 
-  pub parked_then : (with_all_parked k port).parked port ≡ ids_in_slots k.uses port 32 ++ k.parked port
-  parked_then = changed_same k.parked port (ids_in_slots k.uses port 32 ++ k.parked port)
+  pub parked_then : (with_all_parked k port).awaiting_disposition port ≡ ids_in_slots k.slot_states port 32 ++ k.awaiting_disposition port
+  parked_then = changed_same k.awaiting_disposition port (ids_in_slots k.slot_states port 32 ++ k.awaiting_disposition port)
 
-  parked_is : (id : RequestId) → Contains (ids_in_slots k.uses port 32 ++ k.parked port) id → Contains ((with_all_parked k port).parked port) id
+  parked_is : (id : RequestId) → Contains (ids_in_slots k.slot_states port 32 ++ k.awaiting_disposition port) id → Contains ((with_all_parked k port).awaiting_disposition port) id
   parked_is id c = subst (λ (l : List RequestId). Contains l id) (sym parked_then) c
 
-  pub still_parked : (id : RequestId) → Contains (k.parked port) id → Contains ((with_all_parked k port).parked port) id
-  still_parked id c = parked_is id (Contains-append_right (ids_in_slots k.uses port 32) (k.parked port) id c)
+  pub still_parked : (id : RequestId) → Contains (k.awaiting_disposition port) id → Contains ((with_all_parked k port).awaiting_disposition port) id
+  still_parked id c = parked_is id (Contains-append_right (ids_in_slots k.slot_states port 32) (k.awaiting_disposition port) id c)
 
-  pub parks_all : (m : Machine) (slot : ℕ) (id : RequestId) → StateRelation k.uses m k.device → k.uses port slot ≡ Serves id → Contains ((with_all_parked k port).parked port) id
+  pub parks_all : (m : Machine) (slot : ℕ) (id : RequestId) → StateRelation k.slot_states m k.device → k.slot_states port slot ≡ Serves id → Contains ((with_all_parked k port).awaiting_disposition port) id
   parks_all m slot id a u =
-      parked_is id (Contains-append_left (ids_in_slots k.uses port 32) (k.parked port) id (ids_have k.uses port 32 slot id (served_below k.uses m k port slot id a u) u))
+      parked_is id (Contains-append_left (ids_in_slots k.slot_states port 32) (k.awaiting_disposition port) id (ids_have k.slot_states port 32 slot id (served_below k.slot_states m k port slot id a u) u))
 
-  pub parking_frees_all : (slot : ℕ) (id : RequestId) → ServeApart k.uses → k.uses port slot ≡ Serves id → HasNoSlot (with_all_parked k port).uses id
+  pub parking_frees_all : (slot : ℕ) (id : RequestId) → ServeDistinctRequests k.slot_states → k.slot_states port slot ≡ Serves id → HasNoSlot (with_all_parked k port).slot_states id
   parking_frees_all slot id apart u q s v = let w = still q s id v in w.0 (apart q s port slot id w.1 u).0
 
-  pub parking_leaves_all : (id : RequestId) → HasNoSlot k.uses id → HasNoSlot (with_all_parked k port).uses id
+  pub parking_leaves_all : (id : RequestId) → HasNoSlot k.slot_states id → HasNoSlot (with_all_parked k port).slot_states id
   parking_leaves_all id none q s v = none q s (still q s id v).1
 
-  module _ (m : Machine) (over : AreSlotsOver k.uses (k.device.port port) port) where
-    is_free : StateRelation k.uses m k.device → (slot : ℕ) → IsEmptySlot (k.device.port port) slot
-    is_free a slot = record { issued = (over slot).0.issued; free = (over slot).0.free; unarmed = by (k.uses port slot) refl (a.relates_slots port slot) }
+  module _ (m : Machine) (over : AreSlotsOverAndUnarmed k.slot_states (k.device.port port) port) where
+    is_free : StateRelation k.slot_states m k.device → (slot : ℕ) → IsEmptySlot (k.device.port port) slot
+    is_free a slot = record { is_not_issued = (over slot).0.is_not_issued; is_not_taken = (over slot).0.is_not_taken; unarmed = by (k.slot_states port slot) refl (a.relates_slots port slot) }
       where
-        by : (u : SlotState) → k.uses port slot ≡ u → RelatesSlot m k.device.memory k.device.tape (k.device.port port) port slot u → (k.device.port port).sact slot ≡ false
+        by : (u : SlotState) → k.slot_states port slot ≡ u → RelatesSlot m k.device.memory k.device.tape (k.device.port port) port slot u → (k.device.port port).sact slot ≡ false
         by Free e h = h.unarmed
         by Armed e h = h.armed ∙ (over slot).1 e
         by (Own o) e h = h.unqueued
-        by (Serves id) e h = over_unarmed k.uses m k.device port slot a (λ f. let z : Serves id ≡ Armed = sym e ∙ f in cc) (over slot).0
+        by (Serves id) e h = over_unarmed k.slot_states m k.device port slot a (λ f. let z : Serves id ≡ Armed = sym e ∙ f in cc) (over slot).0
 
-    all_agrees : StateRelation k.uses m k.device → StateRelation now m k.device
+    all_agrees : StateRelation k.slot_states m k.device → StateRelation now m k.device
     all_agrees a = record {
-      relates_slots = changed_at k.uses port (λ slot. Free) (λ q f. (s : ℕ) → RelatesSlot m k.device.memory k.device.tape (k.device.port q) q s (f s)) (is_free a) (λ q ne. a.relates_slots q);
-      serve_apart = λ p s p' s' id u v. a.serve_apart p s p' s' id (still p s id u).1 (still p' s' id v).1;
+      relates_slots = changed_at k.slot_states port (λ slot. Free) (λ q f. (s : ℕ) → RelatesSlot m k.device.memory k.device.tape (k.device.port q) q s (f s)) (is_free a) (λ q ne. a.relates_slots q);
+      serve_distinct_requests = λ p s p' s' id u v. a.serve_distinct_requests p s p' s' id (still p s id u).1 (still p' s' id v).1;
       received_areas_are_placed = a.received_areas_are_placed;
       disks_are_same = a.disks_are_same;
-      memory_is_same = a.memory_is_same;
+      client_frames_are_same = a.client_frames_are_same;
       sectors_are_same = a.sectors_are_same;
-      has_lasting = a.has_lasting;
+      holds_replug_candidates = a.holds_replug_candidates;
     }
 
     pub all_given_up : DriverRelation m k → DriverRelation m (with_all_parked k port)
     all_given_up x = record {
       state_relation = all_agrees x.state_relation;
       have_slots = λ q y may here. ⊎_elim
-          (λ (c : Contains (k.parked q) y.request.id). inl (more q y.request.id c))
-          (λ (w : (slot : ℕ) × (k.uses q slot ≡ Serves y.request.id)). moved q y.request.id w.0 w.1)
+          (λ (c : Contains (k.awaiting_disposition q) y.request.id). inl (more q y.request.id c))
+          (λ (w : (slot : ℕ) × (k.slot_states q slot ≡ Serves y.request.id)). moved q y.request.id w.0 w.1)
           (x.have_slots q y may here);
     }
       where
-        more : (q : ℕ) (i : RequestId) → Contains (k.parked q) i → Contains ((with_all_parked k port).parked q) i
-        more q i = changed_at k.parked port (ids_in_slots k.uses port 32 ++ k.parked port) (λ n l. Contains (k.parked n) i → Contains l i)
-            (λ c. Contains-append_right (ids_in_slots k.uses port 32) (k.parked port) i c) (λ n _ c. c) q
+        more : (q : ℕ) (i : RequestId) → Contains (k.awaiting_disposition q) i → Contains ((with_all_parked k port).awaiting_disposition q) i
+        more q i = changed_at k.awaiting_disposition port (ids_in_slots k.slot_states port 32 ++ k.awaiting_disposition port) (λ n l. Contains (k.awaiting_disposition n) i → Contains l i)
+            (λ c. Contains-append_right (ids_in_slots k.slot_states port 32) (k.awaiting_disposition port) i c) (λ n _ c. c) q
 
-        moved : (q : ℕ) (i : RequestId) (slot : ℕ) → k.uses q slot ≡ Serves i → Contains ((with_all_parked k port).parked q) i ⊎ ((s : ℕ) × (now q s ≡ Serves i))
+        moved : (q : ℕ) (i : RequestId) (slot : ℕ) → k.slot_states q slot ≡ Serves i → Contains ((with_all_parked k port).awaiting_disposition q) i ⊎ ((s : ℕ) × (now q s ≡ Serves i))
         moved q i slot u = ⊎_elim
-            (λ (e : q ≡ port). inl (subst (λ (n : ℕ). Contains ((with_all_parked k port).parked n) i) (sym e) (parks_all m slot i x.state_relation (ap (λ (n : ℕ). k.uses n slot) (sym e) ∙ u))))
-            (λ (ne : q ≡ port → ⊥). inr (slot, ap (λ (f : ℕ → SlotState). f slot) (changed_other k.uses port (λ s. Free) q ne) ∙ u))
+            (λ (e : q ≡ port). inl (subst (λ (n : ℕ). Contains ((with_all_parked k port).awaiting_disposition n) i) (sym e) (parks_all m slot i x.state_relation (ap (λ (n : ℕ). k.slot_states n slot) (sym e) ∙ u))))
+            (λ (ne : q ≡ port → ⊥). inr (slot, ap (λ (f : ℕ → SlotState). f slot) (changed_other k.slot_states port (λ s. Free) q ne) ∙ u))
             (cases_eq q port)
 
-pub given_up_over : (k : DriverState) (m : Machine) (port : ℕ) → DriverRelation m k → AreSlotsOver k.uses (k.device.port port) port → DriverRelation m (with_all_parked k port)
+pub given_up_over : (k : DriverState) (m : Machine) (port : ℕ) → DriverRelation m k → AreSlotsOverAndUnarmed k.slot_states (k.device.port port) port → DriverRelation m (with_all_parked k port)
 given_up_over k m port x over = all_given_up k port m over x
 
 pub given_up_halted : (k : DriverState) (m : Machine) (port : ℕ) → DriverRelation m k → IsEngineStopped (k.device.port port) → DriverRelation m (with_all_parked k port)
-given_up_halted k m port x h = all_given_up k port m (λ slot. (record { issued = h.ci slot; free = h.taken slot }, λ _. h.st)) x
+given_up_halted k m port x h = all_given_up k port m (λ slot. (record { is_not_issued = h.no_command_is_issued slot; is_not_taken = h.no_command_is_taken slot }, λ _. h.st_is_clear)) x

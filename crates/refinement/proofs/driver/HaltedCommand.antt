@@ -10,7 +10,7 @@ use Rattle.adapter.specs.Access.{Access, Does, port_after_write}
 use Rattle.adapter.specs.Commands.{is_queued}
 use Rattle.adapter.specs.Device.{Halt, FetchedCommand, DevicePort, Device}
 use Rattle.adapter.specs.Device.Halt.{NotHalted, HaltedPlain, HaltedQueued, LogOnly}
-use Rattle.adapter.specs.Steps.{DeviceTransition, Can, device_after, TransitionsLead, Steps, admits, halted, halt_after_start}
+use Rattle.adapter.specs.Steps.{DeviceTransition, Can, device_after, TransitionsLead, Steps, admits, halt_after_fault, halt_after_start}
 use Rattle.adapter.specs.Steps.DeviceTransition.{Fetch, FetchFault, Move, Clear, Done, Fault, Fatal, Fall, FrFall, LinkUp, Unplug, Plug, ResetEnds, Scribble}
 use Rattle.adapter.specs.declared.command.Operation.{Operation}
 use Rattle.adapter.specs.declared.command.Operation.TheVariants.{Trim}
@@ -24,7 +24,7 @@ use Rattle.refinement.specs.Relation.{StateRelation}
 use Rattle.refinement.specs.Driver.{DriverState, DriverRelation}
 use Rattle.refinement.specs.Simulation.{SimulatesSteps}
 use Rattle.refinement.specs.Halting.{HaltIsOfTaken, HaltOfTakenIfSt}
-use Rattle.refinement.specs.Links.{DoesNotWrite}
+use Rattle.refinement.specs.PreservedParts.{DoesNotWrite}
 use Rattle.refinement.specs.HaltRecovery.{WorksPlainly}
 use Rattle.refinement.specs.Slots.{SlotStates}
 use Rattle.refinement.proofs.device.FactsOverAccesses.{access_steps, effect_keeps}
@@ -41,7 +41,7 @@ not_halted : (h : Halt) (o : Operation) → admits h o ≡ true → h ≢ Halted
 not_halted h o admitted is = false≢true (ap (λ (x : Halt). admits x o) (sym is) ∙ admitted)
 
 -- a fault doesn't await the log
-faulted_unlogged : (h : Halt) (queued : Bool) → halted h queued ≢ LogOnly
+faulted_unlogged : (h : Halt) (queued : Bool) → halt_after_fault h queued ≢ LogOnly
 faulted_unlogged NotHalted true is = let z : HaltedQueued ≡ LogOnly = is in cc
 faulted_unlogged NotHalted false is = let z : HaltedPlain ≡ LogOnly = is in cc
 faulted_unlogged HaltedPlain true is = let z : HaltedQueued ≡ LogOnly = is in cc
@@ -50,7 +50,7 @@ faulted_unlogged HaltedQueued queued is = let z : HaltedQueued ≡ LogOnly = is 
 faulted_unlogged LogOnly queued is = let z : HaltedQueued ≡ LogOnly = is in cc
 
 -- a plain fault is one of a queued command only where one halted the port before
-faulted_plain : (h : Halt) → h ≢ LogOnly → halted h false ≡ HaltedQueued → h ≡ HaltedQueued
+faulted_plain : (h : Halt) → h ≢ LogOnly → halt_after_fault h false ≡ HaltedQueued → h ≡ HaltedQueued
 faulted_plain NotHalted other is = absurd (let z : HaltedPlain ≡ HaltedQueued = is in cc)
 faulted_plain HaltedPlain other is = absurd (let z : HaltedPlain ≡ HaltedQueued = is in cc)
 faulted_plain HaltedQueued other is = refl
@@ -86,16 +86,16 @@ working_halts p new o halt admitted h = record {
   queued_is_taken = λ queued. absurd (not_halted p.halt o admitted (sym halt ∙ queued));
 }
 
-fault_halts : (p new : DevicePort) (slot : ℕ) (t : FetchedCommand) → new.halt ≡ halted p.halt (is_queued t.meaning.operation) → new.taken ≡ p.taken → p.taken slot ≡ Some t → HaltIsOfTaken p → HaltIsOfTaken new
+fault_halts : (p new : DevicePort) (slot : ℕ) (t : FetchedCommand) → new.halt ≡ halt_after_fault p.halt (is_queued t.meaning.operation) → new.taken ≡ p.taken → p.taken slot ≡ Some t → HaltIsOfTaken p → HaltIsOfTaken new
 fault_halts p new slot t halt taken here h = record {
   is_not_log_only = λ log. faulted_unlogged p.halt (is_queued t.meaning.operation) (sym halt ∙ log);
   queued_is_taken = λ queued. by (is_queued t.meaning.operation) refl (sym halt ∙ queued);
 }
   where
-    by : (b : Bool) → is_queued t.meaning.operation ≡ b → halted p.halt (is_queued t.meaning.operation) ≡ HaltedQueued → (slot : ℕ) × (t : FetchedCommand) × (new.taken slot ≡ Some t) × (is_queued t.meaning.operation ≡ true)
+    by : (b : Bool) → is_queued t.meaning.operation ≡ b → halt_after_fault p.halt (is_queued t.meaning.operation) ≡ HaltedQueued → (slot : ℕ) × (t : FetchedCommand) × (new.taken slot ≡ Some t) × (is_queued t.meaning.operation ≡ true)
     by true kind is = (slot, t, ap (λ (f : ℕ → Option FetchedCommand). f slot) taken ∙ here, kind)
     by false kind is =
-        let w = h.queued_is_taken (faulted_plain p.halt h.is_not_log_only (ap (halted p.halt) (sym kind) ∙ is)) in
+        let w = h.queued_is_taken (faulted_plain p.halt h.is_not_log_only (ap (halt_after_fault p.halt) (sym kind) ∙ is)) in
         (w.0, w.1, ap (λ (f : ℕ → Option FetchedCommand). f w.0) taken ∙ w.2, w.3)
 
 -- ---- a step
@@ -124,7 +124,7 @@ leads_halts : StepLaws → (uses : SlotStates) (m : Machine) (port : ℕ) (steps
 leads_halts laws uses m port [] old new r a e h = subst (λ (d : Device). HaltOfTakenIfSt (d.port port)) (sym e) h
 leads_halts laws uses m port (step ∷ steps) old new r a (can, lead) h =
     let f : SimulatesSteps uses m old (device_after step old) = step_follows uses m old step r a can in
-    leads_halts laws uses (left.after m f.steps) port steps (device_after step old) new (laws.reached m f.steps r f.may) f.agrees lead (step_halts uses m old a port h step can)
+    leads_halts laws uses (left.after m f.steps) port steps (device_after step old) new (laws.reachable_goes_on m f.steps r f.steps_are_enabled) f.state_relation lead (step_halts uses m old a port h step can)
 
 pub steps_halts : StepLaws → (uses : SlotStates) (m : Machine) (port : ℕ) (old new : Device) → IsReachable m → StateRelation uses m old → Steps old new → HaltOfTakenIfSt (old.port port) → HaltOfTakenIfSt (new.port port)
 steps_halts laws uses m port old new r a s h = leads_halts laws uses m port s.steps old new r a s.lead h
@@ -154,7 +154,7 @@ module _ (laws : StepLaws) (port : Port) where
   acts_halts acts k later m reached x done all h = done_keeps Holds (λ act. IsOfKind (DoesNotWrite (Px port Cmd)) act.access)
       (λ z n act r knows is spares. over z n act r knows act.access is.access_leads spares) acts k later m reached x (acts_of_kind (DoesNotWrite (Px port Cmd)) acts all) done h
     where
-      over : (z : DriverState) (n : Machine) (act : Act) → IsReachable n → DriverRelation n z → (access : Option Access) → AccessLeads access z.device act.later.device → IsOfKind (DoesNotWrite (Px port Cmd)) access
-          → Holds z → Holds act.later
+      over : (z : DriverState) (n : Machine) (act : Act) → IsReachable n → DriverRelation n z → (access : Option Access) → AccessLeads access z.device act.state_after.device → IsOfKind (DoesNotWrite (Px port Cmd)) access
+          → Holds z → Holds act.state_after
       over z n act r knows None same spares here = subst (λ (d : Device). HaltOfTakenIfSt (d.port port.0)) (sym same) here
-      over z n act r knows (Some access) does spares here = access_halts laws z.uses n port access z.device act.later.device r knows.state_relation spares does here
+      over z n act r knows (Some access) does spares here = access_halts laws z.slot_states n port access z.device act.state_after.device r knows.state_relation spares does here

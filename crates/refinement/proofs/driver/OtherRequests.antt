@@ -5,7 +5,7 @@ use Rattle.std.proofs.lemmas.List.Elements.{Contains-append_left}
 use Rattle.ata_types.specs.declared.Port.{Port}
 use Rattle.ata_types.specs.declared.request.RequestId.{RequestId}
 use Rattle.block_machine.specs.State.{Pending, Machine}
-use Rattle.block_machine.specs.Steps.{Step, Accept, Issue, Touch, End, Age, WaitAgain, Answer, Release, NoneQuarantined, after_step, newly_accepted, newly_issued, touch, mark_ended, aged_pending, requeued, is_kept_at_answer}
+use Rattle.block_machine.specs.Steps.{Step, Accept, Issue, Touch, End, Age, WaitAgain, Answer, Release, NoneKept, after_step, newly_accepted, newly_issued, touch, mark_ended, aged_pending, requeued, is_kept_at_answer}
 use Rattle.block_machine.proofs.Members.{into_map, contains_there}
 use Rattle.refinement.specs.PortFacts.{EndedIn}
 use Rattle.refinement.specs.SparedBook.{IsOfAnother}
@@ -74,7 +74,7 @@ stays_ended m step port id other more h = ⊎_elim
     its : IsOfAnother h.pending.request.id step
     its = subst (λ (i : RequestId). IsOfAnother i step) (sym h.id_is) other
 
-pub ended_released : (m : Machine) (port : Port) (id : RequestId) → NoneQuarantined m port → EndedIn m port id → EndedIn (after_step m Release) port id
+pub ended_released : (m : Machine) (port : Port) (id : RequestId) → NoneKept m port → EndedIn m port id → EndedIn (after_step m Release) port id
 ended_released m port id none h = record {
   pending = h.pending;
   may_still_move = ⊎_elim

@@ -23,16 +23,16 @@ one_bit false ci sact st c s on = inl (c ∙ ap (λ (b : Bool). b && true) on)
 
 module _ (uses : SlotStates) (m : Machine) (d : Device) (port slot : ℕ) (a : StateRelation uses m d) (used : InUse (d.port port) slot) where
   unused : {A : Type 0} → (d.port port).ci slot ≡ false → (d.port port).taken slot ≡ None → A
-  unused issued free = absurd (over_unused (d.port port) slot (record { issued = issued; free = free }) used)
+  unused issued free = absurd (over_unused (d.port port) slot (record { is_not_issued = issued; is_not_taken = free }) used)
 
   pub used_outstanding : IsOutstanding uses m (d.port port) port slot
   used_outstanding = by (uses port slot) refl (a.relates_slots port slot)
     where
       by : (u : SlotState) → uses port slot ≡ u → RelatesSlot m d.memory d.tape (d.port port) port slot u → IsOutstanding uses m (d.port port) port slot
-      by Free e h = unused h.issued h.free
-      by Armed e h = unused h.issued h.free
+      by Free e h = unused h.is_not_issued h.is_not_taken
+      by Armed e h = unused h.is_not_issued h.is_not_taken
       by (Own o) e h = record {
-        below = h.list_is_in_place.slot_below;
+        slot_is_below_32 = h.list_is_in_place.slot_below;
         is_own_or_unended = inl (o, e, h.slot_is_0);
         bit_is_set_while_st = λ st. inl (of st h.stage);
       }
@@ -40,9 +40,9 @@ module _ (uses : SlotStates) (m : Machine) (d : Device) (port slot : ℕ) (a : S
           of : (d.port port).st ≡ true → OwnAwaitsFetch (d.port port) slot ⊎ (OwnIsTaken d.memory d.tape (d.port port) port slot h.command ⊎ OwnIsOver d.memory d.tape (d.port port) port slot h.command) → (d.port port).ci slot ≡ true
           of st (inl w) = w.issued
           of st (inr (inl x)) = x.issued ∙ st
-          of st (inr (inr x)) = unused x.over.issued x.over.free
+          of st (inr (inr x)) = unused x.over.is_not_issued x.over.is_not_taken
       by (Serves id) e h = record {
-        below = h.list_is_in_place.slot_below;
+        slot_is_below_32 = h.list_is_in_place.slot_below;
         is_own_or_unended = inr (id, e, record { pending = h.pending; may_still_move = h.may_still_move; id_is = h.id_is; port_is = h.port_is; unended = of h.stage });
         bit_is_set_while_st = λ st. bits st h.stage;
       }
@@ -50,14 +50,14 @@ module _ (uses : SlotStates) (m : Machine) (d : Device) (port slot : ℕ) (a : S
           of : IsInSomeStage d.memory (d.port port) port slot h.pending h.command h.places → h.pending.ended ≡ false
           of (inl w) = w.unended
           of (inr (inl x)) = x.unended
-          of (inr (inr (inl x))) = unused x.issued x.free
+          of (inr (inr (inl x))) = unused x.is_not_issued x.is_not_taken
           of (inr (inr (inr x))) = x.unended
 
           bits : (d.port port).st ≡ true → IsInSomeStage d.memory (d.port port) port slot h.pending h.command h.places → ((d.port port).ci slot ≡ true) ⊎ ((d.port port).sact slot ≡ true)
           bits st (inl w) = inl w.issued
-          bits st (inr (inl x)) = one_bit (is_queued h.command.operation) ((d.port port).ci slot) ((d.port port).sact slot) (d.port port).st x.issued x.sact st
-          bits st (inr (inr (inl x))) = unused x.issued x.free
-          bits st (inr (inr (inr x))) = unused x.issued x.free
+          bits st (inr (inl x)) = one_bit (is_queued h.command.operation) ((d.port port).ci slot) ((d.port port).sact slot) (d.port port).st x.ci_is_set_while_plain x.sact st
+          bits st (inr (inr (inl x))) = unused x.is_not_issued x.is_not_taken
+          bits st (inr (inr (inr x))) = unused x.is_not_issued x.is_not_taken
 
 pub shown_outstanding : (uses : SlotStates) (m : Machine) (d : Device) (port : ℕ) (entries : List Entry) → StateRelation uses m d → (s : ShowsFault entries (d.port port) port) → IsOutstanding uses m (d.port port) port s.fault.slot.0
 shown_outstanding uses m d port entries a s = used_outstanding uses m d port s.fault.slot.0 a s.slot_is_in_use
@@ -77,21 +77,21 @@ stopped_clear uses m d port slot a st = by (uses port slot) (a.relates_slots por
     masked b c is = is ∙ ap (λ (x : Bool). x && c) st
 
     by : (u : SlotState) → RelatesSlot m d.memory d.tape (d.port port) port slot u → ((d.port port).ci slot ≡ false) × ((d.port port).sact slot ≡ false)
-    by Free h = (h.issued, h.unarmed)
-    by Armed h = (h.issued, h.armed ∙ st)
+    by Free h = (h.is_not_issued, h.unarmed)
+    by Armed h = (h.is_not_issued, h.armed ∙ st)
     by (Own o) h = (of h.stage, h.unqueued)
       where
         of : OwnAwaitsFetch (d.port port) slot ⊎ (OwnIsTaken d.memory d.tape (d.port port) port slot h.command ⊎ OwnIsOver d.memory d.tape (d.port port) port slot h.command) → (d.port port).ci slot ≡ false
         of (inl w) = absurd (both_ways _ st w.started)
         of (inr (inl t)) = t.issued ∙ st
-        of (inr (inr x)) = x.over.issued
+        of (inr (inr x)) = x.over.is_not_issued
     by (Serves id) h = of h.stage
       where
         of : IsInSomeStage d.memory (d.port port) port slot h.pending h.command h.places → ((d.port port).ci slot ≡ false) × ((d.port port).sact slot ≡ false)
         of (inl w) = absurd (both_ways _ st w.started)
-        of (inr (inl t)) = (masked ((d.port port).ci slot) (not (is_queued h.command.operation)) t.issued, masked ((d.port port).sact slot) (is_queued h.command.operation) t.sact)
-        of (inr (inr (inl x))) = (x.issued, x.sact)
-        of (inr (inr (inr x))) = (x.issued, x.sact)
+        of (inr (inl t)) = (masked ((d.port port).ci slot) (not (is_queued h.command.operation)) t.ci_is_set_while_plain, masked ((d.port port).sact slot) (is_queued h.command.operation) t.sact)
+        of (inr (inr (inl x))) = (x.is_not_issued, x.sact_is_clear)
+        of (inr (inr (inr x))) = (x.is_not_issued, x.sact_is_clear)
 
 pub over_decided : (uses : SlotStates) (m : Machine) (d : Device) (port slot : ℕ) (id : RequestId) → StateRelation uses m d → uses port slot ≡ Serves id → IsOver (d.port port) slot →
     (e : Pending) × MayStillMove m e × (e.request.id ≡ id) × ((e.ended ≡ true) ⊎ (((d.port port).st ≡ false) × (e.ended ≡ false)))
@@ -100,7 +100,7 @@ over_decided uses m d port slot id a u over =
     (h.pending, h.may_still_move, h.id_is, of h h.stage)
   where
     of : (h : ServesRequest m d.memory (d.port port) port slot id) → IsInSomeStage d.memory (d.port port) port slot h.pending h.command h.places → (h.pending.ended ≡ true) ⊎ (((d.port port).st ≡ false) × (h.pending.ended ≡ false))
-    of h (inl w) = absurd (both_ways _ over.issued w.issued)
-    of h (inr (inl t)) = absurd (none-some _ (sym over.free ∙ t.taken))
+    of h (inl w) = absurd (both_ways _ over.is_not_issued w.issued)
+    of h (inr (inl t)) = absurd (none-some _ (sym over.is_not_taken ∙ t.taken))
     of h (inr (inr (inl x))) = inl x.ended
-    of h (inr (inr (inr x))) = inr (x.stopped, x.unended)
+    of h (inr (inr (inr x))) = inr (x.st_is_clear, x.unended)

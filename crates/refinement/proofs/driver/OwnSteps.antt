@@ -36,27 +36,27 @@ use Rattle.ata_types.specs.declared.request.ClientId.{ClientId}
 
 -- another form of a request that asks the same and is as far
 module _ (memory : ℕ → ℕ) (p : DevicePort) (port slot : ℕ) (e : Pending) (c : Meaning) (places : List ℕ) (issues age : ℕ) (issued : Bool) where
-  progress_of : (op : Op) (t : FetchedCommand) → TouchedAsMoved op memory port e t → TouchedAsMoved op memory port (record e { issues = issues; age = age; issued = issued }) t
+  progress_of : (op : Op) (t : FetchedCommand) → TouchedAsMoved op memory port e t → TouchedAsMoved op memory port (record e { issue_count = issues; age = age; issued = issued }) t
   progress_of Read t h = h
   progress_of Write t h = h
   progress_of Trim t h = h
   progress_of Flush t h = h
 
-  stage_of : IsInSomeStage memory p port slot e c places → IsInSomeStage memory p port slot (record e { issues = issues; age = age; issued = issued }) c places
-  stage_of (inl w) = inl (record { started = w.started; issued = w.issued; free = w.free; sact = w.sact; block = w.block; untouched = w.untouched; unended = w.unended })
-  stage_of (inr (inl t)) = inr (inl (record { command = t.command; taken = t.taken; meaning = t.meaning; places_are = t.places_are; running = t.running; issued = t.issued; sact = t.sact; progress = progress_of e.request.asked.op t.command t.progress; unended = t.unended }))
-  stage_of (inr (inr (inl x))) = inr (inr (inl (record { issued = x.issued; sact = x.sact; free = x.free; ended = x.ended; touched = x.touched })))
-  stage_of (inr (inr (inr x))) = inr (inr (inr (record { stopped = x.stopped; issued = x.issued; sact = x.sact; free = x.free; unended = x.unended })))
+  stage_of : IsInSomeStage memory p port slot e c places → IsInSomeStage memory p port slot (record e { issue_count = issues; age = age; issued = issued }) c places
+  stage_of (inl w) = inl (record { started = w.started; issued = w.issued; is_not_taken = w.is_not_taken; sact = w.sact; has_block_if_trim = w.has_block_if_trim; untouched = w.untouched; unended = w.unended })
+  stage_of (inr (inl t)) = inr (inl (record { command = t.command; taken = t.taken; meaning = t.meaning; places_are = t.places_are; running = t.running; ci_is_set_while_plain = t.ci_is_set_while_plain; sact = t.sact; progress = progress_of e.request.asked.op t.command t.progress; unended = t.unended }))
+  stage_of (inr (inr (inl x))) = inr (inr (inl (record { is_not_issued = x.is_not_issued; sact_is_clear = x.sact_is_clear; is_not_taken = x.is_not_taken; ended = x.ended; touched = x.touched })))
+  stage_of (inr (inr (inr x))) = inr (inr (inr (record { st_is_clear = x.st_is_clear; is_not_issued = x.is_not_issued; sact_is_clear = x.sact_is_clear; is_not_taken = x.is_not_taken; unended = x.unended })))
 
--- each request that may move may so afterwards, perhaps older or issued more often
+-- each request that may move may so afterwards, perhaps older or is_not_issued more often
 pub record GoesOn (m m' : Machine) (e : Pending) : Type 0 where
   pub issues : ℕ
   pub age : ℕ
   pub issued : Bool
-  pub moves : MayStillMove m' (record e { issues = issues; age = age; issued = issued })
+  pub moves : MayStillMove m' (record e { issue_count = issues; age = age; issued = issued })
 
 pub goes_on_same : (m m' : Machine) (e : Pending) → MayStillMove m' e → GoesOn m m' e
-goes_on_same m m' e r = record { issues = e.issues; age = e.age; issued = e.issued; moves = r }
+goes_on_same m m' e r = record { issues = e.issue_count; age = e.age; issued = e.issued; moves = r }
 
 served_goes : (m m' : Machine) (d : Device) (p : DevicePort) (port slot : ℕ) (u : SlotState) → ((id : RequestId) → u ≡ Serves id → (e : Pending) → e.request.id ≡ id → MayStillMove m e → GoesOn m m' e) →
     RelatesSlot m d.memory d.tape p port slot u → RelatesSlot m' d.memory d.tape p port slot u
@@ -66,7 +66,7 @@ served_goes m m' d p port slot (Own o) goes h = h
 served_goes m m' d p port slot (Serves id) goes h =
     let g = goes id refl h.pending h.id_is h.may_still_move in
     record {
-      pending = record h.pending { issues = g.issues; age = g.age; issued = g.issued };
+      pending = record h.pending { issue_count = g.issues; age = g.age; issued = g.issued };
       may_still_move = g.moves;
       id_is = h.id_is;
       port_is = h.port_is;
@@ -83,23 +83,23 @@ pub agrees_on : (uses : SlotStates) (m m' : Machine) (d : Device) → StateRelat
     ((q k : ℕ) (id : RequestId) → uses q k ≡ Serves id → (e : Pending) → e.request.id ≡ id → MayStillMove m e → GoesOn m m' e) → StateRelation uses m' d
 agrees_on uses m m' d a world goes = record {
   relates_slots = λ q k. served_goes m m' d (d.port q) q k (uses q k) (goes q k) (a.relates_slots q k);
-  serve_apart = a.serve_apart;
+  serve_distinct_requests = a.serve_distinct_requests;
   received_areas_are_placed = a.received_areas_are_placed;
   disks_are_same = λ q. record {
     present = ap (λ (f : Port → Bool). f (port_at q)) world.present ∙ (a.disks_are_same q).present;
     id = ap (λ (f : Port → ℕ). f (port_at q)) world.ids ∙ (a.disks_are_same q).id;
-    size = ap (λ (f : Port → ℕ). f (port_at q)) world.sizes ∙ (a.disks_are_same q).size;
+    sector_count = ap (λ (f : Port → ℕ). f (port_at q)) world.sizes ∙ (a.disks_are_same q).sector_count;
   };
-  memory_is_same = λ f b from small. a.memory_is_same f b from small ∙ ap (λ (g : Memory). g f b) (sym world.memory);
+  client_frames_are_same = λ f b from small. a.client_frames_are_same f b from small ∙ ap (λ (g : Memory). g f b) (sym world.memory);
   sectors_are_same = λ t q. sectors_on m m' (d.port q).disk q (λ k b lb. ap (λ (g : Port → DiskBytes). g (port_at q) k b) world.disks) (a.sectors_are_same t q);
-  has_lasting = λ t q. lasting_on m m' d.tape d.tape (d.port q) (d.port q) q refl refl (keeps_same m m' q world.disks world.aside) (gains_none d.tape m' q) (a.has_lasting t q);
+  holds_replug_candidates = λ t q. lasting_on m m' d.tape d.tape (d.port q) (d.port q) q refl refl (keeps_same m m' q world.disks world.aside) (gains_none d.tape m' q) (a.holds_replug_candidates t q);
 }
 
 -- ---- accept
 
 pub accept_knows : (k : DriverState) (m : Machine) (r : Accepted) → DriverRelation m k → DriverRelation (after_step m (Accept r)) k
 accept_knows k m r x = record {
-  state_relation = agrees_on k.uses m (after_step m (Accept r)) k.device x.state_relation (record { present = refl; ids = refl; sizes = refl; disks = refl; aside = refl; memory = refl })
+  state_relation = agrees_on k.slot_states m (after_step m (Accept r)) k.device x.state_relation (record { present = refl; ids = refl; sizes = refl; disks = refl; aside = refl; memory = refl })
       (λ q s id u e is may. goes_on_same m (after_step m (Accept r)) e (⊎_elim
       (λ (z : Contains m.book e × (e.issued ≡ true)). inl (Contains-append_left m.book (newly_accepted r ∷ []) e z.0, z.1))
       (λ (z : Contains m.kept e). inr z) may));
@@ -126,13 +126,13 @@ older_is ready e = by (e.issued && ready e.request.port) refl
 
 pub tick_knows : (k : DriverState) (m : Machine) (ready : Port → Bool) → DriverRelation m k → DriverRelation (after_step m (Age ready)) k
 tick_knows k m ready x = record {
-  state_relation = agrees_on k.uses m (after_step m (Age ready)) k.device x.state_relation (record { present = refl; ids = refl; sizes = refl; disks = refl; aside = refl; memory = refl })
+  state_relation = agrees_on k.slot_states m (after_step m (Age ready)) k.device x.state_relation (record { present = refl; ids = refl; sizes = refl; disks = refl; aside = refl; memory = refl })
       (λ q s id u e is may. goes e may);
   have_slots = λ q y may at_port. ⊎_elim
       (λ (z : Contains (map (aged_pending ready) m.book) y × (y.issued ≡ true)).
       let w = map_in (aged_pending ready) m.book y z.0 in
       let same : y ≡ record w.0 { age = (aged_pending ready w.0).age } = w.2 ∙ older_is ready w.0 in
-      subst (λ (r : Accepted). Contains (k.parked q) r.id ⊎ ((slot : ℕ) × (k.uses q slot ≡ Serves r.id))) (sym (ap (λ (e : Pending). e.request) same))
+      subst (λ (r : Accepted). Contains (k.awaiting_disposition q) r.id ⊎ ((slot : ℕ) × (k.slot_states q slot ≡ Serves r.id))) (sym (ap (λ (e : Pending). e.request) same))
       (x.have_slots q w.0 (inl (w.1, ap (λ (e : Pending). e.issued) (sym same) ∙ z.1)) (ap (λ (e : Pending). e.request.port.0) (sym same) ∙ at_port)))
       (λ (z : Contains m.kept y). x.have_slots q y (inr z) at_port) may;
 }
@@ -140,7 +140,7 @@ tick_knows k m ready x = record {
     goes : (e : Pending) → MayStillMove m e → GoesOn m (after_step m (Age ready)) e
     goes e may = ⊎_elim
         (λ (z : Contains m.book e × (e.issued ≡ true)). record {
-          issues = e.issues;
+          issues = e.issue_count;
           age = (aged_pending ready e).age;
           issued = e.issued;
           moves = inl (subst (λ (y : Pending). Contains (map (aged_pending ready) m.book) y) (older_is ready e) (into_map (aged_pending ready) m.book e z.0), z.1);
@@ -150,7 +150,7 @@ tick_knows k m ready x = record {
 -- the row of a grant goes, of which the relation says nothing
 pub revoke_knows : (k : DriverState) (m : Machine) (client : ClientId) (number : ℕ) → DriverRelation m k → DriverRelation (after_step m (Revoke client number)) k
 revoke_knows k m client number x = record {
-  state_relation = agrees_on k.uses m (after_step m (Revoke client number)) k.device x.state_relation (record { present = refl; ids = refl; sizes = refl; disks = refl; aside = refl; memory = refl })
+  state_relation = agrees_on k.slot_states m (after_step m (Revoke client number)) k.device x.state_relation (record { present = refl; ids = refl; sizes = refl; disks = refl; aside = refl; memory = refl })
       (λ q s id u e is may. goes_on_same m (after_step m (Revoke client number)) e may);
   have_slots = x.have_slots;
 }
@@ -178,15 +178,15 @@ record Leaves (m m' : Machine) (id : RequestId) : Type 0 where
   moves : (e : Pending) → e.request.id ≢ id → MayStillMove m e → MayStillMove m' e
   back : (e : Pending) → MayStillMove m' e → MayStillMove m e × (e.request.id ≢ id)
 
-leaves_knows : (k : DriverState) (m m' : Machine) (id : RequestId) (later : ℕ → List RequestId) → DriverRelation m k → HasNoSlot k.uses id → ForgetsAtMost id k.parked later → Leaves m m' id → DriverRelation m' (record k { parked = later })
+leaves_knows : (k : DriverState) (m m' : Machine) (id : RequestId) (later : ℕ → List RequestId) → DriverRelation m k → HasNoSlot k.slot_states id → ForgetsAtMost id k.awaiting_disposition later → Leaves m m' id → DriverRelation m' (record k { awaiting_disposition = later })
 leaves_knows k m m' id later x none forgets l = record {
-  state_relation = agrees_on k.uses m m' k.device x.state_relation l.world
+  state_relation = agrees_on k.slot_states m m' k.device x.state_relation l.world
       (λ q s other u e is may. goes_on_same m m' e (l.moves e (λ same. none q s (u ∙ ap Serves (sym is ∙ same))) may));
   have_slots = λ q y may at_port.
       let b = l.back y may in
       ⊎_elim
-      (λ (p : Contains (k.parked q) y.request.id). inl (forgets q y.request.id p b.1))
-      (λ (w : (slot : ℕ) × (k.uses q slot ≡ Serves y.request.id)). inr w)
+      (λ (p : Contains (k.awaiting_disposition q) y.request.id). inl (forgets q y.request.id p b.1))
+      (λ (w : (slot : ℕ) × (k.slot_states q slot ≡ Serves y.request.id)). inr w)
       (x.have_slots q y b.0 at_port);
 }
 
@@ -225,19 +225,19 @@ again_leaves m e s here = record {
 }
 
 pub answer_knows : (k : DriverState) (m : Machine) (e : Pending) (outcome : Outcome) (later : ℕ → List RequestId) → IsReachable m → DriverRelation m k → Contains m.book e → is_kept_at_answer e outcome ≡ false →
-    HasNoSlot k.uses e.request.id → ForgetsAtMost e.request.id k.parked later → DriverRelation (after_step m (Answer e outcome)) (record k { parked = later })
+    HasNoSlot k.slot_states e.request.id → ForgetsAtMost e.request.id k.awaiting_disposition later → DriverRelation (after_step m (Answer e outcome)) (record k { awaiting_disposition = later })
 answer_knows k m e outcome later r x here gives none forgets =
     leaves_knows k m (after_step m (Answer e outcome)) e.request.id later x none forgets (answer_leaves m e outcome (standing m r).sound here gives)
 
 pub again_knows : (k : DriverState) (m : Machine) (e : Pending) (later : ℕ → List RequestId) → IsReachable m → DriverRelation m k → Contains m.book e →
-    HasNoSlot k.uses e.request.id → ForgetsAtMost e.request.id k.parked later → DriverRelation (after_step m (WaitAgain e)) (record k { parked = later })
+    HasNoSlot k.slot_states e.request.id → ForgetsAtMost e.request.id k.awaiting_disposition later → DriverRelation (after_step m (WaitAgain e)) (record k { awaiting_disposition = later })
 again_knows k m e later r x here none forgets =
     leaves_knows k m (after_step m (WaitAgain e)) e.request.id later x none forgets (again_leaves m e (standing m r).sound here)
 
 -- an answer that keeps the frames: the request stays in its slot
 pub keeping_knows : (k : DriverState) (m : Machine) (e : Pending) (outcome : Outcome) → IsReachable m → DriverRelation m k → Contains m.book e → is_kept_at_answer e outcome ≡ true → DriverRelation (after_step m (Answer e outcome)) k
 keeping_knows k m e outcome r x here stay = record {
-  state_relation = agrees_on k.uses m (after_step m (Answer e outcome)) k.device x.state_relation (record { present = refl; ids = refl; sizes = refl; disks = refl; aside = refl; memory = refl })
+  state_relation = agrees_on k.slot_states m (after_step m (Answer e outcome)) k.device x.state_relation (record { present = refl; ids = refl; sizes = refl; disks = refl; aside = refl; memory = refl })
       (λ q s id u y is may. goes_on_same m (after_step m (Answer e outcome)) y (goes y may));
   have_slots = λ q y may at_port. x.have_slots q y (⊎_elim
       (λ (z : Contains (without_pending e.request.id m.book) y × (y.issued ≡ true)). inl ((without_in e.request.id m.book y z.0).0, z.1))
@@ -271,18 +271,18 @@ keeping_knows k m e outcome r x here stay = record {
 
 -- ---- the frames of kept requests are given back
 
-pub release_knows : (k : DriverState) (m : Machine) (later : ℕ → List RequestId) → IsReachable m → DriverRelation m k → ((e : Pending) → Contains m.kept e → HasNoSlot k.uses e.request.id) →
-    ForgetsAtMostKept m k.parked later →
-    DriverRelation (after_step m Release) (record k { parked = later })
+pub release_knows : (k : DriverState) (m : Machine) (later : ℕ → List RequestId) → IsReachable m → DriverRelation m k → ((e : Pending) → Contains m.kept e → HasNoSlot k.slot_states e.request.id) →
+    ForgetsAtMostKept m k.awaiting_disposition later →
+    DriverRelation (after_step m Release) (record k { awaiting_disposition = later })
 release_knows k m later r x none forgets = record {
-  state_relation = agrees_on k.uses m (after_step m Release) k.device x.state_relation (record { present = refl; ids = refl; sizes = refl; disks = refl; aside = refl; memory = refl })
+  state_relation = agrees_on k.slot_states m (after_step m Release) k.device x.state_relation (record { present = refl; ids = refl; sizes = refl; disks = refl; aside = refl; memory = refl })
       (λ q s id u e is may. goes_on_same m (after_step m Release) e (⊎_elim
       (λ (z : Contains m.book e × (e.issued ≡ true)). inl z)
       (λ (z : Contains m.kept e). absurd (none e z q s (u ∙ ap Serves (sym is)))) may));
   have_slots = λ q y may at_port. ⊎_elim
       (λ (z : Contains m.book y × (y.issued ≡ true)). ⊎_elim
-      (λ (p : Contains (k.parked q) y.request.id). inl (forgets q y.request.id p (λ e kept same. (standing m r).sound.apart y e z.0 kept (ap (λ (i : RequestId). i.0) (sym same)))))
-      (λ (w : (slot : ℕ) × (k.uses q slot ≡ Serves y.request.id)). inr w)
+      (λ (p : Contains (k.awaiting_disposition q) y.request.id). inl (forgets q y.request.id p (λ e kept same. (standing m r).sound.apart y e z.0 kept (ap (λ (i : RequestId). i.0) (sym same)))))
+      (λ (w : (slot : ℕ) × (k.slot_states q slot ≡ Serves y.request.id)). inr w)
       (x.have_slots q y (inl z) at_port))
       (λ (z : Contains [] y). absurd (contains_none y z)) may;
 }
@@ -291,12 +291,12 @@ release_knows k m later r x none forgets = record {
 
 -- a slot whose command is over
 module _ (k : DriverState) (m : Machine) (x : DriverRelation m k) (port slot : ℕ) (over : IsOver (k.device.port port) slot) where
-  free_agrees : (k.uses port slot ≡ Armed → ⊥) → StateRelation (set_slot_state k.uses port slot Free) m k.device
-  free_agrees unarmed = put_agrees k.uses m m k.device x.state_relation k.device.port port slot Free (record {
+  free_agrees : (k.slot_states port slot ≡ Armed → ⊥) → StateRelation (set_slot_state k.slot_states port slot Free) m k.device
+  free_agrees unarmed = put_agrees k.slot_states m m k.device x.state_relation k.device.port port slot Free (record {
     world = record { present = refl; ids = refl; sizes = refl; disks = refl; aside = refl; memory = refl };
     moves = λ q s id u ne e is r. r;
     others = λ q s ne. SameSlot-refl (k.device.port q) s;
-    here = record { issued = over.issued; free = over.free; unarmed = over_unarmed k.uses m k.device port slot x.state_relation unarmed over };
+    here = record { is_not_issued = over.is_not_issued; is_not_taken = over.is_not_taken; unarmed = over_unarmed k.slot_states m k.device port slot x.state_relation unarmed over };
     apart = λ q s id f u. absurd (let z : Free ≡ Serves id = f in cc);
     fre = λ q. refl;
     received_at = λ q. refl;
@@ -304,43 +304,43 @@ module _ (k : DriverState) (m : Machine) (x : DriverRelation m k) (port slot : �
     disk = λ q. refl;
   })
 
-  pub park_knows : (id : RequestId) → k.uses port slot ≡ Serves id → DriverRelation m (with_slot_parked k port slot id)
+  pub park_knows : (id : RequestId) → k.slot_states port slot ≡ Serves id → DriverRelation m (with_slot_parked k port slot id)
   park_knows id u = record {
     state_relation = free_agrees (λ e. let z : Serves id ≡ Armed = sym u ∙ e in cc);
     have_slots = λ q y may at_port. ⊎_elim
-        (λ (p : Contains (k.parked q) y.request.id). inl (more q y.request.id p))
-        (λ (w : (s : ℕ) × (k.uses q s ≡ Serves y.request.id)). ⊎_elim
+        (λ (p : Contains (k.awaiting_disposition q) y.request.id). inl (more q y.request.id p))
+        (λ (w : (s : ℕ) × (k.slot_states q s ≡ Serves y.request.id)). ⊎_elim
         (λ (here : (q ≡ port) × (w.0 ≡ slot)).
-        let same : y.request.id ≡ id = serves_same (sym w.1 ∙ ap (λ (n : ℕ). k.uses n w.0) here.0 ∙ ap (λ (n : ℕ). k.uses port n) here.1 ∙ u) in
-        inl (subst (λ (n : ℕ). Contains (changed k.parked port (id ∷ k.parked port) n) y.request.id) (sym here.0)
-        (subst (λ (l : List RequestId). Contains l y.request.id) (sym (changed_same k.parked port (id ∷ k.parked port))) (contains_here id (k.parked port) y.request.id same))))
-        (λ (there : (q ≡ port → w.0 ≡ slot → ⊥) × (set_slot_state k.uses port slot Free q w.0 ≡ k.uses q w.0)). inr (w.0, there.1 ∙ w.1))
-        (put_cases k.uses port slot Free q w.0))
+        let same : y.request.id ≡ id = serves_same (sym w.1 ∙ ap (λ (n : ℕ). k.slot_states n w.0) here.0 ∙ ap (λ (n : ℕ). k.slot_states port n) here.1 ∙ u) in
+        inl (subst (λ (n : ℕ). Contains (changed k.awaiting_disposition port (id ∷ k.awaiting_disposition port) n) y.request.id) (sym here.0)
+        (subst (λ (l : List RequestId). Contains l y.request.id) (sym (changed_same k.awaiting_disposition port (id ∷ k.awaiting_disposition port))) (contains_here id (k.awaiting_disposition port) y.request.id same))))
+        (λ (there : (q ≡ port → w.0 ≡ slot → ⊥) × (set_slot_state k.slot_states port slot Free q w.0 ≡ k.slot_states q w.0)). inr (w.0, there.1 ∙ w.1))
+        (put_cases k.slot_states port slot Free q w.0))
         (x.have_slots q y may at_port);
   }
     where
-      more : (q : ℕ) (i : RequestId) → Contains (k.parked q) i → Contains (changed k.parked port (id ∷ k.parked port) q) i
-      more q i = changed_at k.parked port (id ∷ k.parked port) (λ n l. Contains (k.parked n) i → Contains l i) (λ c. contains_there id (k.parked port) i c) (λ n _ c. c) q
+      more : (q : ℕ) (i : RequestId) → Contains (k.awaiting_disposition q) i → Contains (changed k.awaiting_disposition port (id ∷ k.awaiting_disposition port) q) i
+      more q i = changed_at k.awaiting_disposition port (id ∷ k.awaiting_disposition port) (λ n l. Contains (k.awaiting_disposition n) i → Contains l i) (λ c. contains_there id (k.awaiting_disposition port) i c) (λ n _ c. c) q
 
-  pub own_release_knows : (o : Operation) → k.uses port slot ≡ Own o → DriverRelation m (with_slot_freed k port slot)
+  pub own_release_knows : (o : Operation) → k.slot_states port slot ≡ Own o → DriverRelation m (with_slot_freed k port slot)
   own_release_knows o u = record {
     state_relation = free_agrees (λ e. let z : Own o ≡ Armed = sym u ∙ e in cc);
-    have_slots = λ q. put_have k.uses m port slot Free q (k.parked q) (λ id v. absurd (let z : Own o ≡ Serves id = sym u ∙ v in cc)) (x.have_slots q);
+    have_slots = λ q. put_have k.slot_states m port slot Free q (k.awaiting_disposition q) (λ id v. absurd (let z : Own o ≡ Serves id = sym u ∙ v in cc)) (x.have_slots q);
   }
 
 -- an armed slot of a port whose ST is 0, which has cleared the bit
-pub disarm_knows : (k : DriverState) (m : Machine) → DriverRelation m k → (port slot : ℕ) → (k.device.port port).st ≡ false → k.uses port slot ≡ Armed → DriverRelation m (with_slot_freed k port slot)
+pub disarm_knows : (k : DriverState) (m : Machine) → DriverRelation m k → (port slot : ℕ) → (k.device.port port).st ≡ false → k.slot_states port slot ≡ Armed → DriverRelation m (with_slot_freed k port slot)
 disarm_knows k m x port slot st u = record {
-  state_relation = put_agrees k.uses m m k.device x.state_relation k.device.port port slot Free (record {
+  state_relation = put_agrees k.slot_states m m k.device x.state_relation k.device.port port slot Free (record {
     world = record { present = refl; ids = refl; sizes = refl; disks = refl; aside = refl; memory = refl };
     moves = λ q s id u ne e is r. r;
     others = λ q s ne. SameSlot-refl (k.device.port q) s;
-    here = (let h : IsArmed (k.device.port port) slot = subst (λ (w : SlotState). RelatesSlot m k.device.memory k.device.tape (k.device.port port) port slot w) u (x.state_relation.relates_slots port slot) in record { issued = h.issued; free = h.free; unarmed = h.armed ∙ st });
+    here = (let h : IsArmed (k.device.port port) slot = subst (λ (w : SlotState). RelatesSlot m k.device.memory k.device.tape (k.device.port port) port slot w) u (x.state_relation.relates_slots port slot) in record { is_not_issued = h.is_not_issued; is_not_taken = h.is_not_taken; unarmed = h.armed ∙ st });
     apart = λ q s id f u. absurd (let z : Free ≡ Serves id = f in cc);
     fre = λ q. refl;
     received_at = λ q. refl;
     present = λ q. refl;
     disk = λ q. refl;
   });
-  have_slots = λ q. put_have k.uses m port slot Free q (k.parked q) (λ id v. absurd (let z : Armed ≡ Serves id = sym u ∙ v in cc)) (x.have_slots q);
+  have_slots = λ q. put_have k.slot_states m port slot Free q (k.awaiting_disposition q) (λ id v. absurd (let z : Armed ≡ Serves id = sym u ∙ v in cc)) (x.have_slots q);
 }

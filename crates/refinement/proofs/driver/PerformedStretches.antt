@@ -4,11 +4,11 @@ use Rattle.adapter.specs.Access.{Access, DoesAll}
 use Rattle.adapter.specs.Device.{Device}
 use Rattle.block_machine.specs.Events.{AllByDevice}
 use Rattle.block_machine.specs.Expected.{after}
-use Rattle.refinement.specs.Acts.{Act, ActsByDeviceAlone, DriverSlots, IsActDone, Performs, accesses_of, driver_state, act_steps}
+use Rattle.refinement.specs.Acts.{Act, ActsByDeviceAlone, DriverSlots, IsActDone, Performs, accesses_of, driver_state_of_slots, act_steps}
 use Rattle.refinement.specs.Fragments.{IsSimulated, IsSimulatedChangingUses}
 use Rattle.refinement.specs.Driver.{AllFree}
 use Rattle.refinement.specs.PortFacts.{IsEngineStopped}
-use Rattle.refinement.specs.GivingUp.{with_all_given_up}
+use Rattle.refinement.specs.GivingUp.{slots_with_all_parked}
 use Rattle.refinement.specs.Slots.{SlotStates}
 use Rattle.refinement.proofs.driver.ComposedMoves.{goes_still, going_reaches}
 use Rattle.refinement.proofs.driver.GivenUpSlots.{all_free, given_up_halted}
@@ -17,36 +17,36 @@ use Rattle.refinement.proofs.steps.WaitingRequests.{device_append}
 
 -- what is in the slots then
 abbrev after_next : (SlotStates → SlotStates) → DriverSlots → DriverSlots
-after_next next s = record s { uses = next s.uses }
+after_next next s = record s { slot_states = next s.slot_states }
 
 pub performs_one : (May : Access → Type 0) (Fits : SlotStates → Type 0) (next : SlotStates → SlotStates) (old new : Device) → (a : IsSimulatedChangingUses May Fits next old new) →
-    Performs a.is_driven.accesses (λ s m. Fits s.uses) (after_next next) ActsByDeviceAlone old new
+    Performs a.is_driven.accesses (λ s m. Fits s.slot_states) (after_next next) ActsByDeviceAlone old new
 performs_one May Fits next old new a = record {
   accesses_are_done = a.is_driven.all_are_done;
   acts_reach = λ s m reached x fits.
-      let c = a.acts_reach s m reached x fits in record { acts = c.acts; acts_are_done = c.acts_are_done; accesses_are = c.accesses_are; tells = c.tells.only };
+      let c = a.acts_reach s m reached x fits in record { acts = c.acts; acts_are_done = c.acts_are_done; accesses_match_acts = c.accesses_match_acts; acts_are_such = c.acts_are_such.all_steps_are_devices };
 }
 
 pub performs_giving_up : ((early late : List Access) (old mid new : Device) → DoesAll early old mid → DoesAll late mid new → DoesAll (early ++ late) old new) → (May Then : Access → Type 0) (Fits Less : SlotStates → Type 0) (next : SlotStates → SlotStates) (port : ℕ) (old mid new : Device) → (a : IsSimulated May Fits old mid) → IsEngineStopped (mid.port port) →
     ((uses : SlotStates) → AllFree uses port → Less uses) → (b : IsSimulatedChangingUses Then Less next mid new) →
-    Performs (a.is_driven.accesses ++ b.is_driven.accesses) (λ s m. Fits s.uses) (λ s. after_next next (with_all_given_up port s)) ActsByDeviceAlone old new
+    Performs (a.is_driven.accesses ++ b.is_driven.accesses) (λ s m. Fits s.slot_states) (λ s. after_next next (slots_with_all_parked port s)) ActsByDeviceAlone old new
 performs_giving_up append May Then Fits Less next port old mid new a halted less b = record {
   accesses_are_done = append a.is_driven.accesses b.is_driven.accesses old mid new a.is_driven.all_are_done b.is_driven.all_are_done;
   acts_reach = λ s m reached x fits.
       let c = a.acts_reach s m reached x fits in
-      let g = done_goes c.acts (driver_state s old) (driver_state s mid) m x c.acts_are_done in
-      let parked = driver_state (with_all_given_up port s) mid in
-      let there = given_up_halted (driver_state s mid) (after m (act_steps c.acts)) port g.driver_relation halted in
-      let park : Act = record { access = None; steps = []; later = parked } in
-      let gives : IsActDone (driver_state s mid) (after m (act_steps c.acts)) park =
-      record { access_leads = refl; is_one_act = inl refl; driver_advances = goes_still (driver_state s mid) parked (after m (act_steps c.acts)) refl there } in
-      let e = b.acts_reach (with_all_given_up port s) (after m (act_steps c.acts)) (going_reaches (driver_state s old) (driver_state s mid) m (act_steps c.acts) reached g) there
-      (less (with_all_given_up port s).uses (all_free (driver_state s mid) port)) in
+      let g = done_goes c.acts (driver_state_of_slots s old) (driver_state_of_slots s mid) m x c.acts_are_done in
+      let parked = driver_state_of_slots (slots_with_all_parked port s) mid in
+      let there = given_up_halted (driver_state_of_slots s mid) (after m (act_steps c.acts)) port g.driver_relation halted in
+      let park : Act = record { access = None; steps = []; state_after = parked } in
+      let gives : IsActDone (driver_state_of_slots s mid) (after m (act_steps c.acts)) park =
+      record { access_leads = refl; is_one_act = inl refl; driver_advances = goes_still (driver_state_of_slots s mid) parked (after m (act_steps c.acts)) refl there } in
+      let e = b.acts_reach (slots_with_all_parked port s) (after m (act_steps c.acts)) (going_reaches (driver_state_of_slots s old) (driver_state_of_slots s mid) m (act_steps c.acts) reached g) there
+      (less (slots_with_all_parked port s).slot_states (all_free (driver_state_of_slots s mid) port)) in
       record {
         acts = c.acts ++ (park ∷ e.acts);
-        acts_are_done = done_more c.acts (park ∷ e.acts) (driver_state s old) (driver_state s mid) (driver_state (after_next next (with_all_given_up port s)) new) m c.acts_are_done (gives, e.acts_are_done);
-        accesses_are = accesses_append c.acts (park ∷ e.acts)
-            ∙ (ap (λ (early : List Access). early ++ accesses_of e.acts) c.accesses_are ∙ ap (λ (late : List Access). a.is_driven.accesses ++ late) e.accesses_are);
-        tells = subst AllByDevice (sym (steps_append c.acts (park ∷ e.acts))) (device_append (act_steps e.acts ++ []) (act_steps c.acts) (device_append (act_steps e.acts) [] e.tells.only tt) c.tells.only);
+        acts_are_done = done_more c.acts (park ∷ e.acts) (driver_state_of_slots s old) (driver_state_of_slots s mid) (driver_state_of_slots (after_next next (slots_with_all_parked port s)) new) m c.acts_are_done (gives, e.acts_are_done);
+        accesses_match_acts = accesses_append c.acts (park ∷ e.acts)
+            ∙ (ap (λ (early : List Access). early ++ accesses_of e.acts) c.accesses_match_acts ∙ ap (λ (late : List Access). a.is_driven.accesses ++ late) e.accesses_match_acts);
+        acts_are_such = subst AllByDevice (sym (steps_append c.acts (park ∷ e.acts))) (device_append (act_steps e.acts ++ []) (act_steps c.acts) (device_append (act_steps e.acts) [] e.acts_are_such.all_steps_are_devices tt) c.acts_are_such.all_steps_are_devices);
       };
 }

@@ -8,16 +8,16 @@ use Rattle.hba_regs.specs.declared.reg.Reg.TheVariants.{Cap, Ghc, Is, Pi, Vs, Ca
 use Rattle.adapter.specs.Access.{Access, Does, DoesAll}
 use Rattle.adapter.specs.Access.Access.{Reading, Writing, Loading, Storing}
 use Rattle.adapter.specs.Device.{DevicePort, Device}
-use Rattle.adapter.specs.KeptBySteps.{Keeps, KeepsOutsideReset}
+use Rattle.adapter.specs.KeptBySteps.{KeepsOverSteps, KeepsOutsideReset}
 use Rattle.adapter.specs.Rules.{IsOn}
 use Rattle.adapter.specs.declared.tape.Entry.{Entry}
-use Rattle.adapter.proofs.KeptLemmas.{law_step_lists_keep_what_steps_keep, KeepsPort-refl, KeepsPort-trans, KeepsControls-refl, KeepsControls-trans}
+use Rattle.adapter.proofs.KeptLemmas.{law_step_lists_keep_what_steps_keep, PortBitsOnlyFall-refl, PortBitsOnlyFall-trans, KeepsControlsFlagsRise-refl, KeepsControlsFlagsRise-trans}
 use Rattle.block_machine.proofs.HistoryLemmas.{reached_more}
 use Rattle.block_machine.specs.Expected.{after}
 pub use Rattle.refinement.specs.Fragments.{TapeGrows}
-use Rattle.refinement.specs.Fragments.{IsRelated, IsPortAccessWriting, IsDrivenBy, IsSimulated, IsSimulatedChangingUses, SparesOtherPorts, LeavesPort, NoneWrites}
-use Rattle.refinement.specs.PortFacts.{FaultsOnRecord}
-use Rattle.refinement.specs.Links.{DoesNotWrite, SameAdapter}
+use Rattle.refinement.specs.Fragments.{SomeMachineAgrees, ReadsPortOrWrites, IsDrivenBy, IsSimulated, IsSimulatedChangingUses, SparesOtherPorts, LeavesPort, NoneWrites}
+use Rattle.refinement.specs.PortFacts.{RecordsFaultsIfSt}
+use Rattle.refinement.specs.PreservedParts.{DoesNotWrite, SameAdapter}
 use Rattle.refinement.specs.Slots.{SlotStates}
 use Rattle.refinement.proofs.device.FactsOverAccesses.{access_steps, beside_same}
 use Rattle.refinement.proofs.driver.Stretches.{followed_adds, along, over}
@@ -54,7 +54,7 @@ module _ (Written : PortReg → Type 0) (port : Port) where
   abbrev IsWriting : Access → Type 0
   IsWriting access = (r : PortReg) × (v : ℕ) × (access ≡ Writing (Px port r) v) × Written r
 
-  pub is_control : (access : Access) → IsPortAccessWriting Written port access → IsReading access ⊎ IsWriting access
+  pub is_control : (access : Access) → ReadsPortOrWrites Written port access → IsReading access ⊎ IsWriting access
   is_control (Reading (Px at r) v) is = inl (r, v, ap (λ (p : Port). Reading (Px p r) v) is)
   is_control (Writing (Px at r) v) is = inr (r, v, ap (λ (p : Port). Writing (Px p r) v) is.0, is.1)
   is_control (Reading Cap v) is = absurd is
@@ -75,25 +75,25 @@ module _ (Written : PortReg → Type 0) (port : Port) where
   is_control (Storing at bytes) is = absurd is
 
   -- it doesn't write what the kind has not
-  control_spares_at : (at : Port) (spared : PortReg) → (Written spared → ⊥) → NoneWrites (IsPortAccessWriting Written port) (Px at spared)
+  control_spares_at : (at : Port) (spared : PortReg) → (Written spared → ⊥) → NoneWrites (ReadsPortOrWrites Written port) (Px at spared)
   control_spares_at at spared not access is =
       elim (is_control access is) [
         | inl (r, v, e) ↦ subst (DoesNotWrite (Px at spared)) (sym e) tt
         | inr (r, v, e, w) ↦ subst (DoesNotWrite (Px at spared)) (sym e) (λ (z : Px port r ≡ Px at spared). let same : r ≡ spared = cc in not (subst Written same w))
       ]
 
-  pub control_spares : (spared : PortReg) → (Written spared → ⊥) → NoneWrites (IsPortAccessWriting Written port) (Px port spared)
+  pub control_spares : (spared : PortReg) → (Written spared → ⊥) → NoneWrites (ReadsPortOrWrites Written port) (Px port spared)
   control_spares = control_spares_at port
 
   -- where more registers may be written
-  pub control_wider : (More : PortReg → Type 0) → ((r : PortReg) → Written r → More r) → (access : Access) → IsPortAccessWriting Written port access → IsPortAccessWriting More port access
+  pub control_wider : (More : PortReg → Type 0) → ((r : PortReg) → Written r → More r) → (access : Access) → ReadsPortOrWrites Written port access → ReadsPortOrWrites More port access
   control_wider More wider access is =
       elim (is_control access is) [
-        | inl (r, v, e) ↦ subst (IsPortAccessWriting More port) (sym e) refl
-        | inr (r, v, e, w) ↦ subst (IsPortAccessWriting More port) (sym e) (refl, wider r w)
+        | inl (r, v, e) ↦ subst (ReadsPortOrWrites More port) (sym e) refl
+        | inr (r, v, e, w) ↦ subst (ReadsPortOrWrites More port) (sym e) (refl, wider r w)
       ]
 
-  pub control_is_of : (access : Access) → IsPortAccessWriting Written port access → SparesOtherPorts port access
+  pub control_is_of : (access : Access) → ReadsPortOrWrites Written port access → SparesOtherPorts port access
   control_is_of access is =
       elim (is_control access is) [
         | inl (r, v, e) ↦ subst (SparesOtherPorts port) (sym e) refl
@@ -106,21 +106,21 @@ module _ (port : Port) (q : ℕ) (other : q ≢ port.0) where
   beside_left : (access : Access) (old new : Device) → old.hr ≡ false → SparesOtherPorts port access → Does access old new → LeavesPort (old.port q) (new.port q)
   beside_left access old new off is x =
       let s = access_steps access old new x in
-      let k : Keeps old s.0 = law_step_lists_keep_what_steps_keep s.1 in
+      let k : KeepsOverSteps old s.0 = law_step_lists_keep_what_steps_keep s.1 in
       let c : KeepsOutsideReset old s.0 = k.keeps_outside_reset off in
-      subst (LeavesPort (old.port q)) (sym (beside_same port q other access old new x is)) (record { keeps = k.ports_are_kept q; controls = c.controls q; notes = k.notes_are_kept q })
+      subst (LeavesPort (old.port q)) (sym (beside_same port q other access old new x is)) (record { port_is_kept_by_device = k.ports_are_kept q; controls = c.controls_are_kept q; notes = k.notes_are_kept q })
 
-  beside_recorded : (access : Access) (old new : Device) → SparesOtherPorts port access → Does access old new → FaultsOnRecord old.tape (old.port q) q → FaultsOnRecord new.tape (new.port q) q
+  beside_recorded : (access : Access) (old new : Device) → SparesOtherPorts port access → Does access old new → RecordsFaultsIfSt old.tape (old.port q) q → RecordsFaultsIfSt new.tape (new.port q) q
   beside_recorded access old new is x h =
       let s = access_steps access old new x in
-      subst (λ (p : DevicePort). FaultsOnRecord new.tape p q) (sym (beside_same port q other access old new x is))
-      (subst (λ (tape : List Entry). FaultsOnRecord tape (s.0.port q) q) (sym s.2) (steps_recorded q old s.0 s.1 h))
+      subst (λ (p : DevicePort). RecordsFaultsIfSt new.tape p q) (sym (beside_same port q other access old new x is))
+      (subst (λ (tape : List Entry). RecordsFaultsIfSt tape (s.0.port q) q) (sym s.2) (steps_recorded q old s.0 s.1 h))
 
 pub leaves_none : (p : DevicePort) → LeavesPort p p
-leaves_none p = record { keeps = KeepsPort-refl p; controls = KeepsControls-refl p; notes = refl }
+leaves_none p = record { port_is_kept_by_device = PortBitsOnlyFall-refl p; controls = KeepsControlsFlagsRise-refl p; notes = refl }
 
 pub leaves_more : (old mid new : DevicePort) → LeavesPort old mid → LeavesPort mid new → LeavesPort old new
-leaves_more old mid new a b = record { keeps = KeepsPort-trans a.keeps b.keeps; controls = KeepsControls-trans a.controls b.controls; notes = b.notes ∙ a.notes }
+leaves_more old mid new a b = record { port_is_kept_by_device = PortBitsOnlyFall-trans a.port_is_kept_by_device b.port_is_kept_by_device; controls = KeepsControlsFlagsRise-trans a.controls b.controls; notes = b.notes ∙ a.notes }
 
 -- ---- the tape
 
@@ -131,7 +131,7 @@ pub grows_more : (a b c : Device) → TapeGrows a b → TapeGrows b c → TapeGr
 grows_more a b c x y = (x.0 ++ y.0, y.1 ∙ (ap (λ (t : List Entry). t ++ y.0) x.1 ∙ append_assoc a.tape x.0 y.0))
 
 pub access_grows : (access : Access) (old new : Device) → Does access old new → TapeGrows old new
-access_grows access old new does = let s = access_steps access old new does in let k : Keeps old s.0 = law_step_lists_keep_what_steps_keep s.1 in (k.new_entries, s.2 ∙ k.tape_grows)
+access_grows access old new does = let s = access_steps access old new does in let k : KeepsOverSteps old s.0 = law_step_lists_keep_what_steps_keep s.1 in (k.new_entries, s.2 ∙ k.tape_grows)
 
 -- ---- stretches
 
@@ -158,16 +158,16 @@ module _ (port : Port) (old new : Device) (driven : IsDrivenBy (SparesOtherPorts
       (λ access a b here may does. beside_left port q other access a b here.no_reset may does)
       driven.accesses old new on driven.accesses_are_of_kind driven.all_are_done).0
 
-  pub other_recorded : FaultsOnRecord old.tape (old.port q) q → FaultsOnRecord new.tape (new.port q) q
+  pub other_recorded : RecordsFaultsIfSt old.tape (old.port q) q → RecordsFaultsIfSt new.tape (new.port q) q
   other_recorded =
-      along (λ a b. FaultsOnRecord a.tape (a.port q) q → FaultsOnRecord b.tape (b.port q) q) (λ d h. h) (λ a b c x y h. y (x h)) (SparesOtherPorts port)
+      along (λ a b. RecordsFaultsIfSt a.tape (a.port q) q → RecordsFaultsIfSt b.tape (b.port q) q) (λ d h. h) (λ a b c x y h. y (x h)) (SparesOtherPorts port)
       (λ access a b may does. beside_recorded port q other access a b may does)
       driven.accesses old new driven.accesses_are_of_kind driven.all_are_done
 
 -- ---- a machine that agrees
 
 pub agreed_to : (May : Access → Type 0) (Fits : SlotStates → Type 0) (next : SlotStates → SlotStates) (uses : SlotStates) (old new : Device) → Fits uses →
-    IsSimulatedChangingUses May Fits next old new → IsRelated uses old → IsRelated (next uses) new
+    IsSimulatedChangingUses May Fits next old new → SomeMachineAgrees uses old → SomeMachineAgrees (next uses) new
 agreed_to May Fits next uses old new fits followed a =
     let x = (followed_adds followed uses a.parked fits).simulates a.machine a.reached a.driver_relation in
     record {
@@ -179,9 +179,9 @@ agreed_to May Fits next uses old new fits followed a =
 
 -- over accesses that put no slot to use
 pub agreed_on : (May : Access → Type 0) (Fits : SlotStates → Type 0) (uses : SlotStates) (old new : Device) → Fits uses →
-    IsSimulated May Fits old new → IsRelated uses old → IsRelated uses new
+    IsSimulated May Fits old new → SomeMachineAgrees uses old → SomeMachineAgrees uses new
 agreed_on May Fits uses old new = agreed_to May Fits (λ uses. uses) uses old new
 
 pub law_agreeing_goes_on : (Written : PortReg → Type 0) (Fits : SlotStates → Type 0) (port : Port) (uses : SlotStates) (old new : Device) → Fits uses →
-    IsSimulated (IsPortAccessWriting Written port) Fits old new → IsRelated uses old → IsRelated uses new
-law_agreeing_goes_on Written Fits port uses old new = agreed_on (IsPortAccessWriting Written port) Fits uses old new
+    IsSimulated (ReadsPortOrWrites Written port) Fits old new → SomeMachineAgrees uses old → SomeMachineAgrees uses new
+law_agreeing_goes_on Written Fits port uses old new = agreed_on (ReadsPortOrWrites Written port) Fits uses old new

@@ -8,7 +8,7 @@ use Rattle.ata_types.specs.declared.request.RequestId.{RequestId}
 use Rattle.hba_regs.specs.Bits.{bit}
 use Rattle.adapter.specs.Commands.{is_queued}
 use Rattle.adapter.specs.Device as device
-use Rattle.adapter.specs.Device.{Lasting, DevicePort, Device}
+use Rattle.adapter.specs.Device.{DurableState, DevicePort, Device}
 use Rattle.adapter.specs.Memory.{changed}
 use Rattle.adapter.specs.Steps.{with_port}
 use Rattle.adapter.specs.declared.command.Operation.{Operation}
@@ -21,7 +21,7 @@ use Rattle.block_machine.specs.Steps.{Issue, MayStillMove, after_step, update_pe
 use Rattle.block_machine.proofs.Members.{map_in, into_map, at_cases}
 use Rattle.block_machine.proofs.Standing.{Standing, standing}
 use Rattle.refinement.specs.Slots.{SlotState, Free, Own, Serves, SlotStates, set_slot_state, ServesRequest, IsOver, RelatesSlot, Armed, IsEmptySlot, IsArmed}
-use Rattle.refinement.specs.Relation.{StateRelation, port_at, SameSectors, HaveSlots}
+use Rattle.refinement.specs.Relation.{StateRelation, port_at, SameSectors, HaveSlotsUnlessParked}
 use Rattle.refinement.specs.Driver.{IsPrepared, IsOwnPrepared}
 use Rattle.refinement.proofs.relation.SlotRelation.{SameSlot, SameSlot-refl, served_on, placed_on, GainsNone-refl}
 use Rattle.refinement.proofs.relation.LastingSectors.{disk_of, gains_none, keeps_same, lasting_on}
@@ -66,8 +66,8 @@ pub record SameWorld (m m' : Machine) : Type 0 where
   pub present : m'.present ≡ m.present
   pub ids : m'.disk_ids ≡ m.disk_ids
   pub sizes : m'.sizes ≡ m.sizes
-  pub disks : m'.disks ≡ m.disks
-  pub aside : m'.blocks_since_flush ≡ m.blocks_since_flush
+  pub disks : m'.disk_bytes ≡ m.disk_bytes
+  pub aside : m'.overwritten_since_flush ≡ m.overwritten_since_flush
   pub memory : m'.memory ≡ m.memory
 
 -- What has to be shown where one slot is put to another use.
@@ -91,7 +91,7 @@ module _ (uses : SlotStates) (m m' : Machine) (d : Device) (a : StateRelation us
       both (inl i) (inl j) = (i.0 ∙ sym j.0, i.1 ∙ sym j.1)
       both (inl i) (inr j) = absurd (x.apart p' s' id i.2 j.1)
       both (inr i) (inl j) = absurd (x.apart p s id j.2 i.1)
-      both (inr i) (inr j) = a.serve_apart p s p' s' id i.1 j.1
+      both (inr i) (inr j) = a.serve_distinct_requests p s p' s' id i.1 j.1
 
   slot_now : (p s : ℕ) → RelatesSlot m' d.memory d.tape (ports p) p s (set_slot_state uses port slot u p s)
   slot_now p s = ⊎_elim
@@ -108,18 +108,18 @@ module _ (uses : SlotStates) (m m' : Machine) (d : Device) (a : StateRelation us
   pub put_agrees : StateRelation (set_slot_state uses port slot u) m' (record d { port = ports })
   put_agrees = record {
     relates_slots = slot_now;
-    serve_apart = apart_now;
-    received_areas_are_placed = λ q f. let r = a.received_areas_are_placed q (sym (x.fre q) ∙ f) in record { below = r.below; area = x.received_at q ∙ r.area };
+    serve_distinct_requests = apart_now;
+    received_areas_are_placed = λ q f. let r = a.received_areas_are_placed q (sym (x.fre q) ∙ f) in record { port_is_below_4 = r.port_is_below_4; area_is_in_place = x.received_at q ∙ r.area_is_in_place };
     disks_are_same = λ q. record {
       present = ap (λ (f : Port → Bool). f (port_at q)) x.world.present ∙ (a.disks_are_same q).present ∙ sym (x.present q);
-      id = ap (λ (f : Port → ℕ). f (port_at q)) x.world.ids ∙ (a.disks_are_same q).id ∙ ap (λ (y : device.Disk × Lasting). y.0.name) (sym (x.disk q));
-      size = ap (λ (f : Port → ℕ). f (port_at q)) x.world.sizes ∙ (a.disks_are_same q).size ∙ ap (λ (y : device.Disk × Lasting). y.0.size) (sym (x.disk q));
+      id = ap (λ (f : Port → ℕ). f (port_at q)) x.world.ids ∙ (a.disks_are_same q).id ∙ ap (λ (y : device.Disk × DurableState). y.0.name) (sym (x.disk q));
+      sector_count = ap (λ (f : Port → ℕ). f (port_at q)) x.world.sizes ∙ (a.disks_are_same q).sector_count ∙ ap (λ (y : device.Disk × DurableState). y.0.sector_count) (sym (x.disk q));
     };
-    memory_is_same = λ f b from small. a.memory_is_same f b from small ∙ ap (λ (g : Memory). g f b) (sym x.world.memory);
-    sectors_are_same = λ t q. subst (λ (y : device.Disk × Lasting). SameSectors m' y.0 q) (sym (x.disk q))
+    client_frames_are_same = λ f b from small. a.client_frames_are_same f b from small ∙ ap (λ (g : Memory). g f b) (sym x.world.memory);
+    sectors_are_same = λ t q. subst (λ (y : device.Disk × DurableState). SameSectors m' y.0 q) (sym (x.disk q))
         (sectors_on m m' (d.port q).disk q (λ k b lb. ap (λ (g : Port → DiskBytes). g (port_at q) k b) x.world.disks) (a.sectors_are_same t q));
-    has_lasting = λ t q. lasting_on m m' d.tape d.tape (d.port q) (ports q) q (ap (λ (y : device.Disk × Lasting). y.1) (x.disk q)) (ap (λ (y : device.Disk × Lasting). y.0.size) (x.disk q))
-        (keeps_same m m' q x.world.disks x.world.aside) (gains_none d.tape m' q) (a.has_lasting t q);
+    holds_replug_candidates = λ t q. lasting_on m m' d.tape d.tape (d.port q) (ports q) q (ap (λ (y : device.Disk × DurableState). y.1) (x.disk q)) (ap (λ (y : device.Disk × DurableState). y.0.sector_count) (x.disk q))
+        (keeps_same m m' q x.world.disks x.world.aside) (gains_none d.tape m' q) (a.holds_replug_candidates t q);
   }
 
 -- ---- a command is issued
@@ -152,10 +152,10 @@ pub readied_slot : (uses : SlotStates) (m : Machine) (d : Device) → StateRelat
     IsOver (d.port port) slot × ((d.port port).sact slot ≡ not plain)
 readied_slot uses m d a port slot true u st =
     let h : IsEmptySlot (d.port port) slot = subst (λ (w : SlotState). RelatesSlot m d.memory d.tape (d.port port) port slot w) u (a.relates_slots port slot) in
-    (record { issued = h.issued; free = h.free }, h.unarmed)
+    (record { is_not_issued = h.is_not_issued; is_not_taken = h.is_not_taken }, h.unarmed)
 readied_slot uses m d a port slot false u st =
     let h : IsArmed (d.port port) slot = subst (λ (w : SlotState). RelatesSlot m d.memory d.tape (d.port port) port slot w) u (a.relates_slots port slot) in
-    (record { issued = h.issued; free = h.free }, h.armed ∙ st)
+    (record { is_not_issued = h.is_not_issued; is_not_taken = h.is_not_taken }, h.armed ∙ st)
 
 not_serving : {A : Type 0} {id : RequestId} (plain : Bool) → Serves id ≡ (if plain then Free else Armed) → A
 not_serving {A} {id} true e = absurd (let z : Serves id ≡ Free = e in cc)
@@ -180,7 +180,7 @@ module _ (uses : SlotStates) (m : Machine) (d : Device) (a : StateRelation uses 
   armed_here : RelatesSlot m d.memory d.tape (armed_port (d.port port) v) port slot Armed
   armed_here =
       let h : IsEmptySlot (d.port port) slot = subst (λ (w : SlotState). RelatesSlot m d.memory d.tape (d.port port) port slot w) free (a.relates_slots port slot) in
-      record { issued = h.issued; free = h.free; armed = ap (λ (b : Bool). (d.port port).sact slot || b) set ∙ (or_true ((d.port port).sact slot) ∙ sym started) }
+      record { is_not_issued = h.is_not_issued; is_not_taken = h.is_not_taken; armed = ap (λ (b : Bool). (d.port port).sact slot || b) set ∙ (or_true ((d.port port).sact slot) ∙ sym started) }
 
   pub arming_agrees : StateRelation (set_slot_state uses port slot Armed) m (with_port d port (armed_port (d.port port) v))
   arming_agrees = put_agrees uses m m d a (changed d.port port (armed_port (d.port port) v)) port slot Armed (record {
@@ -211,21 +211,21 @@ module _ (uses : SlotStates) (m : Machine) (d : Device) (reached : IsReachable m
   std = standing m reached
 
   waits_yet : e.issued ≡ false
-  waits_yet = not-true e.issued (and_parts _ _ x.may.1.nothing_blocks).0
+  waits_yet = not-true e.issued (and_parts _ _ x.issue_is_enabled.1.nothing_blocks).0
 
   -- no slot serves it yet
   not_served : (p s : ℕ) → uses p s ≡ Serves e.request.id → ⊥
-  not_served = waiting_unserved uses m d reached a e x.may.0 waits_yet
+  not_served = waiting_unserved uses m d reached a e x.issue_is_enabled.0 waits_yet
 
   own_in : Contains (map (update_pending e.request.id newly_issued) m.book) (newly_issued e)
   own_in = subst (λ (y : Pending). Contains (map (update_pending e.request.id newly_issued) m.book) y)
-      (⊎_elim (λ p. p.1) (λ p. absurd (p.0 refl)) (at_cases e.request.id newly_issued e)) (into_map (update_pending e.request.id newly_issued) m.book e x.may.0)
+      (⊎_elim (λ p. p.1) (λ p. absurd (p.0 refl)) (at_cases e.request.id newly_issued e)) (into_map (update_pending e.request.id newly_issued) m.book e x.issue_is_enabled.0)
 
   was_over : IsOver (d.port port) slot
-  was_over = (readied_slot uses m d a port slot (is_plain mode e.request.asked.op) x.free x.st_is_set).0
+  was_over = (readied_slot uses m d a port slot (is_plain mode e.request.asked.op) x.slot_state_is x.st_is_set).0
 
   prepared_sact : (d.port port).sact slot ≡ is_queued x.command.operation
-  prepared_sact = (readied_slot uses m d a port slot (is_plain mode e.request.asked.op) x.free x.st_is_set).1 ∙ sym x.kind
+  prepared_sact = (readied_slot uses m d a port slot (is_plain mode e.request.asked.op) x.slot_state_is x.st_is_set).1 ∙ sym x.queued_as_request
 
   served_here : ServesRequest (after_step m (Issue mode e)) d.memory (issued_port (d.port port) v) port slot e.request.id
   served_here = record {
@@ -241,9 +241,9 @@ module _ (uses : SlotStates) (m : Machine) (d : Device) (reached : IsReachable m
     stage = inl (record {
       started = x.st_is_set;
       issued = ap (λ (b : Bool). (d.port port).ci slot || b) x.bit_is_set ∙ or_true ((d.port port).ci slot);
-      free = was_over.free;
+      is_not_taken = was_over.is_not_taken;
       sact = prepared_sact;
-      block = x.block;
+      has_block_if_trim = x.has_block_if_trim;
       untouched = λ i. sym (none_below i);
       unended = refl;
     });
@@ -270,20 +270,20 @@ module _ (uses : SlotStates) (m : Machine) (d : Device) (reached : IsReachable m
   issue_agrees = put_agrees uses m (after_step m (Issue mode e)) d a (changed d.port port (issued_port (d.port port) v)) port slot (Serves e.request.id) puts
 
   -- a request that may move keeps its slot
-  old_slot : (q : ℕ) (parked : List RequestId) → HaveSlots uses m q parked → (o : Pending) → MayStillMove m o → o.request.port.0 ≡ q → Contains parked o.request.id ⊎ ((s : ℕ) × (set_slot_state uses port slot (Serves e.request.id) q s ≡ Serves o.request.id))
+  old_slot : (q : ℕ) (parked : List RequestId) → HaveSlotsUnlessParked uses m q parked → (o : Pending) → MayStillMove m o → o.request.port.0 ≡ q → Contains parked o.request.id ⊎ ((s : ℕ) × (set_slot_state uses port slot (Serves e.request.id) q s ≡ Serves o.request.id))
   old_slot q parked had o r at_port = ⊎_elim
       (λ (p : Contains parked o.request.id). inl p)
       (λ (w : (s : ℕ) × (uses q s ≡ Serves o.request.id)).
-      inr (w.0, put_other uses port slot (Serves e.request.id) q w.0 (λ ep es. not_serving (is_plain mode e.request.asked.op) (sym w.1 ∙ (ap (λ (k : ℕ). uses k w.0) ep ∙ ap (λ (k : ℕ). uses port k) es ∙ x.free))) ∙ w.1))
+      inr (w.0, put_other uses port slot (Serves e.request.id) q w.0 (λ ep es. not_serving (is_plain mode e.request.asked.op) (sym w.1 ∙ (ap (λ (k : ℕ). uses k w.0) ep ∙ ap (λ (k : ℕ). uses port k) es ∙ x.slot_state_is))) ∙ w.1))
       (had o r at_port)
 
-  pub issue_have : (q : ℕ) (parked : List RequestId) → HaveSlots uses m q parked → HaveSlots (set_slot_state uses port slot (Serves e.request.id)) (after_step m (Issue mode e)) q parked
+  pub issue_have : (q : ℕ) (parked : List RequestId) → HaveSlotsUnlessParked uses m q parked → HaveSlotsUnlessParked (set_slot_state uses port slot (Serves e.request.id)) (after_step m (Issue mode e)) q parked
   issue_have q parked had y (inr k) at_port = old_slot q parked had y (inr k) at_port
   issue_have q parked had y (inl r) at_port =
       let w = map_in (update_pending e.request.id newly_issued) m.book y r.0 in
       ⊎_elim
       (λ (p : (w.0.request.id.0 ≡ e.request.id.0) × (update_pending e.request.id newly_issued w.0 ≡ newly_issued w.0)).
-      let same : w.0 ≡ e = std.sound.one w.0 e w.1 x.may.0 p.0 in
+      let same : w.0 ≡ e = std.sound.one w.0 e w.1 x.issue_is_enabled.0 p.0 in
       let request : y.request ≡ e.request = ap (λ (z : Pending). z.request) (w.2 ∙ p.1) ∙ ap (λ (z : Pending). z.request) same in
       let here : q ≡ port = sym at_port ∙ ap (λ (j : Accepted). j.port.0) request ∙ x.port_is in
       inr (slot, ap (λ (k : ℕ). set_slot_state uses port slot (Serves e.request.id) k slot) here ∙ put_same uses port slot (Serves e.request.id) ∙ ap (λ (j : Accepted). Serves j.id) (sym request)))
@@ -299,11 +299,11 @@ module _ (uses : SlotStates) (m : Machine) (d : Device) (a : StateRelation uses 
   own_free = subst (λ (w : SlotState). RelatesSlot m d.memory d.tape (d.port port) port 0 w) x.free (a.relates_slots port 0)
 
   pub own_over : IsOver (d.port port) 0
-  own_over = record { issued = own_free.issued; free = own_free.free }
+  own_over = record { is_not_issued = own_free.is_not_issued; is_not_taken = own_free.is_not_taken }
 
   own_here : RelatesSlot m d.memory d.tape (issued_port (d.port port) v) port 0 (Own o)
   own_here = record {
-    own = x.own;
+    operation_is_drivers_own = x.operation_is_drivers_own;
     slot_is_0 = refl;
     list_is_in_place = placed_on (d.port port) _ port 0 refl x.list_is_in_place;
     command = x.command;
@@ -311,7 +311,7 @@ module _ (uses : SlotStates) (m : Machine) (d : Device) (a : StateRelation uses 
     slot_decodes_to = x.slot_decodes_to;
     unqueued = own_free.unarmed;
     st_set_is_on_tape = x.st_set_is_on_tape;
-    stage = inl (record { started = x.st_is_set; issued = ap (λ (b : Bool). (d.port port).ci 0 || b) x.bit_is_set ∙ or_true ((d.port port).ci 0); free = own_over.free });
+    stage = inl (record { started = x.st_is_set; issued = ap (λ (b : Bool). (d.port port).ci 0 || b) x.bit_is_set ∙ or_true ((d.port port).ci 0); is_not_taken = own_over.is_not_taken });
   }
 
   pub own_agrees : StateRelation (set_slot_state uses port 0 (Own o)) m (with_port d port (issued_port (d.port port) v))
@@ -328,7 +328,7 @@ module _ (uses : SlotStates) (m : Machine) (d : Device) (a : StateRelation uses 
   })
 
 -- requests keep their slots where a free or over one that serves none of them is put to another use
-pub put_have : (uses : SlotStates) (m : Machine) (port slot : ℕ) (u : SlotState) (q : ℕ) (parked : List RequestId) → ((id : RequestId) → uses port slot ≡ Serves id → ⊥) → HaveSlots uses m q parked → HaveSlots (set_slot_state uses port slot u) m q parked
+pub put_have : (uses : SlotStates) (m : Machine) (port slot : ℕ) (u : SlotState) (q : ℕ) (parked : List RequestId) → ((id : RequestId) → uses port slot ≡ Serves id → ⊥) → HaveSlotsUnlessParked uses m q parked → HaveSlotsUnlessParked (set_slot_state uses port slot u) m q parked
 put_have uses m port slot u q parked none had e r at_port = ⊎_elim
     (λ (p : Contains parked e.request.id). inl p)
     (λ (w : (s : ℕ) × (uses q s ≡ Serves e.request.id)).

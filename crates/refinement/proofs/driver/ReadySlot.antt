@@ -10,7 +10,7 @@ use Rattle.adapter.specs.Access.{Access, Does, port_after_write, port_after_st_w
 use Rattle.adapter.specs.Access.Access.{Reading, Writing, Loading, Storing}
 use Rattle.adapter.specs.Commands.{Meaning, is_queued}
 use Rattle.adapter.specs.Device.{Bases, DevicePort, Device}
-use Rattle.adapter.specs.KeptBySteps.{Keeps, KeepsOutsideReset}
+use Rattle.adapter.specs.KeptBySteps.{KeepsOverSteps, KeepsOutsideReset}
 use Rattle.adapter.specs.Rules.{IsOn, HasPort, MayWrite, IsStable}
 use Rattle.adapter.specs.Steps.{Steps}
 use Rattle.adapter.proofs.MemoryLemmas.{patched_apart}
@@ -23,11 +23,11 @@ use Rattle.block_machine.specs.Steps.{Issue, IsEnabled}
 use Rattle.block_machine.specs.declared.due.QueueMode.{QueueMode}
 use Rattle.refinement.specs.StepLaws.{StepLaws}
 use Rattle.refinement.specs.Relation.{StateRelation}
-use Rattle.refinement.specs.Driver.{IsPrepared, KeepsTables, MissesTable}
+use Rattle.refinement.specs.Driver.{IsPrepared, KeepsTablesAndScratch, MissesHeaderAndTable}
 use Rattle.refinement.specs.Simulation.{SimulatesSteps}
-use Rattle.refinement.specs.Links.{DoesNotWrite}
-use Rattle.refinement.specs.MemoryLayout.{IsTableByte}
-use Rattle.refinement.specs.Slots.{SlotState, Free, Armed, SlotStates, MeansRequest, HasTrimBlock, IsArmed, IsEmptySlot, IsOver, RelatesSlot}
+use Rattle.refinement.specs.PreservedParts.{DoesNotWrite}
+use Rattle.refinement.specs.MemoryLayout.{IsHeaderOrTableByte}
+use Rattle.refinement.specs.Slots.{SlotState, Free, Armed, SlotStates, MeansRequest, HasBlockIfTrim, IsArmed, IsEmptySlot, IsOver, RelatesSlot}
 use Rattle.refinement.specs.StartedPort.{ClearsNoStart}
 use Rattle.refinement.proofs.device.FactsOverAccesses.{access_steps, effect_keeps}
 use Rattle.refinement.proofs.steps.FollowedSteps.{steps_follow}
@@ -39,7 +39,7 @@ use Rattle.refinement.specs.ReadySlots.{IsStored, IsReadied, IsReadyToIssue}
 
 -- the same port, as far as the slot's bytes and ST go, and the same table
 stored_on : (old new : Device) (port slot : ℕ) (c : Meaning) (places : List ℕ) → (new.port port).st ≡ true → (new.port port).bases.clb ≡ (old.port port).bases.clb →
-    (port < 4 → slot < 32 → (at : ℕ) → IsTableByte port slot at → new.memory at ≡ old.memory at) → IsStored old port slot c places → IsStored new port slot c places
+    (port < 4 → slot < 32 → (at : ℕ) → IsHeaderOrTableByte port slot at → new.memory at ≡ old.memory at) → IsStored old port slot c places → IsStored new port slot c places
 stored_on old new port slot c places st list same x = record {
   st_is_set = st;
   list_is_in_place = placed_on (old.port port) (new.port port) port slot list x.list_is_in_place;
@@ -49,28 +49,28 @@ stored_on old new port slot c places st list same x = record {
 -- ---- the device's steps
 
 module _ (laws : StepLaws) (uses : SlotStates) (m : Machine) (port slot : ℕ) (c : Meaning) (places : List ℕ) (old new : Device) (reached : IsReachable m) (a : StateRelation uses m old) (off : old.hr ≡ false) (s : Steps old new) where
-  leaves : KeepsTables uses old new
+  leaves : KeepsTablesAndScratch uses old new
   leaves = steps_leave uses m old new reached a off s
 
   pub steps_stored : IsStored old port slot c places → IsStored new port slot c places
   steps_stored x =
-      let k : Keeps old new = laws.keeps _ _ s in
-      stored_on old new port slot c places (((k.keeps_outside_reset off).controls port).st ∙ x.st_is_set) (ap (λ (b : Bases). b.clb) (k.ports_are_kept port).bases)
+      let k : KeepsOverSteps old new = laws.steps_keep _ _ s in
+      stored_on old new port slot c places (((k.keeps_outside_reset off).controls_are_kept port).st_is_kept ∙ x.st_is_set) (ap (λ (b : Bases). b.clb) (k.ports_are_kept port).bases_are_kept)
       (λ low small at t. leaves.tables port slot at low small t) x
 
 -- ---- an access
 
 -- what an access leaves of a slot's table, where it stores nothing there
 module _ (uses : SlotStates) (m : Machine) (port slot : ℕ) (old new : Device) (reached : IsReachable m) (a : StateRelation uses m old) (off : old.hr ≡ false) (low : port < 4) (small : slot < 32) where
-  access_tables : (access : Access) → ((from : ℕ) (bytes : List ℕ) → access ≡ Storing from bytes → MissesTable port slot from (length bytes)) → Does access old new → (at : ℕ) → IsTableByte port slot at → new.memory at ≡ old.memory at
+  access_tables : (access : Access) → ((from : ℕ) (bytes : List ℕ) → access ≡ Storing from bytes → MissesHeaderAndTable port slot from (length bytes)) → Does access old new → (at : ℕ) → IsHeaderOrTableByte port slot at → new.memory at ≡ old.memory at
   access_tables (Reading r v) misses x at t =
-      ap (λ (d : Device). d.memory at) x.effect ∙ (ap (λ (f : ℕ → ℕ). f at) (noted_memory r v x.mid) ∙ (steps_leave uses m old x.mid reached a off x.steps).tables port slot at low small t)
+      ap (λ (d : Device). d.memory at) x.effect ∙ (ap (λ (f : ℕ → ℕ). f at) (noted_memory r v x.at_access) ∙ (steps_leave uses m old x.at_access reached a off x.steps).tables port slot at low small t)
   access_tables (Writing r v) misses x at t =
-      ap (λ (d : Device). d.memory at) x.effect ∙ (ap (λ (f : ℕ → ℕ). f at) (written_memory r v x.mid) ∙ (steps_leave uses m old x.mid reached a off x.steps).tables port slot at low small t)
+      ap (λ (d : Device). d.memory at) x.effect ∙ (ap (λ (f : ℕ → ℕ). f at) (written_memory r v x.at_access) ∙ (steps_leave uses m old x.at_access reached a off x.steps).tables port slot at low small t)
   access_tables (Loading from bytes) misses x at t = (steps_leave uses m old new reached a off x.steps).tables port slot at low small t
   access_tables (Storing from bytes) misses x at t =
       ap (λ (d : Device). d.memory at) x.effect
-      ∙ (patched_apart x.mid.memory from bytes at (λ below above. misses from bytes refl at t below above) ∙ (steps_leave uses m old x.mid reached a off x.steps).tables port slot at low small t)
+      ∙ (patched_apart x.at_access.memory from bytes at (λ below above. misses from bytes refl at t below above) ∙ (steps_leave uses m old x.at_access reached a off x.steps).tables port slot at low small t)
 
 -- ST is 1, with the list where it is
 abbrev On : ℕ → DevicePort → Type 0
@@ -88,15 +88,15 @@ module _ (laws : StepLaws) (uses : SlotStates) (m : Machine) (port : Port) (slot
   started_by : (r : PortReg) (v : ℕ) → access ≡ Writing (Px port r) v → r ≡ Cmd → bit v 0 ≡ true
   started_by r v is e = keeps v (is ∙ ap (λ (w : PortReg). Writing (Px port w) v) e)
 
-  pub access_stored : ((at : ℕ) (bytes : List ℕ) → access ≡ Storing at bytes → MissesTable port.0 slot at (length bytes)) → Does access old new → IsStored old port.0 slot c places → IsStored new port.0 slot c places
+  pub access_stored : ((at : ℕ) (bytes : List ℕ) → access ≡ Storing at bytes → MissesHeaderAndTable port.0 slot at (length bytes)) → Does access old new → IsStored old port.0 slot c places → IsStored new port.0 slot c places
   access_stored misses x h =
       let s = access_steps access old new x in
       let y : IsStored s.0 port.0 slot c places = steps_stored laws uses m port.0 slot c places old s.0 reached a off s.1 h in
-      let k : Keeps old s.0 = laws.keeps _ _ s.1 in
+      let k : KeepsOverSteps old s.0 = laws.steps_keep _ _ s.1 in
       let on : On (old.port port.0).bases.clb (new.port port.0) =
       effect_keeps (On (old.port port.0).bases.clb) port (λ p q v z. z) (λ p z. z) access old new x
       (λ q v mid is steps z. written_on_still (old.port port.0).bases.clb q v (length mid.tape) (mid.port port.0) (started_by q v is) (spared port q Clb access v spares is) z)
-      (y.st_is_set, ap (λ (b : Bases). b.clb) (k.ports_are_kept port.0).bases) in
+      (y.st_is_set, ap (λ (b : Bases). b.clb) (k.ports_are_kept port.0).bases_are_kept) in
       stored_on old new port.0 slot c places on.0 on.1 (λ low small at t. access_tables uses m port.0 slot old new reached a off low small access misses x at t) h
 
 -- ---- the write of PxCI
@@ -110,10 +110,10 @@ served_ready : (m : Machine) (d : Device) (port slot : ℕ) (queued : Bool) (u :
     RelatesSlot m d.memory d.tape (d.port port) port slot u → ReadyTo queued (d.port port) slot
 served_ready m d port slot true u e st served =
     let h : IsArmed (d.port port) slot = subst (λ (w : SlotState). RelatesSlot m d.memory d.tape (d.port port) port slot w) e served in
-    record { over = record { issued = h.issued; free = h.free }; armed = h.armed ∙ st }
+    record { over = record { is_not_issued = h.is_not_issued; is_not_taken = h.is_not_taken }; armed = h.armed ∙ st }
 served_ready m d port slot false u e st served =
     let h : IsEmptySlot (d.port port) slot = subst (λ (w : SlotState). RelatesSlot m d.memory d.tape (d.port port) port slot w) e served in
-    record { over = record { issued = h.issued; free = h.free }; armed = h.unarmed }
+    record { over = record { is_not_issued = h.is_not_issued; is_not_taken = h.is_not_taken }; armed = h.unarmed }
 
 -- a queued command is one that isn't plain
 used_so : (plain queued : Bool) → queued ≡ not plain → (if queued then Armed else Free) ≡ (if plain then Free else Armed)
@@ -123,14 +123,14 @@ used_so false queued e = cond-true queued Armed Free e
 pub readied_permitted : StepLaws → (uses : SlotStates) (m : Machine) (d : Device) (port : Port) (v : ℕ) → IsReachable m → StateRelation uses m d → IsOn d → HasPort d port.0 → (d.port port.0).st ≡ true →
     ((slot : ℕ) → bit v slot ≡ true → IsReadyToIssue uses d port.0 slot) → IsStable (MayWrite (Px port Ci) v) d
 readied_permitted laws uses m d port v reached a on there st ready mid s =
-    let k : Keeps d mid = laws.keeps _ _ s in
+    let k : KeepsOverSteps d mid = laws.steps_keep _ _ s in
     let w : KeepsOutsideReset d mid = k.keeps_outside_reset on.no_reset in (
-      record { ae = w.ae ∙ on.ae; no_reset = w.no_reset },
-      (there.0, ap (λ (n : ℕ). bit n port.0) k.pi ∙ there.1),
+      record { ae_is_set = w.ae_is_kept ∙ on.ae_is_set; no_reset = w.no_reset },
+      (there.0, ap (λ (n : ℕ). bit n port.0) k.pi_is_kept ∙ there.1),
       record {
-        running = (w.controls port.0).st ∙ st;
-        slots_are_usable = λ j b. subst (λ (n : ℕ). j ≤ n / 256 % 32) (sym k.cap) (ready j b).usable;
-        slots_are_free = λ j b. let h = slot_ready j b in (h.over.issued, h.over.free);
+        st_is_set = (w.controls_are_kept port.0).st_is_kept ∙ st;
+        slots_are_usable = λ j b. subst (λ (n : ℕ). j ≤ n / 256 % 32) (sym k.cap_is_kept) (ready j b).slot_is_implemented;
+        slots_are_free = λ j b. let h = slot_ready j b in (h.over.is_not_issued, h.over.is_not_taken);
         slots_say_commands = λ j b. ((ready j b).command, (ready j b).places, (stays j b).slot_decodes_to.decodes_to);
         sact_is_set = λ j meaning list b says q.
             (slot_ready j b).armed
@@ -144,16 +144,16 @@ readied_permitted laws uses m d port v reached a on there st ready mid s =
     slot_ready : (j : ℕ) (b : bit v j ≡ true) → ReadyTo (is_queued (ready j b).command.operation) (mid.port port.0) j
     slot_ready j b =
         let f : SimulatesSteps uses m d mid = steps_follow uses m d mid reached a s in
-        served_ready (left.after m f.steps) mid port.0 j (is_queued (ready j b).command.operation) (uses port.0 j) (ready j b).readied.slot_state_is (stays j b).st_is_set (f.agrees.relates_slots port.0 j)
+        served_ready (left.after m f.steps) mid port.0 j (is_queued (ready j b).command.operation) (uses port.0 j) (ready j b).readied.slot_state_is (stays j b).st_is_set (f.state_relation.relates_slots port.0 j)
 
 pub readied_prepared : (uses : SlotStates) (m : Machine) (d : Device) (port slot : ℕ) (c : Meaning) (places : List ℕ) (mode : QueueMode) (e : Pending) (v : ℕ) → IsReadied uses d port slot c places → IsEnabled m (Issue mode e) → e.request.port.0 ≡ port →
-    slot < mode.usable → (is_plain mode e.request.asked.op ≡ true → slot ≡ 0) → MeansRequest port slot e.request c places → is_queued c.operation ≡ not (is_plain mode e.request.asked.op) →
-    HasTrimBlock e.request.asked.op d.memory port e.request → bit v slot ≡ true → ((k : ℕ) → k ≢ slot → bit v k ≡ false) → IsPrepared uses m d port slot mode e v
+    slot < mode.usable_slots → (is_plain mode e.request.asked.op ≡ true → slot ≡ 0) → MeansRequest port slot e.request c places → is_queued c.operation ≡ not (is_plain mode e.request.asked.op) →
+    HasBlockIfTrim e.request.asked.op d.memory port e.request → bit v slot ≡ true → ((k : ℕ) → k ≢ slot → bit v k ≡ false) → IsPrepared uses m d port slot mode e v
 readied_prepared uses m d port slot c places mode e v x may at_port usable head means kind block here alone = record {
-  may = may;
+  issue_is_enabled = may;
   port_is = at_port;
-  free = x.slot_state_is ∙ used_so (is_plain mode e.request.asked.op) (is_queued c.operation) kind;
-  usable = usable;
+  slot_state_is = x.slot_state_is ∙ used_so (is_plain mode e.request.asked.op) (is_queued c.operation) kind;
+  slot_is_usable = usable;
   plain_is_in_slot_0 = head;
   st_is_set = x.stored.st_is_set;
   list_is_in_place = x.stored.list_is_in_place;
@@ -161,14 +161,14 @@ readied_prepared uses m d port slot c places mode e v x may at_port usable head 
   places = places;
   slot_decodes_to = x.stored.slot_decodes_to;
   means = means;
-  kind = kind;
-  block = block;
+  queued_as_request = kind;
+  has_block_if_trim = block;
   bit_is_set = here;
   no_other_bit_is_set = alone;
 }
 
 pub prepared_readied : (uses : SlotStates) (m : Machine) (d : Device) (port slot : ℕ) (mode : QueueMode) (e : Pending) (v : ℕ) → (x : IsPrepared uses m d port slot mode e v) → IsReadied uses d port slot x.command x.places
 prepared_readied uses m d port slot mode e v x = record {
-  slot_state_is = x.free ∙ sym (used_so (is_plain mode e.request.asked.op) (is_queued x.command.operation) x.kind);
+  slot_state_is = x.slot_state_is ∙ sym (used_so (is_plain mode e.request.asked.op) (is_queued x.command.operation) x.queued_as_request);
   stored = record { st_is_set = x.st_is_set; list_is_in_place = x.list_is_in_place; slot_decodes_to = x.slot_decodes_to };
 }

@@ -10,7 +10,7 @@ use Rattle.adapter.specs.Access.Access.{Writing}
 use Rattle.adapter.specs.Device.{Device}
 use Rattle.adapter.specs.declared.command.Operation.{Operation}
 use Rattle.block_machine.specs.State.{Machine}
-use Rattle.refinement.specs.Fragments.{driver_state_of, IsRelated, IsSimulatedChangingUses, IsSimulatedAlong}
+use Rattle.refinement.specs.Fragments.{driver_state_of, SomeMachineAgrees, IsSimulatedChangingUses, IsSimulatedAlong}
 use Rattle.refinement.specs.Driver.{DriverRelation}
 use Rattle.refinement.specs.Slots.{Free, Own, SlotStates, set_slot_state, IsOver}
 use Rattle.refinement.proofs.driver.OwnSteps.{own_release_knows}
@@ -36,7 +36,7 @@ released uses parked port o m d free over knows =
     (own_release_knows (driver_state_of (set_slot_state uses port 0 (Own o)) parked d) m knows port 0 over o (put_same uses port 0 (Own o)))
 
 -- some machine agrees with the slots used as they were
-pub agrees_released : (uses : SlotStates) (port : ℕ) (o : Operation) (d : Device) → uses port 0 ≡ Free → IsOver (d.port port) 0 → IsRelated (set_slot_state uses port 0 (Own o)) d → IsRelated uses d
+pub agrees_released : (uses : SlotStates) (port : ℕ) (o : Operation) (d : Device) → uses port 0 ≡ Free → IsOver (d.port port) 0 → SomeMachineAgrees (set_slot_state uses port 0 (Own o)) d → SomeMachineAgrees uses d
 agrees_released uses port o d free over a = record {
   machine = a.machine;
   parked = a.parked;
@@ -49,4 +49,4 @@ pub told_released : (May : Access → Type 0) (Fits : SlotStates → Type 0) (po
     ((uses : SlotStates) → Fits uses → uses port.0 0 ≡ Free) → IsOver (new.port port.0) 0 → (a : IsSimulatedChangingUses May Fits (λ uses. set_slot_state uses port.0 0 (Own o)) old new) →
     IsSimulatedAlong (λ made. made ≡ a.is_driven.accesses) May Fits old new
 told_released May Fits port o v old new issues free over a = told_known May Fits (λ uses. set_slot_state uses port.0 0 (Own o)) (λ uses. uses) old new (λ made. made ≡ a.is_driven.accesses)
-    (λ uses parked m fits knows. released uses parked port.0 o m new (free uses fits) over knows) (λ uses q none arms. refl) (record { followed = a; tells = refl })
+    (λ uses parked m fits knows. released uses parked port.0 o m new (free uses fits) over knows) (λ uses q none arms. refl) (record { is_simulated = a; accesses_are_such = refl })

@@ -13,7 +13,7 @@ use Rattle.adapter.specs.Commands.{is_queued}
 use Rattle.adapter.specs.Device.{Halt, FetchedCommand, DevicePort, Device}
 use Rattle.adapter.specs.Device.Halt.{NotHalted, HaltedPlain, HaltedQueued, LogOnly}
 use Rattle.adapter.specs.Memory.{changed}
-use Rattle.adapter.specs.Steps.{DeviceTransition, Can, device_after, TransitionsLead, Steps, admits, halted}
+use Rattle.adapter.specs.Steps.{DeviceTransition, Can, device_after, TransitionsLead, Steps, admits, halt_after_fault}
 use Rattle.adapter.specs.Steps.DeviceTransition.{Fetch, FetchFault, Move, Clear, Done, Fault, Fatal, Fall, FrFall, LinkUp, Unplug, Plug, ResetEnds, Scribble}
 use Rattle.adapter.specs.declared.command.Operation.{Operation}
 use Rattle.adapter.proofs.Changed.{changed_same, changed_other}
@@ -24,7 +24,7 @@ use Rattle.refinement.specs.StepLaws.{StepLaws}
 use Rattle.refinement.specs.Relation.{StateRelation}
 use Rattle.refinement.specs.PortFacts.{RunsWell, IsFaulted, IsCleanToStart}
 use Rattle.refinement.specs.Simulation.{SimulatesSteps}
-use Rattle.refinement.specs.Links.{DoesNotWrite}
+use Rattle.refinement.specs.PreservedParts.{DoesNotWrite}
 use Rattle.refinement.specs.Slots.{SlotState, Free, SlotStates, set_slot_state, IsEmptySlot, IsOver, RelatesSlot}
 use Rattle.refinement.specs.StartedPort.{ClearsNoStart}
 use Rattle.refinement.proofs.device.FactsOverAccesses.{access_steps, effect_keeps}
@@ -48,7 +48,7 @@ abbrev Open : DevicePort → Type 0
 Open p = (p.st ≡ true) × (p.sact 0 ≡ false) × (p.link_due ≡ false) × Told p
 
 -- a fault halts
-faults : (h : Halt) (queued : Bool) → IsFaulted (halted h queued)
+faults : (h : Halt) (queued : Bool) → IsFaulted (halt_after_fault h queued)
 faults HaltedQueued queued = inr refl
 faults LogOnly queued = inr refl
 faults NotHalted true = inr refl
@@ -69,13 +69,13 @@ module _ (uses : SlotStates) (m : Machine) (d : Device) (a : StateRelation uses 
   beside_over : (p slot : ℕ) → p ≡ port → slot ≢ 0 → IsOver (d.port p) slot
   beside_over p slot e ne =
       let h : IsEmptySlot (d.port p) slot = subst (λ (u : SlotState). RelatesSlot m d.memory d.tape (d.port p) p slot u) (ap (λ (q : ℕ). uses q slot) e ∙ alone slot ne) (a.relates_slots p slot) in
-      record { issued = h.issued; free = h.free }
+      record { is_not_issued = h.is_not_issued; is_not_taken = h.is_not_taken }
 
   issued_first : (p slot : ℕ) → p ≡ port → (d.port p).ci slot ≡ true → slot ≡ 0
-  issued_first p slot e is = ⊎_elim (λ (z : slot ≡ 0). z) (λ (ne : slot ≡ 0 → ⊥). absurd (both_ways _ (beside_over p slot e ne).issued is)) (cases_eq slot 0)
+  issued_first p slot e is = ⊎_elim (λ (z : slot ≡ 0). z) (λ (ne : slot ≡ 0 → ⊥). absurd (both_ways _ (beside_over p slot e ne).is_not_issued is)) (cases_eq slot 0)
 
   taken_first : (p slot : ℕ) (t : FetchedCommand) → p ≡ port → (d.port p).taken slot ≡ Some t → slot ≡ 0
-  taken_first p slot t e is = ⊎_elim (λ (z : slot ≡ 0). z) (λ (ne : slot ≡ 0 → ⊥). absurd (none-some _ (sym (beside_over p slot e ne).free ∙ is))) (cases_eq slot 0)
+  taken_first p slot t e is = ⊎_elim (λ (z : slot ≡ 0). z) (λ (ne : slot ≡ 0 → ⊥). absurd (none-some _ (sym (beside_over p slot e ne).is_not_taken ∙ is))) (cases_eq slot 0)
 
   at_zero : (p slot : ℕ) → slot ≡ 0 → (d.port p).sact 0 ≡ false → (d.port p).sact slot ≡ false
   at_zero p slot z clear = subst (λ (n : ℕ). (d.port p).sact n ≡ false) (sym z) clear
@@ -145,13 +145,13 @@ leads_open : StepLaws → (uses : SlotStates) (m : Machine) (port : ℕ) → ((s
 leads_open laws uses m port alone [] old new r a off e h = subst (λ (d : Device). (d.hr ≡ false) × Open (d.port port)) (sym e) (off, h)
 leads_open laws uses m port alone (step ∷ steps) old new r a off (can, lead) h =
     let f : SimulatesSteps uses m old (device_after step old) = step_follows uses m old step r a can in
-    leads_open laws uses (left.after m f.steps) port alone steps (device_after step old) new (laws.reached m f.steps r f.may) f.agrees ((laws.step step _ can).keeps_outside_reset off).no_reset lead
+    leads_open laws uses (left.after m f.steps) port alone steps (device_after step old) new (laws.reachable_goes_on m f.steps r f.steps_are_enabled) f.state_relation ((laws.one_step_keeps step _ can).keeps_outside_reset off).no_reset lead
     (step_opens uses m old a port alone off h step can)
 
 pub steps_open : StepLaws → (uses : SlotStates) (m : Machine) (port : ℕ) (old new : Device) → IsReachable m → StateRelation uses m old → Steps old new → FaultLeavesIssued uses port old → FaultLeavesIssued uses port new
 steps_open laws uses m port old new r a s h =
-    let x = leads_open laws uses m port h.no_other_slot_is_used s.steps old new r a h.hr_is_clear s.lead (h.st, h.slot_0_is_plain, h.link_is_not_due, h.tfes_is_clear_or_issued) in
-    record { hr_is_clear = x.0; st = x.1.0; slot_0_is_plain = x.1.1; link_is_not_due = x.1.2; no_other_slot_is_used = h.no_other_slot_is_used; tfes_is_clear_or_issued = x.1.3 }
+    let x = leads_open laws uses m port h.no_other_slot_is_used s.steps old new r a h.hr_is_clear s.lead (h.st_is_set, h.slot_0_is_plain, h.link_is_not_due, h.tfes_is_clear_or_issued) in
+    record { hr_is_clear = x.0; st_is_set = x.1.0; slot_0_is_plain = x.1.1; link_is_not_due = x.1.2; no_other_slot_is_used = h.no_other_slot_is_used; tfes_is_clear_or_issued = x.1.3 }
 
 -- ---- an access
 
@@ -183,28 +183,28 @@ pub access_opens : StepLaws → (uses : SlotStates) (m : Machine) (port : Port) 
     new.hr ≡ false → Does access old new → FaultLeavesIssued uses port.0 old → FaultLeavesIssued uses port.0 new
 access_opens laws uses m port access old new r a keeps spares controls off x h =
     let s = access_steps access old new x in
-    let c = leads_open laws uses m port.0 h.no_other_slot_is_used s.1.steps old s.0 r a h.hr_is_clear s.1.lead (h.st, h.slot_0_is_plain, h.link_is_not_due, h.tfes_is_clear_or_issued) in
+    let c = leads_open laws uses m port.0 h.no_other_slot_is_used s.1.steps old s.0 r a h.hr_is_clear s.1.lead (h.st_is_set, h.slot_0_is_plain, h.link_is_not_due, h.tfes_is_clear_or_issued) in
     let e : Open (new.port port.0) =
     effect_keeps Open port (λ p q v y. y) (λ p y. y) access old new x
     (λ q v mid is steps y. written_opens q v (length mid.tape) (mid.port port.0)
     (λ z. keeps v (is ∙ ap (λ (w : PortReg). Writing (Px port w) v) z)) (spared port q Sact access v spares is) (spared port q Sctl access v controls is) y) c.1 in
-    record { hr_is_clear = off; st = e.0; slot_0_is_plain = e.1; link_is_not_due = e.2; no_other_slot_is_used = h.no_other_slot_is_used; tfes_is_clear_or_issued = e.3 }
+    record { hr_is_clear = off; st_is_set = e.0; slot_0_is_plain = e.1; link_is_not_due = e.2; no_other_slot_is_used = h.no_other_slot_is_used; tfes_is_clear_or_issued = e.3 }
 
 -- ---- where it begins
 
 pub start_opens : StepLaws → (uses : SlotStates) (port : Port) (v : ℕ) (old new : Device) → old.hr ≡ false → bit v 0 ≡ true → ((slot : ℕ) → uses port.0 slot ≡ Free) → (old.port port.0).sact 0 ≡ false → IsCleanToStart (old.port port.0) →
     (old.port port.0).st ≡ false → Writes (Px port Cmd) v old new → FaultLeavesIssued uses port.0 new
 start_opens laws uses port v old new off on free clear quiet stopped call =
-    let k = laws.keeps _ _ call.steps in
-    let q : IsCleanToStart (call.mid.port port.0) = steps_quiet port.0 old call.mid call.steps quiet in
-    let w : Open (port_after_fre_write (bit v 4) (port_after_st_write (bit v 0) (length call.mid.tape) (call.mid.port port.0))) =
-    subst (λ (b : Bool). Open (port_after_fre_write (bit v 4) (port_after_st_write b (length call.mid.tape) (call.mid.port port.0)))) (sym on)
-    (subst (λ (x : DevicePort). Open (port_after_fre_write (bit v 4) x)) (sym (cond-false (call.mid.port port.0).st (call.mid.port port.0) _ ((k.ports_are_kept port.0).st stopped)))
-    (refl, (k.ports_are_kept port.0).sact 0 clear, q.no_link_is_due, inl q.tfes_is_clear.1)) in
-    let e : Open (new.port port.0) = subst Open (sym (ap (λ (d : Device). d.port port.0) call.effect ∙ changed_same call.mid.port port.0 _)) w in
+    let k = laws.steps_keep _ _ call.steps in
+    let q : IsCleanToStart (call.at_access.port port.0) = steps_quiet port.0 old call.at_access call.steps quiet in
+    let w : Open (port_after_fre_write (bit v 4) (port_after_st_write (bit v 0) (length call.at_access.tape) (call.at_access.port port.0))) =
+    subst (λ (b : Bool). Open (port_after_fre_write (bit v 4) (port_after_st_write b (length call.at_access.tape) (call.at_access.port port.0)))) (sym on)
+    (subst (λ (x : DevicePort). Open (port_after_fre_write (bit v 4) x)) (sym (cond-false (call.at_access.port port.0).st (call.at_access.port port.0) _ ((k.ports_are_kept port.0).st_stays_clear stopped)))
+    (refl, (k.ports_are_kept port.0).sact_stays_clear 0 clear, q.no_link_is_due, inl q.is_stopped_tfes_clear.1)) in
+    let e : Open (new.port port.0) = subst Open (sym (ap (λ (d : Device). d.port port.0) call.effect ∙ changed_same call.at_access.port port.0 _)) w in
     record {
       hr_is_clear = ap (λ (d : Device). d.hr) call.effect ∙ (k.keeps_outside_reset off).no_reset;
-      st = e.0;
+      st_is_set = e.0;
       slot_0_is_plain = e.1;
       link_is_not_due = e.2;
       no_other_slot_is_used = λ slot _. free slot;
@@ -214,7 +214,7 @@ start_opens laws uses port v old new off on free clear quiet stopped call =
 pub used_opens : (uses : SlotStates) (port : ℕ) (u : SlotState) (d : Device) → FaultLeavesIssued uses port d → FaultLeavesIssued (set_slot_state uses port 0 u) port d
 used_opens uses port u d h = record {
   hr_is_clear = h.hr_is_clear;
-  st = h.st;
+  st_is_set = h.st_is_set;
   slot_0_is_plain = h.slot_0_is_plain;
   link_is_not_due = h.link_is_not_due;
   no_other_slot_is_used = λ slot ne. put_other uses port 0 u port slot (λ _ z. ne z) ∙ h.no_other_slot_is_used slot ne;
@@ -225,16 +225,16 @@ used_opens uses port u d h = record {
 
 pub unfailed : StepLaws → (uses : SlotStates) (m : Machine) (port : Port) (v : ℕ) (old new : Device) → IsReachable m → StateRelation uses m old → FaultLeavesIssued uses port.0 old → Reads (Px port Ci) v old new → bit v 0 ≡ false → (new.port port.0).is 30 ≡ false
 unfailed laws uses m port v old new r a h call clear =
-    let mid : FaultLeavesIssued uses port.0 call.mid = steps_open laws uses m port.0 old call.mid r a call.steps h in
-    let shown : (call.mid.port port.0).ci 0 ≡ false = sym (call.shows 0 (omega arith)) ∙ clear in
-    ap (λ (d : Device). (d.port port.0).is 30) call.effect ∙ (ap (λ (p : DevicePort). p.is 30) (changed_same call.mid.port port.0 _) ∙ ⊎_elim
-    (λ (n : (call.mid.port port.0).is 30 ≡ false). n)
-    (λ (y : ((call.mid.port port.0).ci 0 ≡ true) × IsFaulted (call.mid.port port.0).halt). absurd (both_ways _ shown y.0))
+    let mid : FaultLeavesIssued uses port.0 call.at_access = steps_open laws uses m port.0 old call.at_access r a call.steps h in
+    let shown : (call.at_access.port port.0).ci 0 ≡ false = sym (call.shows 0 (omega arith)) ∙ clear in
+    ap (λ (d : Device). (d.port port.0).is 30) call.effect ∙ (ap (λ (p : DevicePort). p.is 30) (changed_same call.at_access.port port.0 _) ∙ ⊎_elim
+    (λ (n : (call.at_access.port port.0).is 30 ≡ false). n)
+    (λ (y : ((call.at_access.port port.0).ci 0 ≡ true) × IsFaulted (call.at_access.port port.0).halt). absurd (both_ways _ shown y.0))
     mid.tfes_is_clear_or_issued)
 
 pub open_well : (p : DevicePort) → RunsLinked p → p.halt ≡ NotHalted → p.is 30 ≡ false → p.serr_n ≡ false → p.serr_x ≡ false → ((place : ℕ) → 27 ≤ place → place ≤ 29 → p.is place ≡ false) → RunsWell p
 open_well p h ends clear n x quiet = well_of p (running_started p h ends) (record {
-  serr_n = n;
-  serr_x = x;
+  serr_n_is_clear = n;
+  serr_x_is_clear = x;
   no_error_bit_is_set = λ place low up. ⊎_elim (λ (e : place ≡ 30). ap p.is e ∙ clear) (λ (ne : place ≡ 30 → ⊥). quiet place low (omega (arith, up, ne))) (cases_eq place 30);
 })

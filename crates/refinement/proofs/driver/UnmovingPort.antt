@@ -9,14 +9,14 @@ use Rattle.hba_regs.specs.declared.reg.PortReg.TheVariants.{Ci}
 use Rattle.adapter.specs.Access.{Access, Does}
 use Rattle.adapter.specs.Access.Access.{Writing}
 use Rattle.adapter.specs.Device.{Device}
-use Rattle.adapter.specs.KeptBySteps.{Keeps}
+use Rattle.adapter.specs.KeptBySteps.{KeepsOverSteps}
 use Rattle.adapter.specs.Steps.{DeviceTransition, Can, device_after, TransitionsLead, Steps}
 use Rattle.adapter.specs.Steps.DeviceTransition.{Fetch, FetchFault, Move, Clear, Done, Fault, Fatal, Fall, FrFall, LinkUp, Unplug, Plug, ResetEnds, Scribble}
 use Rattle.adapter.specs.declared.command.Operation.{Operation}
 use Rattle.adapter.specs.declared.tape.Entry.{Entry}
 use Rattle.adapter.proofs.Absurd.{some-none}
 use Rattle.refinement.specs.StepLaws.{StepLaws}
-use Rattle.refinement.specs.Fragments.{HasNoCommand, IsPortAccessWriting, IsDrivenBy}
+use Rattle.refinement.specs.Fragments.{HasNoCommand, ReadsPortOrWrites, IsDrivenBy}
 use Rattle.refinement.specs.Slots.{IsMove}
 use Rattle.refinement.proofs.device.FactsOverAccesses.{access_steps}
 use Rattle.refinement.proofs.driver.Stretches.{along}
@@ -35,7 +35,7 @@ module _ (laws : StepLaws) (port : ℕ) (o : Operation) where
     no_entry = sym (append-nil d.tape)
 
     step_unmoving : (step : DeviceTransition) → Can step d → GainsNone (IsMove port o) d (device_after step d)
-    step_unmoving (Move p slot t bytes) can = (_, refl, one _ (λ x. some-none {x = t} (subst (λ (k : ℕ). (d.port k).taken slot ≡ Some t) x.0 can.works.taken) (none slot).free))
+    step_unmoving (Move p slot t bytes) can = (_, refl, one _ (λ x. some-none {x = t} (subst (λ (k : ℕ). (d.port k).taken slot ≡ Some t) x.0 can.works.taken) (none slot).is_not_taken))
     step_unmoving (Fetch p slot c places) can = ([], no_entry, All-nil (λ e. IsMove port o e → ⊥))
     step_unmoving (FetchFault p slot queued kept_bits) can = (_, refl, one _ (λ x. x))
     step_unmoving (Clear p slot t first count) can = (_, refl, one _ (λ x. x))
@@ -53,9 +53,9 @@ module _ (laws : StepLaws) (port : ℕ) (o : Operation) where
   leads_unmoving : (steps : List DeviceTransition) (old new : Device) → HasNoCommand (old.port port) → TransitionsLead steps old new → GainsNone (IsMove port o) old new
   leads_unmoving [] old new none e = subst (GainsNone (IsMove port o) old) (sym e) (nothing old)
   leads_unmoving (step ∷ steps) old new none (can, lead) =
-      let k : Keeps old (device_after step old) = laws.step step _ can in
+      let k : KeepsOverSteps old (device_after step old) = laws.one_step_keeps step _ can in
       gains_more (IsMove port o) old (device_after step old) new (step_unmoving old none step can)
-      (leads_unmoving steps (device_after step old) new (λ slot. record { issued = (k.ports_are_kept port).ci slot (none slot).issued; free = (k.ports_are_kept port).slots_stay_free slot (none slot).issued (none slot).free }) lead)
+      (leads_unmoving steps (device_after step old) new (λ slot. record { is_not_issued = (k.ports_are_kept port).ci_stays_clear slot (none slot).is_not_issued; is_not_taken = (k.ports_are_kept port).slots_stay_free slot (none slot).is_not_issued (none slot).is_not_taken }) lead)
 
   pub steps_unmoving : (old new : Device) → HasNoCommand (old.port port) → Steps old new → GainsNone (IsMove port o) old new
   steps_unmoving old new none s = leads_unmoving s.steps old new none s.lead
@@ -71,13 +71,13 @@ abbrev Unmoving : ℕ → Operation → Device → Device → Type 0
 Unmoving port o old new = HasNoCommand (old.port port) → GainsNone (IsMove port o) old new × HasNoCommand (new.port port)
 
 module _ (laws : StepLaws) (Written : PortReg → Type 0) (quiet : Written Ci → ⊥) (port : Port) (o : Operation) where
-  issues_none : (access : Access) → IsPortAccessWriting Written port access → (slot v : ℕ) → access ≡ Writing (Px port Ci) v → bit v slot ≡ false
-  issues_none access may slot v is = absurd (quiet (subst (IsPortAccessWriting Written port) is may).1)
+  issues_none : (access : Access) → ReadsPortOrWrites Written port access → (slot v : ℕ) → access ≡ Writing (Px port Ci) v → bit v slot ≡ false
+  issues_none access may slot v is = absurd (quiet (subst (ReadsPortOrWrites Written port) is may).1)
 
-  pub controls_unmoving : (old new : Device) → IsDrivenBy (IsPortAccessWriting Written port) old new → HasNoCommand (old.port port.0) → GainsNone (IsMove port.0 o) old new × HasNoCommand (new.port port.0)
+  pub controls_unmoving : (old new : Device) → IsDrivenBy (ReadsPortOrWrites Written port) old new → HasNoCommand (old.port port.0) → GainsNone (IsMove port.0 o) old new × HasNoCommand (new.port port.0)
   controls_unmoving old new a none =
       along (Unmoving port.0 o) (λ d h. (nothing laws port.0 o d, h))
       (λ x y z p q h. let u = p h in let w = q u.1 in (gains_more (IsMove port.0 o) x y z u.0 w.0, w.1))
-      (IsPortAccessWriting Written port)
+      (ReadsPortOrWrites Written port)
       (λ access x y may does h. (access_unmoving laws port.0 o access x y h does, λ slot. access_over laws port slot access x y (issues_none access may slot) does (h slot)))
       a.accesses old new a.accesses_are_of_kind a.all_are_done none

@@ -6,16 +6,16 @@ use Rattle.std.proofs.lemmas.List.Elements.{All-contains, All-nil, Contains-appe
 use Rattle.ata_types.specs.declared.grant.GrantRow.{GrantRow}
 use Rattle.ata_types.specs.declared.request.ClientId.{ClientId}
 use Rattle.ata_types.specs.declared.request.Frame.{Frame}
-use Rattle.adapter.specs.Device.{Device, Lasting}
+use Rattle.adapter.specs.Device.{Device, DurableState}
 use Rattle.adapter.specs.Steps.{WereHeld, bytes_put_into}
 use Rattle.adapter.specs.declared.tape.Entry.{Entry}
 use Rattle.adapter.specs.Idle.{IsIdle, TellsDisks}
 use Rattle.block_machine.specs.State.{Block, DiskBytes, Machine}
 use Rattle.block_machine.specs.Expected.{IsInitial}
 use Rattle.refinement.specs.Slots.{Free, Serves}
-use Rattle.refinement.specs.Relation.{IsDiskOf, SameMemory, SameSectors, port_at}
+use Rattle.refinement.specs.Relation.{IsDiskOf, SameClientFrames, SameSectors, port_at}
 use Rattle.refinement.specs.Replug.{optional_block, blocks_put, replug_candidates}
-use Rattle.refinement.specs.Fragments.{IsRelated}
+use Rattle.refinement.specs.Fragments.{SomeMachineAgrees}
 use Rattle.refinement.specs.Driver.{DriverRelation, idle_driver_state}
 use Rattle.refinement.proofs.relation.OtherSlots.{true_false}
 
@@ -31,27 +31,27 @@ in_blocks port k (e ∷ es) entry bytes here is = by (λ (c : Contains es entry)
     by rest zero lt at = Contains-append_left (optional_block (bytes_put_into port k e)) (blocks_put port k es) (slice_index bytes) (in_block (bytes_put_into port k e) bytes (ap (bytes_put_into port k) at ∙ is))
     by rest (suc i) lt at = Contains-append_right (optional_block (bytes_put_into port k e)) (blocks_put port k es) (slice_index bytes) (rest (i, omega (arith, lt), at))
 
-returns : (tape : List Entry) (lasting : Lasting) (port k : ℕ) (bytes : List ℕ) → WereHeld tape lasting port k bytes → Contains (replug_candidates tape lasting port k) (slice_index bytes)
+returns : (tape : List Entry) (lasting : DurableState) (port k : ℕ) (bytes : List ℕ) → WereHeld tape lasting port k bytes → Contains (replug_candidates tape lasting port k) (slice_index bytes)
 returns tape lasting port k bytes (inl is) = Contains-append_left (optional_block (option_map (λ (sectors : ℕ → List ℕ). sectors k) lasting.sectors)) (blocks_put port k (drop lasting.tape_length tape)) (slice_index bytes)
     (in_block (option_map (λ (sectors : ℕ → List ℕ). sectors k) lasting.sectors) bytes is)
 returns tape lasting port k bytes (inr (entry, here, is)) = Contains-append_right (optional_block (option_map (λ (sectors : ℕ → List ℕ). sectors k) lasting.sectors)) (blocks_put port k (drop lasting.tape_length tape)) (slice_index bytes)
     (in_blocks port k (drop lasting.tape_length tape) entry bytes here is)
 
-pub idle_knows : (m : Machine) (d : Device) → IsInitial m → IsIdle d → ((port : ℕ) → IsDiskOf m (d.port port) port) → SameMemory m d.memory →
-    (d.telling ≡ true → (port : ℕ) → SameSectors m (d.port port).disk port) → (d.telling ≡ true → (port k : ℕ) → m.blocks_since_flush (port_at port) k ≡ replug_candidates d.tape (d.port port).lasting port k) → DriverRelation m (idle_driver_state d)
+pub idle_knows : (m : Machine) (d : Device) → IsInitial m → IsIdle d → ((port : ℕ) → IsDiskOf m (d.port port) port) → SameClientFrames m d.memory →
+    (d.telling ≡ true → (port : ℕ) → SameSectors m (d.port port).disk port) → (d.telling ≡ true → (port k : ℕ) → m.overwritten_since_flush (port_at port) k ≡ replug_candidates d.tape (d.port port).lasting port k) → DriverRelation m (idle_driver_state d)
 idle_knows m d s i disk memory sectors aside = record {
   state_relation = record {
-    relates_slots = λ q k. record { issued = (i.ports_are_idle q).ci k; free = (i.ports_are_idle q).taken k; unarmed = (i.ports_are_idle q).sact k };
-    serve_apart = λ q k q' k' id u v. absurd (let z : Free ≡ Serves id = u in cc);
-    received_areas_are_placed = λ q f. true_false f (i.ports_are_idle q).fre;
+    relates_slots = λ q k. record { is_not_issued = (i.ports_are_idle q).ci_is_clear k; is_not_taken = (i.ports_are_idle q).none_is_taken k; unarmed = (i.ports_are_idle q).sact_is_clear k };
+    serve_distinct_requests = λ q k q' k' id u v. absurd (let z : Free ≡ Serves id = u in cc);
+    received_areas_are_placed = λ q f. true_false f (i.ports_are_idle q).fre_is_clear;
     disks_are_same = disk;
-    memory_is_same = memory;
+    client_frames_are_same = memory;
     sectors_are_same = sectors;
-    has_lasting = λ t port k inside bytes w. inr (slice_index bytes, subst (λ (l : List Block). Contains l (slice_index bytes)) (sym (aside t port k)) (returns d.tape (d.port port).lasting port k bytes w), λ b lb. refl);
+    holds_replug_candidates = λ t port k inside bytes w. inr (slice_index bytes, subst (λ (l : List Block). Contains l (slice_index bytes)) (sym (aside t port k)) (returns d.tape (d.port port).lasting port k bytes w), λ b lb. refl);
   };
   have_slots = λ q e may at_port. ⊎_elim
-      (λ z. absurd (All-contains (λ _. ⊥) [] e (All-nil (λ _. ⊥)) (subst (λ es. Contains es e) s.book z.0)))
-      (λ z. absurd (All-contains (λ _. ⊥) [] e (All-nil (λ _. ⊥)) (subst (λ es. Contains es e) s.kept z)))
+      (λ z. absurd (All-contains (λ _. ⊥) [] e (All-nil (λ _. ⊥)) (subst (λ es. Contains es e) s.book_is_empty z.0)))
+      (λ z. absurd (All-contains (λ _. ⊥) [] e (All-nil (λ _. ⊥)) (subst (λ es. Contains es e) s.none_is_kept z)))
       may;
 }
 
@@ -67,9 +67,9 @@ abbrev pub machine_of : Device → List GrantRow → (Frame → Option ClientId)
 machine_of d rows owner = record {
   present = λ port. (d.port port.0).present;
   disk_ids = λ port. (d.port port.0).disk.name;
-  sizes = λ port. (d.port port.0).disk.size;
-  disks = λ port. told_bytes (d.port port.0).disk.sectors;
-  blocks_since_flush = λ port k. replug_candidates d.tape (d.port port.0).lasting port.0 k;
+  sizes = λ port. (d.port port.0).disk.sector_count;
+  disk_bytes = λ port. told_bytes (d.port port.0).disk.sectors;
+  overwritten_since_flush = λ port k. replug_candidates d.tape (d.port port.0).lasting port.0 k;
   book = [];
   kept = [];
   lent = λ frame. None;
@@ -82,7 +82,7 @@ machine_of d rows owner = record {
 pub machine_knows : (d : Device) (rows : List GrantRow) (owner : Frame → Option ClientId) → IsInitial (machine_of d rows owner) → IsIdle d
     → TellsDisks d → DriverRelation (machine_of d rows owner) (idle_driver_state d)
 machine_knows d rows owner start is told =
-    idle_knows (machine_of d rows owner) d start is (λ q. record { present = refl; id = refl; size = refl }) (λ f b low small. refl) sectors (λ _ port k. refl)
+    idle_knows (machine_of d rows owner) d start is (λ q. record { present = refl; id = refl; sector_count = refl }) (λ f b low small. refl) sectors (λ _ port k. refl)
   where
     sectors : d.telling ≡ true → (port : ℕ) → SameSectors (machine_of d rows owner) (d.port port).disk port
     sectors tells q =
@@ -92,17 +92,17 @@ machine_knows d rows owner start is told =
 -- with no grants, and frames that are nobody's
 pub unowned_starts : (d : Device) → IsInitial (machine_of d [] (λ frame. None))
 unowned_starts d = record {
-  book = refl;
-  kept = refl;
-  lent = λ frame. refl;
-  next = refl;
-  few = omega arith;
-  rows = λ i j d lt small. absurd (omega (arith, small));
-  configured = λ row here. absurd (All-contains (λ _. ⊥) [] row (All-nil (λ _. ⊥)) here);
-  owned = λ frame client (e : None ≡ Some client). absurd (cc);
+  book_is_empty = refl;
+  none_is_kept = refl;
+  no_frame_is_lent = λ frame. refl;
+  next_id_is_1 = refl;
+  rows_are_at_most_64 = omega arith;
+  rows_differ_in_name = λ i j d lt small. absurd (omega (arith, small));
+  rows_are_valid = λ row here. absurd (All-contains (λ _. ⊥) [] row (All-nil (λ _. ⊥)) here);
+  owned_frames_are_clients = λ frame client (e : None ≡ Some client). absurd (cc);
 }
 
-pub idle_agrees : (d : Device) → IsIdle d → TellsDisks d → IsRelated (λ port slot. Free) d
+pub idle_agrees : (d : Device) → IsIdle d → TellsDisks d → SomeMachineAgrees (λ port slot. Free) d
 idle_agrees d is told = record {
   machine = machine_of d [] (λ frame. None);
   parked = λ port. [];

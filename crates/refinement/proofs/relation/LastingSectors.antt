@@ -9,8 +9,8 @@ use Rattle.ata_types.specs.declared.Port.{Port}
 use Rattle.ata_types.specs.declared.request.Op.{Op}
 use Rattle.ata_types.specs.declared.request.Op.TheVariants.{Read, Write, Trim, Flush}
 use Rattle.adapter.specs.Commands.{is_ranged, reads_memory}
-use Rattle.adapter.specs.Device.{Disk, Lasting, DevicePort, FetchedCommand}
-use Rattle.adapter.specs.Steps.{WereHeld, bytes_put_into, lasting_after, lasting_plugged, port_after_flush, next_sector, move_of, clear_entry}
+use Rattle.adapter.specs.Device.{Disk, DurableState, DevicePort, FetchedCommand}
+use Rattle.adapter.specs.Steps.{WereHeld, bytes_put_into, lasting_after, lasting_after_plug, port_after_flush, next_sector, move_of, clear_entry}
 use Rattle.adapter.specs.declared.command.Operation.{Operation}
 use Rattle.adapter.specs.declared.command.Operation.TheVariants as operation
 use Rattle.adapter.specs.declared.tape.Entry.{Entry}
@@ -20,9 +20,9 @@ use Rattle.block_machine.specs.State.{Block, Pending, Machine, sector_of, block_
 use Rattle.block_machine.specs.DueRequests.{is_flush, changes_sectors}
 use Rattle.block_machine.specs.Expected as left
 use Rattle.block_machine.specs.Steps.{Touch, End, Replace, SameBytes, HoldsOrHeldSinceFlush, after_step, put_sector}
-use Rattle.refinement.specs.Slots.{op_of}
-use Rattle.refinement.specs.Relation.{port_at, SameSectors, HasLasting}
-use Rattle.refinement.specs.Tape.{touched_by, touch_steps}
+use Rattle.refinement.specs.Slots.{client_operation_of}
+use Rattle.refinement.specs.Relation.{port_at, SameSectors, HoldsReplugCandidates}
+use Rattle.refinement.specs.Tape.{with_sectors_touched, touch_steps}
 
 -- ---- the machine: what a sector holds, or has held, so it has after a step, until a flush is ended
 
@@ -40,27 +40,27 @@ held_touched : (m : Machine) (e : Pending) (i : ℕ) (block : Block) (port : Por
 held_touched m e i block port k b h = by_op (changes_sectors e.request.asked.op)
   where
     written : Block
-    written = block_written e.request.asked.op e.request.held_blocks i
+    written = block_written e.request.asked.op e.request.blocks_at_acceptance i
 
-    by_place : (here : Bool) → Holds (cond here written (m.disks port k)) (cond here (m.disks port k ∷ m.blocks_since_flush port k) (m.blocks_since_flush port k)) b
-    by_place true = put_aside (m.disks port k) written b (m.blocks_since_flush port k) h
+    by_place : (here : Bool) → Holds (cond here written (m.disk_bytes port k)) (cond here (m.disk_bytes port k ∷ m.overwritten_since_flush port k) (m.overwritten_since_flush port k)) b
+    by_place true = put_aside (m.disk_bytes port k) written b (m.overwritten_since_flush port k) h
     by_place false = h
 
-    by_op : (w : Bool) → Holds ((cond w (put_sector e.request.port (sector_of e.request i) written m.disks) m.disks) port k)
-        (cond (w && ((port.0 == e.request.port.0) && (k == sector_of e.request i))) (m.disks port k ∷ m.blocks_since_flush port k) (m.blocks_since_flush port k)) b
+    by_op : (w : Bool) → Holds ((cond w (put_sector e.request.port (sector_of e.request i) written m.disk_bytes) m.disk_bytes) port k)
+        (cond (w && ((port.0 == e.request.port.0) && (k == sector_of e.request i))) (m.disk_bytes port k ∷ m.overwritten_since_flush port k) (m.overwritten_since_flush port k)) b
     by_op true = by_place ((port.0 == e.request.port.0) && (k == sector_of e.request i))
     by_op false = h
 
 held_swept : (m : Machine) (e : Pending) (from n : ℕ) (port : Port) (k : ℕ) (b : Block) → HoldsOrHeldSinceFlush m port k b → HoldsOrHeldSinceFlush (left.after m (touch_steps e from n)) port k b
 held_swept m e from zero port k b h = h
 held_swept m e from (suc n) port k b h =
-    held_touched (left.after m (touch_steps e from n)) (touched_by e from n) (from + n) (λ b. 0) port k b (held_swept m e from n port k b h)
+    held_touched (left.after m (touch_steps e from n)) (with_sectors_touched e from n) (from + n) (λ b. 0) port k b (held_swept m e from n port k b h)
 
 -- another command than a flush is ended, or one of another port
 held_ended : (m : Machine) (e : Pending) (port : Port) (k : ℕ) (b : Block) → ((e.request.port.0 == port.0) && is_flush e.request.asked.op) ≡ false
     → HoldsOrHeldSinceFlush m port k b → HoldsOrHeldSinceFlush (after_step m (End e)) port k b
 held_ended m e port k b other h =
-    subst (λ (aside : List Block). Holds (m.disks port k) aside b) (sym (cond-false ((e.request.port.0 == port.0) && is_flush e.request.asked.op) [] (m.blocks_since_flush port k) other)) h
+    subst (λ (aside : List Block). Holds (m.disk_bytes port k) aside b) (sym (cond-false ((e.request.port.0 == port.0) && is_flush e.request.asked.op) [] (m.overwritten_since_flush port k) other)) h
 
 -- the disk that comes in at a port is the same, or the port is another
 held_replaced : (m : Machine) (p : Port) (id size : ℕ) (disk : state.DiskBytes) (port : Port) (k : ℕ) (b : Block) → ((port.0 == p.0) ≡ true → (id == m.disk_ids port) ≡ true)
@@ -68,8 +68,8 @@ held_replaced : (m : Machine) (p : Port) (id size : ℕ) (disk : state.DiskBytes
 held_replaced m p id size disk port k b same h = go (port.0 == p.0) (id == m.disk_ids port) same
   where
     go : (here known : Bool) → (here ≡ true → known ≡ true)
-        → Holds ((cond here disk (m.disks port)) k) (cond here (cond known (m.disks port k ∷ m.blocks_since_flush port k) []) (m.blocks_since_flush port k)) b
-    go true true is = put_aside (m.disks port k) (disk k) b (m.blocks_since_flush port k) h
+        → Holds ((cond here disk (m.disk_bytes port)) k) (cond here (cond known (m.disk_bytes port k ∷ m.overwritten_since_flush port k) []) (m.overwritten_since_flush port k)) b
+    go true true is = put_aside (m.disk_bytes port k) (disk k) b (m.overwritten_since_flush port k) h
     go true false is = absurd (false≢true (is refl))
     go false known is = h
 
@@ -111,12 +111,12 @@ and_false true = refl
 and_false false = refl
 
 -- a move for another command than a write puts nothing
-pub quiet_move : (port slot : ℕ) (t : FetchedCommand) (bytes : List ℕ) → (op_of t.meaning.operation ≡ Some Write → ⊥) → IsQuiet (entry.Move (move_of port slot t bytes))
+pub quiet_move : (port slot : ℕ) (t : FetchedCommand) (bytes : List ℕ) → (client_operation_of t.meaning.operation ≡ Some Write → ⊥) → IsQuiet (entry.Move (move_of port slot t bytes))
 quiet_move port slot t bytes none q k =
     cond-false (((port == q) && (next_sector t == k)) && (is_ranged t.meaning.operation && reads_memory t.meaning.operation)) (Some bytes) None
     (ap (λ (b : Bool). ((port == q) && (next_sector t == k)) && b) (quiet t.meaning.operation none) ∙ and_false ((port == q) && (next_sector t == k)))
   where
-    quiet : (o : Operation) → (op_of o ≡ Some Write → ⊥) → is_ranged o && reads_memory o ≡ false
+    quiet : (o : Operation) → (client_operation_of o ≡ Some Write → ⊥) → is_ranged o && reads_memory o ≡ false
     quiet operation.Write n = absurd (n refl)
     quiet operation.WriteQueued n = absurd (n refl)
     quiet operation.Read n = refl
@@ -130,7 +130,7 @@ quiet_move port slot t bytes none q k =
 
 -- what a sector of the port may come back with by the longer tape, it might by the shorter one; or the machine's disk holds it now, or has held it
 abbrev pub Gains : List Entry → List Entry → Machine → ℕ → Type 0
-Gains earlier later m port = (l : Lasting) (k : ℕ) (bytes : List ℕ) → WereHeld later l port k bytes
+Gains earlier later m port = (l : DurableState) (k : ℕ) (bytes : List ℕ) → WereHeld later l port k bytes
     → WereHeld earlier l port k bytes ⊎ HoldsOrHeldSinceFlush m (port_at port) k (slice_index bytes)
 
 pub gains_none : (tape : List Entry) (m : Machine) (port : ℕ) → Gains tape tape m port
@@ -151,22 +151,22 @@ gains_quiet tape e m port quiet = gains_put tape e m port (λ k bytes is. absurd
 abbrev pub Keeps : Machine → Machine → ℕ → Type 0
 Keeps m m' port = (k : ℕ) (b : Block) → HoldsOrHeldSinceFlush m (port_at port) k b → HoldsOrHeldSinceFlush m' (port_at port) k b
 
-pub keeps_same : (m m' : Machine) (port : ℕ) → m'.disks ≡ m.disks → m'.blocks_since_flush ≡ m.blocks_since_flush → Keeps m m' port
+pub keeps_same : (m m' : Machine) (port : ℕ) → m'.disk_bytes ≡ m.disk_bytes → m'.overwritten_since_flush ≡ m.overwritten_since_flush → Keeps m m' port
 keeps_same m m' port disks aside k b h =
-    subst (λ (now : Block). Holds now (m'.blocks_since_flush (port_at port) k) b) (ap (λ (f : Port → state.DiskBytes). f (port_at port) k) (sym disks))
-    (subst (λ (old : List Block). Holds (m.disks (port_at port) k) old b) (ap (λ (f : Port → ℕ → List Block). f (port_at port) k) (sym aside)) h)
+    subst (λ (now : Block). Holds now (m'.overwritten_since_flush (port_at port) k) b) (ap (λ (f : Port → state.DiskBytes). f (port_at port) k) (sym disks))
+    (subst (λ (old : List Block). Holds (m.disk_bytes (port_at port) k) old b) (ap (λ (f : Port → ℕ → List Block). f (port_at port) k) (sym aside)) h)
 
-pub lasting_on : (m m' : Machine) (earlier later : List Entry) (p new : DevicePort) (port : ℕ) → new.lasting ≡ p.lasting → new.disk.size ≡ p.disk.size
-    → Keeps m m' port → Gains earlier later m' port → HasLasting m earlier p port → HasLasting m' later new port
+pub lasting_on : (m m' : Machine) (earlier later : List Entry) (p new : DevicePort) (port : ℕ) → new.lasting ≡ p.lasting → new.disk.sector_count ≡ p.disk.sector_count
+    → Keeps m m' port → Gains earlier later m' port → HoldsReplugCandidates m earlier p port → HoldsReplugCandidates m' later new port
 lasting_on m m' earlier later p new port same size keeps gains h k inside bytes w = ⊎_elim
     (λ before. keeps k (slice_index bytes) (h k (subst (λ (n : ℕ). k < n) size inside) bytes before))
     (λ now. now)
-    (gains p.lasting k bytes (subst (λ (l : Lasting). WereHeld later l port k bytes) same w))
+    (gains p.lasting k bytes (subst (λ (l : DurableState). WereHeld later l port k bytes) same w))
 
 -- what is lasting is what the disk holds now, and nothing was put since
 lasting_now : (m : Machine) (tape : List Entry) (e : Entry) (disk : Disk) (new : DevicePort) (port : ℕ) → IsQuiet e → new.lasting ≡ record { sectors = disk.sectors; tape_length = length tape }
-    → new.disk.size ≡ disk.size → SameSectors m disk port → HasLasting m (tape ++ e ∷ []) new port
-lasting_now m tape e disk new port quiet is size s k inside bytes w = by (subst (λ (l : Lasting). WereHeld (tape ++ e ∷ []) l port k bytes) is w)
+    → new.disk.sector_count ≡ disk.sector_count → SameSectors m disk port → HoldsReplugCandidates m (tape ++ e ∷ []) new port
+lasting_now m tape e disk new port quiet is size s k inside bytes w = by (subst (λ (l : DurableState). WereHeld (tape ++ e ∷ []) l port k bytes) is w)
   where
     by : WereHeld (tape ++ e ∷ []) (record { sectors = disk.sectors; tape_length = length tape }) port k bytes → HoldsOrHeldSinceFlush m (port_at port) k (slice_index bytes)
     by (inl now) =
@@ -178,13 +178,13 @@ lasting_now m tape e disk new port quiet is size s k inside bytes w = by (subst 
         (drop_more (length tape) tape e x here)
 
 -- what a port's disk is, and what of it is lasting
-abbrev pub disk_of : DevicePort → Disk × Lasting
+abbrev pub disk_of : DevicePort → Disk × DurableState
 disk_of p = (p.disk, p.lasting)
 
 -- where nothing is put, the port's disk is the same, and its machine's too
-pub lasting_same : (m : Machine) (tape : List Entry) (p new : DevicePort) (port : ℕ) → disk_of new ≡ disk_of p → HasLasting m tape p port → HasLasting m tape new port
+pub lasting_same : (m : Machine) (tape : List Entry) (p new : DevicePort) (port : ℕ) → disk_of new ≡ disk_of p → HoldsReplugCandidates m tape p port → HoldsReplugCandidates m tape new port
 lasting_same m tape p new port same h =
-    lasting_on m m tape tape p new port (ap (λ (x : Disk × Lasting). x.1) same) (ap (λ (x : Disk × Lasting). x.0.size) same) (λ k b held. held) (gains_none tape m port) h
+    lasting_on m m tape tape p new port (ap (λ (x : Disk × DurableState). x.1) same) (ap (λ (x : Disk × DurableState). x.0.sector_count) same) (λ k b held. held) (gains_none tape m port) h
 
 -- ---- the steps of the machine
 
@@ -196,7 +196,7 @@ lasting_swept m e from n port k b h = held_swept m e from n (port_at port) k b h
 
 -- a write's move puts what the machine's disk then holds
 pub gains_write : (tape : List Entry) (m : Machine) (port slot : ℕ) (t : FetchedCommand) (bytes : List ℕ) (q : ℕ)
-    → ((b : ℕ) → b < 512 → slice_index bytes b ≡ m.disks (port_at port) (next_sector t) b) → Gains tape (tape ++ entry.Move (move_of port slot t bytes) ∷ []) m q
+    → ((b : ℕ) → b < 512 → slice_index bytes b ≡ m.disk_bytes (port_at port) (next_sector t) b) → Gains tape (tape ++ entry.Move (move_of port slot t bytes) ∷ []) m q
 gains_write tape m port slot t bytes q now = gains_put tape (entry.Move (move_of port slot t bytes)) m q put
   where
     by : (k : ℕ) (other : List ℕ) (here writes : Bool) → ((port == q) && (next_sector t == k)) ≡ here → cond (here && writes) (Some bytes) None ≡ Some other → HoldsOrHeldSinceFlush m (port_at q) k (slice_index other)
@@ -213,7 +213,7 @@ gains_write tape m port slot t bytes q now = gains_put tape (entry.Move (move_of
 
 -- and a clear puts zeros
 pub gains_clear : (tape : List Entry) (m : Machine) (port slot first count q : ℕ)
-    → ((k b : ℕ) → first ≤ k → k < first + count → b < 512 → slice_index (replicate 512 0) b ≡ m.disks (port_at port) k b) → Gains tape (tape ++ clear_entry port slot first count ∷ []) m q
+    → ((k b : ℕ) → first ≤ k → k < first + count → b < 512 → slice_index (replicate 512 0) b ≡ m.disk_bytes (port_at port) k b) → Gains tape (tape ++ clear_entry port slot first count ∷ []) m q
 gains_clear tape m port slot first count q now = gains_put tape (clear_entry port slot first count) m q put
   where
     by : (k : ℕ) (other : List ℕ) (here : Bool) → ((port == q) && (nat_le first k && nat_lt k (first + count))) ≡ here → cond here (Some (replicate 512 0)) None ≡ Some other → HoldsOrHeldSinceFlush m (port_at q) k (slice_index other)
@@ -230,12 +230,12 @@ gains_clear tape m port slot first count q now = gains_put tape (clear_entry por
 
 -- A command is ended: what the disk holds is lasting if it is a flush, and else what was so before.
 module _ (m : Machine) (e : Pending) (tape : List Entry) (last : Entry) (quiet : IsQuiet last) where
-  pub lasting_ended : (p : DevicePort) (port : ℕ) (o : Operation) → op_of o ≡ Some e.request.asked.op → SameSectors m p.disk port → HasLasting m tape p port
-      → HasLasting (after_step m (End e)) (tape ++ last ∷ []) (port_after_flush p o (length tape)) port
+  pub lasting_ended : (p : DevicePort) (port : ℕ) (o : Operation) → client_operation_of o ≡ Some e.request.asked.op → SameSectors m p.disk port → HoldsReplugCandidates m tape p port
+      → HoldsReplugCandidates (after_step m (End e)) (tape ++ last ∷ []) (port_after_flush p o (length tape)) port
   lasting_ended p port o is s h = by o is
     where
       other : (o : Operation) (op : Op) → is_flush op ≡ false → Some op ≡ Some e.request.asked.op → lasting_after o p.lasting p.disk (length tape) ≡ p.lasting
-          → HasLasting (after_step m (End e)) (tape ++ last ∷ []) (port_after_flush p o (length tape)) port
+          → HoldsReplugCandidates (after_step m (End e)) (tape ++ last ∷ []) (port_after_flush p o (length tape)) port
       other o op plain is same =
           lasting_on m (after_step m (End e)) tape (tape ++ last ∷ []) p (port_after_flush p o (length tape)) port same refl
           (λ k b held. held_ended m e (port_at port) k b (ap (λ (b : Bool). (e.request.port.0 == port) && b) (ap is_flush (sym (same_Some op e.request.asked.op is)) ∙ plain) ∙ and_false (e.request.port.0 == port)) held)
@@ -244,7 +244,7 @@ module _ (m : Machine) (e : Pending) (tape : List Entry) (last : Entry) (quiet :
       no_op : {A : Type 0} → None ≡ Some e.request.asked.op → A
       no_op z = absurd cc
 
-      by : (o : Operation) → op_of o ≡ Some e.request.asked.op → HasLasting (after_step m (End e)) (tape ++ last ∷ []) (port_after_flush p o (length tape)) port
+      by : (o : Operation) → client_operation_of o ≡ Some e.request.asked.op → HoldsReplugCandidates (after_step m (End e)) (tape ++ last ∷ []) (port_after_flush p o (length tape)) port
       by operation.Flush is = lasting_now (after_step m (End e)) tape last p.disk (port_after_flush p operation.Flush (length tape)) port quiet refl refl (record { told_sectors = s.told_sectors; disk_tells = s.disk_tells; bytes_are_same = s.bytes_are_same })
       by operation.Read is = other operation.Read Read refl is refl
       by operation.ReadQueued is = other operation.ReadQueued Read refl is refl
@@ -255,22 +255,22 @@ module _ (m : Machine) (e : Pending) (tape : List Entry) (last : Entry) (quiet :
       by operation.ReadLog is = no_op is
 
   -- of another port
-  pub lasting_ended_elsewhere : (p : DevicePort) (port q : ℕ) → e.request.port.0 ≡ port → q ≢ port → HasLasting m tape p q → HasLasting (after_step m (End e)) (tape ++ last ∷ []) p q
+  pub lasting_ended_elsewhere : (p : DevicePort) (port q : ℕ) → e.request.port.0 ≡ port → q ≢ port → HoldsReplugCandidates m tape p q → HoldsReplugCandidates (after_step m (End e)) (tape ++ last ∷ []) p q
   lasting_ended_elsewhere p port q at ne h =
       lasting_on m (after_step m (End e)) tape (tape ++ last ∷ []) p p q refl refl
       (λ k b held. held_ended m e (port_at q) k b (ap (λ (b : Bool). b && is_flush e.request.asked.op) (ne_eqb e.request.port.0 q (λ z. ne (sym z ∙ at)))) held)
       (gains_quiet tape last (after_step m (End e)) q quiet) h
 
 -- a page command is ended: it is no flush
-pub lasting_read : (m : Machine) (tape : List Entry) (last : Entry) (p : DevicePort) (port : ℕ) (o : Operation) → IsQuiet last → op_of o ≡ None → HasLasting m tape p port
-    → HasLasting m (tape ++ last ∷ []) (port_after_flush p o (length tape)) port
+pub lasting_read : (m : Machine) (tape : List Entry) (last : Entry) (p : DevicePort) (port : ℕ) (o : Operation) → IsQuiet last → client_operation_of o ≡ None → HoldsReplugCandidates m tape p port
+    → HoldsReplugCandidates m (tape ++ last ∷ []) (port_after_flush p o (length tape)) port
 lasting_read m tape last p port o quiet none h =
     lasting_on m m tape (tape ++ last ∷ []) p (port_after_flush p o (length tape)) port (by o none) refl (λ k b held. held) (gains_quiet tape last m port quiet) h
   where
     some_op : {A : Type 0} (op : Op) → Some op ≡ None → A
     some_op op z = absurd cc
 
-    by : (o : Operation) → op_of o ≡ None → lasting_after o p.lasting p.disk (length tape) ≡ p.lasting
+    by : (o : Operation) → client_operation_of o ≡ None → lasting_after o p.lasting p.disk (length tape) ≡ p.lasting
     by operation.Identify n = refl
     by operation.ReadLog n = refl
     by operation.Flush n = some_op Flush n
@@ -282,23 +282,23 @@ lasting_read m tape last p port o quiet none h =
 
 -- a disk comes in: the one that was in last, or another
 module _ (m : Machine) (port : ℕ) (disk : Disk) (content : state.DiskBytes) (tape : List Entry) (last : Entry) (quiet : IsQuiet last) where
-  pub lasting_put_in : (p new : DevicePort) → m.disk_ids (port_at port) ≡ p.disk.name → new.disk.size ≡ disk.size → new.lasting ≡ lasting_plugged p.lasting p.disk disk (length tape)
-      → (disk.name ≡ p.disk.name → disk.size ≡ p.disk.size) → SameSectors (after_step m (Replace (port_at port) disk.name disk.size content)) disk port
-      → HasLasting m tape p port → HasLasting (after_step m (Replace (port_at port) disk.name disk.size content)) (tape ++ last ∷ []) new port
+  pub lasting_put_in : (p new : DevicePort) → m.disk_ids (port_at port) ≡ p.disk.name → new.disk.sector_count ≡ disk.sector_count → new.lasting ≡ lasting_after_plug p.lasting p.disk disk (length tape)
+      → (disk.name ≡ p.disk.name → disk.sector_count ≡ p.disk.sector_count) → SameSectors (after_step m (Replace (port_at port) disk.name disk.sector_count content)) disk port
+      → HoldsReplugCandidates m tape p port → HoldsReplugCandidates (after_step m (Replace (port_at port) disk.name disk.sector_count content)) (tape ++ last ∷ []) new port
   lasting_put_in p new id size is known s h = by (nat_eq disk.name p.disk.name) refl
     where
-      by : (b : Bool) → nat_eq disk.name p.disk.name ≡ b → HasLasting (after_step m (Replace (port_at port) disk.name disk.size content)) (tape ++ last ∷ []) new port
+      by : (b : Bool) → nat_eq disk.name p.disk.name ≡ b → HoldsReplugCandidates (after_step m (Replace (port_at port) disk.name disk.sector_count content)) (tape ++ last ∷ []) new port
       by true e =
           let name : disk.name ≡ p.disk.name = eqb-true disk.name p.disk.name e in
-          lasting_on m (after_step m (Replace (port_at port) disk.name disk.size content)) tape (tape ++ last ∷ []) p new port
+          lasting_on m (after_step m (Replace (port_at port) disk.name disk.sector_count content)) tape (tape ++ last ∷ []) p new port
           (is ∙ cond-true (nat_eq disk.name p.disk.name) p.lasting (record { sectors = disk.sectors; tape_length = length tape }) e) (size ∙ known name)
-          (λ k b held. held_replaced m (port_at port) disk.name disk.size content (port_at port) k b (λ _. ap (λ (n : ℕ). disk.name == n) id ∙ e) held)
-          (gains_quiet tape last (after_step m (Replace (port_at port) disk.name disk.size content)) port quiet) h
-      by false e = lasting_now (after_step m (Replace (port_at port) disk.name disk.size content)) tape last disk new port quiet
+          (λ k b held. held_replaced m (port_at port) disk.name disk.sector_count content (port_at port) k b (λ _. ap (λ (n : ℕ). disk.name == n) id ∙ e) held)
+          (gains_quiet tape last (after_step m (Replace (port_at port) disk.name disk.sector_count content)) port quiet) h
+      by false e = lasting_now (after_step m (Replace (port_at port) disk.name disk.sector_count content)) tape last disk new port quiet
           (is ∙ cond-false (nat_eq disk.name p.disk.name) p.lasting (record { sectors = disk.sectors; tape_length = length tape }) e) size s
 
-  pub lasting_put_elsewhere : (p : DevicePort) (q : ℕ) → q ≢ port → HasLasting m tape p q → HasLasting (after_step m (Replace (port_at port) disk.name disk.size content)) (tape ++ last ∷ []) p q
+  pub lasting_put_elsewhere : (p : DevicePort) (q : ℕ) → q ≢ port → HoldsReplugCandidates m tape p q → HoldsReplugCandidates (after_step m (Replace (port_at port) disk.name disk.sector_count content)) (tape ++ last ∷ []) p q
   lasting_put_elsewhere p q ne h =
-      lasting_on m (after_step m (Replace (port_at port) disk.name disk.size content)) tape (tape ++ last ∷ []) p p q refl refl
-      (λ k b held. held_replaced m (port_at port) disk.name disk.size content (port_at q) k b (λ e. absurd (ne (eqb-true q port e))) held)
-      (gains_quiet tape last (after_step m (Replace (port_at port) disk.name disk.size content)) q quiet) h
+      lasting_on m (after_step m (Replace (port_at port) disk.name disk.sector_count content)) tape (tape ++ last ∷ []) p p q refl refl
+      (λ k b held. held_replaced m (port_at port) disk.name disk.sector_count content (port_at q) k b (λ e. absurd (ne (eqb-true q port e))) held)
+      (gains_quiet tape last (after_step m (Replace (port_at port) disk.name disk.sector_count content)) q quiet) h

@@ -11,7 +11,7 @@ use Rattle.adapter.proofs.MemoryLemmas.{patched_apart}
 use Rattle.block_machine.specs.State.{Pending, Machine}
 use Rattle.block_machine.specs.Steps.{MayStillMove}
 use Rattle.refinement.specs.Slots.{Serves, SlotStates, RelatesSlot}
-use Rattle.refinement.specs.Relation.{StateRelation, port_at, IsDiskOf, SameSectors, HasLasting, SameMemory, HasReceivedArea, ServeApart}
+use Rattle.refinement.specs.Relation.{StateRelation, port_at, IsDiskOf, SameSectors, HoldsReplugCandidates, SameClientFrames, HasReceivedArea, ServeDistinctRequests}
 use Rattle.refinement.proofs.relation.SlotRelation.{SameSlot, SameFixed, slots_after}
 use Rattle.refinement.proofs.relation.TouchesAndEnds.{Goes}
 
@@ -22,7 +22,7 @@ changed_at {A} f place new P here others k = ⊎_elim
     (λ (ne : k ≡ place → ⊥). subst (λ (v : A). P k v) (sym (changed_other f place new k ne)) (others k ne))
     (cases_eq k place)
 
-pub sectors_on : (m m' : Machine) (disk : Disk) (port : ℕ) → ((k b : ℕ) → b < 512 → m'.disks (port_at port) k b ≡ m.disks (port_at port) k b) → SameSectors m disk port → SameSectors m' disk port
+pub sectors_on : (m m' : Machine) (disk : Disk) (port : ℕ) → ((k b : ℕ) → b < 512 → m'.disk_bytes (port_at port) k b ≡ m.disk_bytes (port_at port) k b) → SameSectors m disk port → SameSectors m' disk port
 sectors_on m m' disk port same s = record { told_sectors = s.told_sectors; disk_tells = s.disk_tells; bytes_are_same = λ k b kl bl. s.bytes_are_same k b kl bl ∙ sym (same k b bl) }
 
 -- What a step of one slot has to show.
@@ -38,38 +38,38 @@ pub record Acts (Except : ℕ → Type 0) (uses : SlotStates) (m m' : Machine) (
   pub received_at : new.bases.fb ≡ (d.port port).bases.fb
   pub present : new.present ≡ (d.port port).present
   pub name : new.disk.name ≡ (d.port port).disk.name
-  pub size : new.disk.size ≡ (d.port port).disk.size
+  pub size : new.disk.sector_count ≡ (d.port port).disk.sector_count
   pub sectors : d.telling ≡ true → SameSectors m' new.disk port
   pub other_sectors : d.telling ≡ true → (q : ℕ) → q ≢ port → SameSectors m' (d.port q).disk q
-  pub lasting : d.telling ≡ true → HasLasting m' later new port
-  pub other_lasting : d.telling ≡ true → (q : ℕ) → q ≢ port → HasLasting m' later (d.port q) q
-  pub memory : SameMemory m' memory'
+  pub lasting : d.telling ≡ true → HoldsReplugCandidates m' later new port
+  pub other_lasting : d.telling ≡ true → (q : ℕ) → q ≢ port → HoldsReplugCandidates m' later (d.port q) q
+  pub memory : SameClientFrames m' memory'
 
 pub acted : (Except : ℕ → Type 0) (uses : SlotStates) (m m' : Machine) (d : Device) (a : StateRelation uses m d) (memory' : ℕ → ℕ) (later : List Entry) (port slot : ℕ) (new : DevicePort) →
     Acts Except uses m m' d memory' later port slot new → StateRelation uses m' (record d { memory = memory'; port = changed d.port port new; tape = later })
 acted Except uses m m' d a memory' later port slot new x = record {
   relates_slots = slots_after Except uses m m' d a memory' later x.fixed port slot new x.others x.only x.moves x.here;
-  serve_apart = a.serve_apart;
+  serve_distinct_requests = a.serve_distinct_requests;
   received_areas_are_placed = changed_at d.port port new (λ q p. p.fre ≡ true → HasReceivedArea p q)
-      (λ f. let r = a.received_areas_are_placed port (sym x.fre ∙ f) in record { below = r.below; area = x.received_at ∙ r.area }) (λ q _. a.received_areas_are_placed q);
+      (λ f. let r = a.received_areas_are_placed port (sym x.fre ∙ f) in record { port_is_below_4 = r.port_is_below_4; area_is_in_place = x.received_at ∙ r.area_is_in_place }) (λ q _. a.received_areas_are_placed q);
   disks_are_same = changed_at d.port port new (λ q p. IsDiskOf m' p q)
       (record {
         present = x.goes.present (port_at port) ∙ (a.disks_are_same port).present ∙ sym x.present;
         id = x.goes.ids (port_at port) ∙ (a.disks_are_same port).id ∙ sym x.name;
-        size = x.goes.sizes (port_at port) ∙ (a.disks_are_same port).size ∙ sym x.size;
+        sector_count = x.goes.sizes (port_at port) ∙ (a.disks_are_same port).sector_count ∙ sym x.size;
       })
       (λ q _. record {
         present = x.goes.present (port_at q) ∙ (a.disks_are_same q).present;
         id = x.goes.ids (port_at q) ∙ (a.disks_are_same q).id;
-        size = x.goes.sizes (port_at q) ∙ (a.disks_are_same q).size;
+        sector_count = x.goes.sizes (port_at q) ∙ (a.disks_are_same q).sector_count;
       });
-  memory_is_same = x.memory;
+  client_frames_are_same = x.memory;
   sectors_are_same = λ t. changed_at d.port port new (λ q p. SameSectors m' p.disk q) (x.sectors t) (x.other_sectors t);
-  has_lasting = λ t. changed_at d.port port new (λ q p. HasLasting m' later p q) (x.lasting t) (x.other_lasting t);
+  holds_replug_candidates = λ t. changed_at d.port port new (λ q p. HoldsReplugCandidates m' later p q) (x.lasting t) (x.other_lasting t);
 }
 
 -- another slot's request is another
-pub other_id : (uses : SlotStates) (port slot : ℕ) (id : RequestId) (port' slot' : ℕ) (id' : RequestId) → ServeApart uses →
+pub other_id : (uses : SlotStates) (port slot : ℕ) (id : RequestId) (port' slot' : ℕ) (id' : RequestId) → ServeDistinctRequests uses →
     uses port slot ≡ Serves id → uses port' slot' ≡ Serves id' → (port' ≡ port → slot' ≡ slot → ⊥) → id' ≢ id
 other_id uses port slot id port' slot' id' apart u v ne e =
     let r = apart port' slot' port slot id (v ∙ ap Serves e) u in ne r.0 r.1
@@ -77,9 +77,9 @@ other_id uses port slot id port' slot' id' apart u v ne e =
 pub others_move : (uses : SlotStates) (m m' : Machine) (d : Device) (a : StateRelation uses m d) (port slot : ℕ) (id : RequestId) → uses port slot ≡ Serves id → Goes m m' id →
     (port' slot' : ℕ) (id' : RequestId) → uses port' slot' ≡ Serves id' → (port' ≡ port → slot' ≡ slot → ⊥) → (e : Pending) → e.request.id ≡ id' → MayStillMove m e → MayStillMove m' e
 others_move uses m m' d a port slot id u goes port' slot' id' v ne e is r =
-    goes.moves e (λ same. other_id uses port slot id port' slot' id' a.serve_apart u v ne (sym is ∙ same)) r
+    goes.moves e (λ same. other_id uses port slot id port' slot' id' a.serve_distinct_requests u v ne (sym is ∙ same)) r
 
 -- bytes below the clients' frames
-pub memory_low : (m : Machine) (memory : ℕ → ℕ) (at : ℕ) (bytes : List ℕ) → at + length bytes ≤ DRIVER_BYTES → SameMemory m memory → SameMemory m (patched memory at bytes)
+pub memory_low : (m : Machine) (memory : ℕ → ℕ) (at : ℕ) (bytes : List ℕ) → at + length bytes ≤ DRIVER_BYTES → SameClientFrames m memory → SameClientFrames m (patched memory at bytes)
 memory_low m memory at bytes low same frame b from small =
     patched_apart memory at bytes (4096 * frame.0 + b) (λ l h. omega (arith, low, l, h, from)) ∙ same frame b from small

@@ -16,7 +16,7 @@ AreClients m = (e : Pending) → MayStillMove m e → (i : ℕ) → i < length e
 clients_at : (start : Machine) (past : List Step) → IsInitial start → IsLegal start past → AreClients (after start past)
 clients_at start past s legal e r i lt =
     let owner = (law_limits_hold start past s legal).frames_are_owned e (runs_lives (after start past) e r) i lt in
-    (s.owned (frame_at e.request.asked.frames.items i) e.request.asked.client (sym (owners_stay start past (frame_at e.request.asked.frames.items i)) ∙ owner)).2
+    (s.owned_frames_are_clients (frame_at e.request.asked.frames.items i) e.request.asked.client (sym (owners_stay start past (frame_at e.request.asked.frames.items i)) ∙ owner)).2
 
 pub client_frame : (m : Machine) → IsReachable m → AreClients m
 client_frame m r = subst AreClients (sym r.leads_to_machine) (clients_at r.initial_machine r.steps_since r.is_initial r.is_legal)

@@ -11,13 +11,13 @@ use Rattle.block_machine.specs.declared.due.Unanswered.{Unanswered}
 use Rattle.block_machine.specs.DueRequests.{IsInOrder, is_plain, issued_count}
 use Rattle.block_machine.specs.Histories.{IsReachable}
 use Rattle.block_machine.specs.State.{Pending, Machine, unanswered}
-use Rattle.block_machine.specs.Steps.{Issue, IsEnabled, NoneQuarantined}
+use Rattle.block_machine.specs.Steps.{Issue, IsEnabled, NoneKept}
 use Rattle.block_machine.proofs.Counting.{count_cons, count_eq, count_none, count_least}
 use Rattle.block_machine.proofs.Limits.{law_book_in_order, finds_slot}
 use Rattle.block_machine.proofs.Members.{map_in, into_map, contains_none}
 use Rattle.block_machine.proofs.Order.{In, Ordered, in_from, from_in, ordered_from}
 use Rattle.refinement.specs.Slots.{SlotState, Free, Own, Serves, SlotStates, is_serving, serving_count, ServesRequest, ServesOwn, RelatesSlot, Armed}
-use Rattle.refinement.specs.Relation.{StateRelation, HaveSlots, port_at}
+use Rattle.refinement.specs.Relation.{StateRelation, HaveSlotsUnlessParked, port_at}
 use Rattle.refinement.proofs.relation.OtherSlots.{true_false}
 
 -- one more is counted, where the tests differ at one member alone
@@ -90,7 +90,7 @@ unserving uses port (suc n) lt = go (is_serving (uses port n)) refl (unserving u
 -- ---- requests that are issued, by slot
 
 -- where none is kept on the port, a slot that serves a request serves one that is issued in the book
-pub issued_one : (uses : SlotStates) (m : Machine) (d : Device) → StateRelation uses m d → (port : Port) → NoneQuarantined m port → (slot : ℕ) (id : RequestId) → uses port.0 slot ≡ Serves id →
+pub issued_one : (uses : SlotStates) (m : Machine) (d : Device) → StateRelation uses m d → (port : Port) → NoneKept m port → (slot : ℕ) (id : RequestId) → uses port.0 slot ≡ Serves id →
     (e : Pending) × Contains m.book e × (e.issued ≡ true) × (e.request.id ≡ id) × (e.request.port ≡ port)
 issued_one uses m d a port none slot id u =
     let h : ServesRequest m d.memory (d.port port.0) port.0 slot id = subst (λ (v : SlotState). RelatesSlot m d.memory d.tape (d.port port.0) port.0 slot v) u (a.relates_slots port.0 slot) in
@@ -100,7 +100,7 @@ issued_one uses m d a port none slot id u =
     (λ (r : Contains m.kept h.pending). absurd (none h.pending r here))
     h.may_still_move
 
-module _ (uses : SlotStates) (m : Machine) (d : Device) (reached : IsReachable m) (a : StateRelation uses m d) (port : Port) (none : NoneQuarantined m port) where
+module _ (uses : SlotStates) (m : Machine) (d : Device) (reached : IsReachable m) (a : StateRelation uses m d) (port : Port) (none : NoneKept m port) where
   abbrev book : List Unanswered
   book = map unanswered m.book
 
@@ -128,7 +128,7 @@ module _ (uses : SlotStates) (m : Machine) (d : Device) (reached : IsReachable m
   not_below : (n : ℕ) (id : RequestId) → uses port.0 n ≡ Serves id → some_serves uses port.0 n id.0 ≡ false
   not_below n id u = false_from_ne_true (some_serves uses port.0 n id.0) (λ t.
       let r = some_found uses port.0 n id.0 t in
-      let same : r.0 ≡ n = (a.serve_apart port.0 r.0 port.0 n id (r.2.1 ∙ ap Serves (ap (λ (n : ℕ). record { 0 = n }) r.2.2)) u).1 in
+      let same : r.0 ≡ n = (a.serve_distinct_requests port.0 r.0 port.0 n id (r.2.1 ∙ ap Serves (ap (λ (n : ℕ). record { 0 = n }) r.2.2)) u).1 in
       let lt = r.1 in
       omega (arith, lt, same))
 
@@ -163,7 +163,7 @@ module _ (uses : SlotStates) (m : Machine) (d : Device) (reached : IsReachable m
       let less : count_by (is_slotted n) book ≤ count_by is_issued book = count_least (is_slotted n) is_issued book (λ y k t. (and_parts (is_issued y) (some_serves uses port.0 n y.id.0) t).0) in
       omega (arith, is, less)
 
-  pub serving_all : (n : ℕ) → HaveSlots uses m port.0 [] → ((slot : ℕ) (id : RequestId) → uses port.0 slot ≡ Serves id → slot < n) → serving_count uses port.0 n ≡ issued_count book port
+  pub serving_all : (n : ℕ) → HaveSlotsUnlessParked uses m port.0 [] → ((slot : ℕ) (id : RequestId) → uses port.0 slot ≡ Serves id → slot < n) → serving_count uses port.0 n ≡ issued_count book port
   serving_all n have below = sym (counted n) ∙ count_eq (is_slotted n) is_issued book (λ y k. same y (map_in unanswered m.book y (from_in y book k)) (is_issued y) refl)
     where
       slotted : (e : Pending) → Contains m.book e → is_issued (unanswered e) ≡ true → some_serves uses port.0 n e.request.id.0 ≡ true
@@ -206,5 +206,5 @@ module _ (uses : SlotStates) (m : Machine) (d : Device) (reached : IsReachable m
       let r = free_below 1 (let zero_is = (finds_slot mode (map unanswered m.book) (unanswered e) may.1).0 plain in omega (arith, zero_is)) in
       ap (λ (k : ℕ). uses e.request.port.0 k) (let lt = r.1 in omega (arith, lt)) ∙ r.2
 
-  pub queued_finds_free : is_plain mode e.request.asked.op ≡ false → (slot : ℕ) × (slot < mode.usable) × (uses e.request.port.0 slot ≡ Free)
-  queued_finds_free queued = free_below mode.usable ((finds_slot mode (map unanswered m.book) (unanswered e) may.1).1 queued)
+  pub queued_finds_free : is_plain mode e.request.asked.op ≡ false → (slot : ℕ) × (slot < mode.usable_slots) × (uses e.request.port.0 slot ≡ Free)
+  queued_finds_free queued = free_below mode.usable_slots ((finds_slot mode (map unanswered m.book) (unanswered e) may.1).1 queued)

@@ -18,8 +18,8 @@ use Rattle.adapter.proofs.MemoryLemmas.{bytes_same}
 use Rattle.adapter.proofs.Changed.{changed_same, changed_other}
 use Rattle.block_machine.specs.State.{Accepted, Pending, Machine}
 use Rattle.block_machine.specs.Steps.{MayStillMove}
-use Rattle.refinement.specs.MemoryLayout.{list_of, scratch_of, IsTableByte, IsScratch}
-use Rattle.refinement.specs.Slots.{SlotState, Free, Own, Serves, SlotStates, SlotDecodesTo, HasListInPlace, MeansRange, HasTrimBlock, AwaitsFetch, TouchedAsMoved, IsTakenFor, IsInSomeStage, IsMove, PageStandsInScratch, OwnAwaitsFetch, OwnIsTaken, OwnIsOver, IsOver, RelatesSlot, Armed}
+use Rattle.refinement.specs.MemoryLayout.{command_list_address, scratch_frame_address, IsHeaderOrTableByte, IsScratchByte}
+use Rattle.refinement.specs.Slots.{SlotState, Free, Own, Serves, SlotStates, SlotDecodesTo, HasListInPlace, MeansRange, HasBlockIfTrim, AwaitsFetch, TouchedAsMoved, IsTakenFor, IsInSomeStage, IsMove, PageStandsInScratch, OwnAwaitsFetch, OwnIsTaken, OwnIsOver, IsOver, RelatesSlot, Armed}
 use Rattle.refinement.specs.Relation.{StateRelation}
 
 -- a port as one slot sees it
@@ -37,10 +37,10 @@ SameSlot-refl p slot = record { issued = refl; sact = refl; taken = refl; st = r
 
 -- the bytes that a slot rests on
 abbrev pub SameTable : (ℕ → ℕ) → (ℕ → ℕ) → ℕ → ℕ → Type 0
-SameTable memory new port slot = (a : ℕ) → IsTableByte port slot a → new a ≡ memory a
+SameTable memory new port slot = (a : ℕ) → IsHeaderOrTableByte port slot a → new a ≡ memory a
 
 abbrev pub SameScratch : (ℕ → ℕ) → (ℕ → ℕ) → ℕ → Type 0
-SameScratch memory new port = (a : ℕ) → IsScratch port a → new a ≡ memory a
+SameScratch memory new port = (a : ℕ) → IsScratchByte port a → new a ≡ memory a
 
 -- the tape gained no move of the port by such a command
 pub record GainsNone (tape new : List Entry) (port : ℕ) (o : Operation) : Type 0 where
@@ -51,7 +51,7 @@ pub record GainsNone (tape new : List Entry) (port : ℕ) (o : Operation) : Type
 pub GainsNone-refl : (tape : List Entry) (port : ℕ) (o : Operation) → GainsNone tape tape port o
 GainsNone-refl tape port o = record { new_entries = []; is = sym (append-nil tape); none = λ k e small. absurd (omega (arith, small)) }
 
-pub told_on : (memory new : ℕ → ℕ) (list list' port slot : ℕ) (c : Meaning) (places : List ℕ) → list ≡ list_of port → list' ≡ list → SameTable memory new port slot →
+pub told_on : (memory new : ℕ → ℕ) (list list' port slot : ℕ) (c : Meaning) (places : List ℕ) → list ≡ command_list_address port → list' ≡ list → SameTable memory new port slot →
     SlotDecodesTo memory list port slot c places → SlotDecodesTo new list' port slot c places
 unfolding says_same
 told_on memory new list list' port slot c places at same tables t =
@@ -64,10 +64,10 @@ told_on memory new list list' port slot c places at same tables t =
       prds_are_few = t.prds_are_few;
     })
 
-scratch_same : (memory new : ℕ → ℕ) (port : ℕ) → SameScratch memory new port → bytes_at new (scratch_of port) 512 ≡ bytes_at memory (scratch_of port) 512
-scratch_same memory new port same = bytes_same memory new (scratch_of port) 512 (λ a low high. same a (low, omega (arith, high)))
+scratch_same : (memory new : ℕ → ℕ) (port : ℕ) → SameScratch memory new port → bytes_at new (scratch_frame_address port) 512 ≡ bytes_at memory (scratch_frame_address port) 512
+scratch_same memory new port same = bytes_same memory new (scratch_frame_address port) 512 (λ a low high. same a (low, omega (arith, high)))
 
-pub block_on : (op : Op) (memory new : ℕ → ℕ) (port : ℕ) (r : Accepted) → (op ≡ Trim → SameScratch memory new port) → HasTrimBlock op memory port r → HasTrimBlock op new port r
+pub block_on : (op : Op) (memory new : ℕ → ℕ) (port : ℕ) (r : Accepted) → (op ≡ Trim → SameScratch memory new port) → HasBlockIfTrim op memory port r → HasBlockIfTrim op new port r
 block_on Trim memory new port r same h = subst (λ (bytes : List ℕ). MeansRange bytes r) (sym (scratch_same memory new port (same refl))) h
 block_on Read memory new port r same h = tt
 block_on Write memory new port r same h = tt
@@ -77,7 +77,7 @@ progress_on : (op : Op) (memory new : ℕ → ℕ) (port : ℕ) (e : Pending) (t
 progress_on Trim memory new port e t same h = (
   h.0,
   ⊎_elim
-      (λ (x : (t.moved ≡ 0) × (t.cleared ≡ 0) × MeansRange (bytes_at memory (scratch_of port) 512) e.request).
+      (λ (x : (t.moved ≡ 0) × (t.cleared ≡ 0) × MeansRange (bytes_at memory (scratch_frame_address port) 512) e.request).
       inl (x.0, x.1, subst (λ (bytes : List ℕ). MeansRange bytes e.request) (sym (scratch_same memory new port (same refl))) x.2))
       (λ (x : (t.moved ≡ 1) × MeansRange t.block e.request). inr x)
       h.1,
@@ -95,8 +95,8 @@ brought_on memory new tape later port o since then_since same gains is b = recor
   later = b.later ++ gains.new_entries;
   tape_is_split = gains.is ∙ ap (λ (l : List Entry). l ++ gains.new_entries) b.tape_is_split ∙ append_assoc b.before (entry.Move b.move ∷ b.later) gains.new_entries;
   is_move = b.is_move;
-  last = All-append (λ e. IsMove port o e → ⊥) b.later gains.new_entries b.last gains.none;
-  bytes = scratch_same memory new port same ∙ b.bytes;
+  no_later_move = All-append (λ e. IsMove port o e → ⊥) b.later gains.new_entries b.no_later_move gains.none;
+  scratch_holds_page = scratch_same memory new port same ∙ b.scratch_holds_page;
 }
 
 -- a length that the tape had stays one that it had
@@ -107,7 +107,7 @@ pub placed_on : (p new : DevicePort) (port slot : ℕ) → new.bases.clb ≡ p.b
 placed_on p new port slot same h = record { port_below = h.port_below; slot_below = h.slot_below; list = same ∙ h.list }
 
 pub over_on : (p new : DevicePort) (slot : ℕ) → SameSlot p new slot → IsOver p slot → IsOver new slot
-over_on p new slot same h = record { issued = same.issued ∙ h.issued; free = same.taken ∙ h.free }
+over_on p new slot same h = record { is_not_issued = same.issued ∙ h.is_not_issued; is_not_taken = same.taken ∙ h.is_not_taken }
 
 -- a request's command stays where it is
 module _ (memory new_memory : ℕ → ℕ) (p new : DevicePort) (port slot : ℕ) (same : SameSlot p new slot) where
@@ -115,9 +115,9 @@ module _ (memory new_memory : ℕ → ℕ) (p new : DevicePort) (port slot : ℕ
   waits_on e c scratch w = record {
     started = same.st ∙ w.started;
     issued = same.issued ∙ w.issued;
-    free = same.taken ∙ w.free;
+    is_not_taken = same.taken ∙ w.is_not_taken;
     sact = same.sact ∙ w.sact;
-    block = block_on e.request.asked.op memory new_memory port e.request scratch w.block;
+    has_block_if_trim = block_on e.request.asked.op memory new_memory port e.request scratch w.has_block_if_trim;
     untouched = w.untouched;
     unended = w.unended;
   }
@@ -129,7 +129,7 @@ module _ (memory new_memory : ℕ → ℕ) (p new : DevicePort) (port slot : ℕ
     meaning = w.meaning;
     places_are = w.places_are;
     running = same.cr ∙ w.running;
-    issued = same.issued ∙ w.issued ∙ ap (λ (st : Bool). st && not (is_queued c.operation)) (sym same.st);
+    ci_is_set_while_plain = same.issued ∙ w.ci_is_set_while_plain ∙ ap (λ (st : Bool). st && not (is_queued c.operation)) (sym same.st);
     sact = same.sact ∙ w.sact ∙ ap (λ (st : Bool). st && is_queued c.operation) (sym same.st);
     progress = progress_on e.request.asked.op memory new_memory port e w.command scratch w.progress;
     unended = w.unended;
@@ -139,17 +139,17 @@ module _ (memory new_memory : ℕ → ℕ) (p new : DevicePort) (port slot : ℕ
   stage_on e c places scratch (inl w) = inl (waits_on e c scratch w)
   stage_on e c places scratch (inr (inl t)) = inr (inl (taken_on e c places scratch t))
   stage_on e c places scratch (inr (inr (inl x))) = inr (inr (inl (record {
-    issued = same.issued ∙ x.issued;
-    sact = same.sact ∙ x.sact;
-    free = same.taken ∙ x.free;
+    is_not_issued = same.issued ∙ x.is_not_issued;
+    sact_is_clear = same.sact ∙ x.sact_is_clear;
+    is_not_taken = same.taken ∙ x.is_not_taken;
     ended = x.ended;
     touched = x.touched;
   })))
   stage_on e c places scratch (inr (inr (inr x))) = inr (inr (inr (record {
-    stopped = same.st ∙ x.stopped;
-    issued = same.issued ∙ x.issued;
-    sact = same.sact ∙ x.sact;
-    free = same.taken ∙ x.free;
+    st_is_clear = same.st ∙ x.st_is_clear;
+    is_not_issued = same.issued ∙ x.is_not_issued;
+    sact_is_clear = same.sact ∙ x.sact_is_clear;
+    is_not_taken = same.taken ∙ x.is_not_taken;
     unended = x.unended;
   })))
 
@@ -157,7 +157,7 @@ module _ (memory new_memory : ℕ → ℕ) (p new : DevicePort) (port slot : ℕ
   pub own_on : (tape later : List Entry) (c : Meaning) → SameScratch memory new_memory port → GainsNone tape later port c.operation →
       OwnAwaitsFetch p slot ⊎ (OwnIsTaken memory tape p port slot c ⊎ OwnIsOver memory tape p port slot c)
       → OwnAwaitsFetch new slot ⊎ (OwnIsTaken new_memory later new port slot c ⊎ OwnIsOver new_memory later new port slot c)
-  own_on tape later c scratch gains (inl w) = inl (record { started = same.st ∙ w.started; issued = same.issued ∙ w.issued; free = same.taken ∙ w.free })
+  own_on tape later c scratch gains (inl w) = inl (record { started = same.st ∙ w.started; issued = same.issued ∙ w.issued; is_not_taken = same.taken ∙ w.is_not_taken })
   own_on tape later c scratch gains (inr (inl t)) = inr (inl (record {
     command = t.command;
     taken = same.taken ∙ t.taken;
@@ -190,15 +190,15 @@ pub served_on : (m m' : Machine) (memory new_memory : ℕ → ℕ) (tape later :
     ((o : Operation) → u ≡ Own o → slot ≡ 0 → GainsNone tape later port o) →
     ((id : RequestId) → u ≡ Serves id → (e : Pending) → e.request.id ≡ id → MayStillMove m e → MayStillMove m' e) →
     RelatesSlot m memory tape p port slot u → RelatesSlot m' new_memory later new port slot u
-served_on m m' memory new_memory tape later p new port slot Free same tables scratch gains moves h = record { issued = same.issued ∙ h.issued; free = same.taken ∙ h.free; unarmed = same.sact ∙ h.unarmed }
-served_on m m' memory new_memory tape later p new port slot Armed same tables scratch gains moves h = record { issued = same.issued ∙ h.issued; free = same.taken ∙ h.free; armed = same.sact ∙ (h.armed ∙ sym same.st) }
+served_on m m' memory new_memory tape later p new port slot Free same tables scratch gains moves h = record { is_not_issued = same.issued ∙ h.is_not_issued; is_not_taken = same.taken ∙ h.is_not_taken; unarmed = same.sact ∙ h.unarmed }
+served_on m m' memory new_memory tape later p new port slot Armed same tables scratch gains moves h = record { is_not_issued = same.issued ∙ h.is_not_issued; is_not_taken = same.taken ∙ h.is_not_taken; armed = same.sact ∙ (h.armed ∙ sym same.st) }
 served_on m m' memory new_memory tape later p new port slot (Own o) same tables scratch gains moves h = record {
-  own = h.own;
+  operation_is_drivers_own = h.operation_is_drivers_own;
   slot_is_0 = h.slot_is_0;
   list_is_in_place = placed_on p new port slot same.list h.list_is_in_place;
   command = h.command;
   operation_is = h.operation_is;
-  slot_decodes_to = told_on memory new_memory p.bases.clb new.bases.clb port slot h.command (scratch_of port ∷ []) h.list_is_in_place.list same.list (tables own_free h.list_is_in_place.port_below h.list_is_in_place.slot_below) h.slot_decodes_to;
+  slot_decodes_to = told_on memory new_memory p.bases.clb new.bases.clb port slot h.command (scratch_frame_address port ∷ []) h.list_is_in_place.list same.list (tables own_free h.list_is_in_place.port_below h.list_is_in_place.slot_below) h.slot_decodes_to;
   unqueued = same.sact ∙ h.unqueued;
   st_set_is_on_tape = (let g = gains o refl h.slot_is_0 in
       subst (λ (l : List Entry). new.notes.st_set_at ≤ length l) (sym g.is)

@@ -21,10 +21,10 @@ use Rattle.block_machine.specs.Steps.{Touch, MayStillMove, after_step, put_secto
 use Rattle.block_machine.specs.Expected as left
 use Rattle.block_machine.specs.Expected.{AllStepsFaithful}
 use Rattle.block_machine.specs.Events.{AllEnabled}
-use Rattle.refinement.specs.MemoryLayout.{scratch_of}
-use Rattle.refinement.specs.Slots.{SlotState, Free, Own, Serves, SlotStates, MeansRequest, MeansRange, AreRequestPlaces, TouchedUpTo, TouchedAsMoved, ServesRequest, OwnAwaitsFetch, OwnIsTaken, OwnIsOver, RelatesSlot, op_of, Armed}
+use Rattle.refinement.specs.MemoryLayout.{scratch_frame_address}
+use Rattle.refinement.specs.Slots.{SlotState, Free, Own, Serves, SlotStates, MeansRequest, MeansRange, AreRequestPlaces, TouchedUpTo, TouchedAsMoved, ServesRequest, OwnAwaitsFetch, OwnIsTaken, OwnIsOver, RelatesSlot, client_operation_of, Armed}
 use Rattle.refinement.specs.Relation.{StateRelation, port_at, SameSectors}
-use Rattle.refinement.specs.Tape.{PutsInDisks, touched_by, touch_steps}
+use Rattle.refinement.specs.Tape.{PutsInDisks, with_sectors_touched, touch_steps}
 use Rattle.refinement.specs.Simulation.{SimulatesSteps}
 use Rattle.refinement.proofs.relation.SlotRelation.{NoPort, placed_on}
 use Rattle.refinement.proofs.relation.TouchesAndEnds.{Goes, Goes-refl, Goes-trans, touch_goes, touch_moves}
@@ -87,19 +87,19 @@ cut_of first total c start n some e = ⊎_elim inside past (cases_lt c total)
 
 -- ---- the touches, one after another
 
-touched_request : (e : Pending) (from n : ℕ) → (touched_by e from n).request ≡ e.request
+touched_request : (e : Pending) (from n : ℕ) → (with_sectors_touched e from n).request ≡ e.request
 touched_request e from zero = refl
 touched_request e from (suc n) = touched_request e from n
 
-touched_ended : (e : Pending) (from n : ℕ) → (touched_by e from n).ended ≡ e.ended
+touched_ended : (e : Pending) (from n : ℕ) → (with_sectors_touched e from n).ended ≡ e.ended
 touched_ended e from zero = refl
 touched_ended e from (suc n) = touched_ended e from n
 
-touched_upto : (e : Pending) (from n : ℕ) → TouchedUpTo e.touched from → TouchedUpTo (touched_by e from n).touched (from + n)
+touched_upto : (e : Pending) (from n : ℕ) → TouchedUpTo e.touched from → TouchedUpTo (with_sectors_touched e from n).touched (from + n)
 touched_upto e from zero h = subst (λ (k : ℕ). TouchedUpTo e.touched k) (let q : from ≡ from + 0 = omega arith in q) h
 touched_upto e from (suc n) h =
-    subst (λ (k : ℕ). TouchedUpTo (touched_by e from (suc n)).touched k) (let q : from + n + 1 ≡ from + suc n = omega arith in q)
-    (upto_more (touched_by e from n).touched (from + n) (touched_upto e from n h))
+    subst (λ (k : ℕ). TouchedUpTo (with_sectors_touched e from (suc n)).touched k) (let q : from + n + 1 ≡ from + suc n = omega arith in q)
+    (upto_more (with_sectors_touched e from n).touched (from + n) (touched_upto e from n h))
 
 -- touches put no disk in
 touches_put : (e : Pending) (from n q : ℕ) → PutsInDisks q [] (touch_steps e from n)
@@ -111,10 +111,10 @@ record Swept (m : Machine) (e : Pending) (from n : ℕ) : Type 0 where
   may : AllEnabled m (touch_steps e from n)
   told : AllStepsFaithful m (touch_steps e from n)
   goes : Goes m (left.after m (touch_steps e from n)) e.request.id
-  moves : MayStillMove (left.after m (touch_steps e from n)) (touched_by e from n)
+  moves : MayStillMove (left.after m (touch_steps e from n)) (with_sectors_touched e from n)
   memory : (left.after m (touch_steps e from n)).memory ≡ m.memory
-  zeros : (k b : ℕ) → e.request.asked.first.0 + from ≤ k → k < e.request.asked.first.0 + from + n → (left.after m (touch_steps e from n)).disks e.request.port k b ≡ 0
-  others : (q : Port) (k b : ℕ) → (q.0 ≡ e.request.port.0 → e.request.asked.first.0 + from ≤ k → k < e.request.asked.first.0 + from + n → ⊥) → (left.after m (touch_steps e from n)).disks q k b ≡ m.disks q k b
+  zeros : (k b : ℕ) → e.request.asked.first.0 + from ≤ k → k < e.request.asked.first.0 + from + n → (left.after m (touch_steps e from n)).disk_bytes e.request.port k b ≡ 0
+  others : (q : Port) (k b : ℕ) → (q.0 ≡ e.request.port.0 → e.request.asked.first.0 + from ≤ k → k < e.request.asked.first.0 + from + n → ⊥) → (left.after m (touch_steps e from n)).disk_bytes q k b ≡ m.disk_bytes q k b
 
 trim_is_no_read : {A : Type 0} → Trim ≡ Read → A
 trim_is_no_read e = absurd cc
@@ -140,21 +140,21 @@ swept m e from (suc n) op r there fits inside =
     room : e.request.asked.first.0 + from + suc n ≤ m.sizes e.request.port
     room = ⊎_elim (λ (x : e.request.asked.first.0 + from + suc n ≤ m.sizes e.request.port). x) (λ (z : suc n ≡ 0). absurd (omega (arith, z))) inside
 
-    request : (touched_by e from n).request ≡ e.request
+    request : (with_sectors_touched e from n).request ≡ e.request
     request = touched_request e from n
 
-    is_trim : (touched_by e from n).request.asked.op ≡ Trim
+    is_trim : (with_sectors_touched e from n).request.asked.op ≡ Trim
     is_trim = ap (λ (j : Accepted). j.asked.op) request ∙ op
 
-    disks_now : (q : Port) (k b : ℕ) → (after_step (left.after m (touch_steps e from n)) (Touch (touched_by e from n) (from + n) (λ b. 0))).disks q k b
-        ≡ put_sector e.request.port (e.request.asked.first.0 + (from + n)) (λ _. 0) (left.after m (touch_steps e from n)).disks q k b
+    disks_now : (q : Port) (k b : ℕ) → (after_step (left.after m (touch_steps e from n)) (Touch (with_sectors_touched e from n) (from + n) (λ b. 0))).disk_bytes q k b
+        ≡ put_sector e.request.port (e.request.asked.first.0 + (from + n)) (λ _. 0) (left.after m (touch_steps e from n)).disk_bytes q k b
     disks_now q k b =
-        ap (λ (f : Port → state.DiskBytes). f q k b) (cond-true (changes_sectors (touched_by e from n).request.asked.op) (put_sector (touched_by e from n).request.port (sector_of (touched_by e from n).request (from + n)) (block_written (touched_by e from n).request.asked.op (touched_by e from n).request.held_blocks (from + n)) (left.after m (touch_steps e from n)).disks) (left.after m (touch_steps e from n)).disks (ap changes_sectors is_trim))
-        ∙ ap (λ (o : Op). put_sector (touched_by e from n).request.port (sector_of (touched_by e from n).request (from + n)) (block_written o (touched_by e from n).request.held_blocks (from + n)) (left.after m (touch_steps e from n)).disks q k b) is_trim
-        ∙ ap (λ (j : Accepted). put_sector j.port (j.asked.first.0 + (from + n)) (λ _. 0) (left.after m (touch_steps e from n)).disks q k b) request
+        ap (λ (f : Port → state.DiskBytes). f q k b) (cond-true (changes_sectors (with_sectors_touched e from n).request.asked.op) (put_sector (with_sectors_touched e from n).request.port (sector_of (with_sectors_touched e from n).request (from + n)) (block_written (with_sectors_touched e from n).request.asked.op (with_sectors_touched e from n).request.blocks_at_acceptance (from + n)) (left.after m (touch_steps e from n)).disk_bytes) (left.after m (touch_steps e from n)).disk_bytes (ap changes_sectors is_trim))
+        ∙ ap (λ (o : Op). put_sector (with_sectors_touched e from n).request.port (sector_of (with_sectors_touched e from n).request (from + n)) (block_written o (with_sectors_touched e from n).request.blocks_at_acceptance (from + n)) (left.after m (touch_steps e from n)).disk_bytes q k b) is_trim
+        ∙ ap (λ (j : Accepted). put_sector j.port (j.asked.first.0 + (from + n)) (λ _. 0) (left.after m (touch_steps e from n)).disk_bytes q k b) request
 
-    memory_now : (after_step (left.after m (touch_steps e from n)) (Touch (touched_by e from n) (from + n) (λ b. 0))).memory ≡ (left.after m (touch_steps e from n)).memory
-    memory_now = cond-false (is_reader (touched_by e from n).request.asked.op) (put_bytes (frame_at (touched_by e from n).request.asked.frames.items ((from + n) / 8)) (512 * ((from + n) % 8)) 512 (λ b. 0) (left.after m (touch_steps e from n)).memory) (left.after m (touch_steps e from n)).memory (ap is_reader is_trim)
+    memory_now : (after_step (left.after m (touch_steps e from n)) (Touch (with_sectors_touched e from n) (from + n) (λ b. 0))).memory ≡ (left.after m (touch_steps e from n)).memory
+    memory_now = cond-false (is_reader (with_sectors_touched e from n).request.asked.op) (put_bytes (frame_at (with_sectors_touched e from n).request.asked.frames.items ((from + n) / 8)) (512 * ((from + n) % 8)) 512 (λ b. 0) (left.after m (touch_steps e from n)).memory) (left.after m (touch_steps e from n)).memory (ap is_reader is_trim)
 
     more : Swept m e from n → Swept m e from (suc n)
     more old = record {
@@ -164,25 +164,25 @@ swept m e from (suc n) op r there fits inside =
           old.moves,
           omega (arith, fits, ap (λ (j : Accepted). j.asked.count) request),
           ap (λ (j : Accepted). (left.after m (touch_steps e from n)).present j.port) request ∙ old.goes.present e.request.port ∙ there,
-          (let s : (left.after m (touch_steps e from n)).sizes (touched_by e from n).request.port ≡ m.sizes e.request.port = ap (λ (j : Accepted). (left.after m (touch_steps e from n)).sizes j.port) request ∙ old.goes.sizes e.request.port in
-              let f : (touched_by e from n).request.asked.first.0 ≡ e.request.asked.first.0 = ap (λ (j : Accepted). j.asked.first.0) request in
+          (let s : (left.after m (touch_steps e from n)).sizes (with_sectors_touched e from n).request.port ≡ m.sizes e.request.port = ap (λ (j : Accepted). (left.after m (touch_steps e from n)).sizes j.port) request ∙ old.goes.sizes e.request.port in
+              let f : (with_sectors_touched e from n).request.asked.first.0 ≡ e.request.asked.first.0 = ap (λ (j : Accepted). j.asked.first.0) request in
               let l = room in omega (arith, s, f, l)),
           λ w. trim_is_no_write (sym is_trim ∙ w),
         ),
       );
       told = (old.told, λ w. trim_is_no_read (sym is_trim ∙ w));
-      goes = Goes-trans m (left.after m (touch_steps e from n)) (after_step (left.after m (touch_steps e from n)) (Touch (touched_by e from n) (from + n) (λ b. 0))) e.request.id old.goes
-          (subst (λ (j : Accepted). Goes (left.after m (touch_steps e from n)) (after_step (left.after m (touch_steps e from n)) (Touch (touched_by e from n) (from + n) (λ b. 0))) j.id) request (touch_goes (left.after m (touch_steps e from n)) (touched_by e from n) (from + n) (λ b. 0)));
-      moves = touch_moves (left.after m (touch_steps e from n)) (touched_by e from n) (from + n) (λ b. 0) old.moves;
+      goes = Goes-trans m (left.after m (touch_steps e from n)) (after_step (left.after m (touch_steps e from n)) (Touch (with_sectors_touched e from n) (from + n) (λ b. 0))) e.request.id old.goes
+          (subst (λ (j : Accepted). Goes (left.after m (touch_steps e from n)) (after_step (left.after m (touch_steps e from n)) (Touch (with_sectors_touched e from n) (from + n) (λ b. 0))) j.id) request (touch_goes (left.after m (touch_steps e from n)) (with_sectors_touched e from n) (from + n) (λ b. 0)));
+      moves = touch_moves (left.after m (touch_steps e from n)) (with_sectors_touched e from n) (from + n) (λ b. 0) old.moves;
       memory = memory_now ∙ old.memory;
       zeros = λ k b low high. disks_now e.request.port k b ∙ ⊎_elim
-          (λ (eq : k ≡ e.request.asked.first.0 + (from + n)). ap (λ (x : ℕ). put_sector e.request.port (e.request.asked.first.0 + (from + n)) (λ _. 0) (left.after m (touch_steps e from n)).disks e.request.port x b) eq
-          ∙ ap (λ (f : Block). f b) (put_there e.request.port (e.request.asked.first.0 + (from + n)) (λ _. 0) (left.after m (touch_steps e from n)).disks))
-          (λ (ne : k ≡ e.request.asked.first.0 + (from + n) → ⊥). ap (λ (f : Block). f b) (put_elsewhere e.request.port (e.request.asked.first.0 + (from + n)) (λ _. 0) (left.after m (touch_steps e from n)).disks e.request.port k (λ _ eq. ne eq))
+          (λ (eq : k ≡ e.request.asked.first.0 + (from + n)). ap (λ (x : ℕ). put_sector e.request.port (e.request.asked.first.0 + (from + n)) (λ _. 0) (left.after m (touch_steps e from n)).disk_bytes e.request.port x b) eq
+          ∙ ap (λ (f : Block). f b) (put_there e.request.port (e.request.asked.first.0 + (from + n)) (λ _. 0) (left.after m (touch_steps e from n)).disk_bytes))
+          (λ (ne : k ≡ e.request.asked.first.0 + (from + n) → ⊥). ap (λ (f : Block). f b) (put_elsewhere e.request.port (e.request.asked.first.0 + (from + n)) (λ _. 0) (left.after m (touch_steps e from n)).disk_bytes e.request.port k (λ _ eq. ne eq))
           ∙ old.zeros k b low (⊎_elim (λ (l : k < e.request.asked.first.0 + from + n). l) (λ (g : e.request.asked.first.0 + from + n ≤ k). absurd (ne (omega (arith, g, high)))) (cases_lt k (e.request.asked.first.0 + from + n))))
           (cases_eq k (e.request.asked.first.0 + (from + n)));
       others = λ q k b ne. disks_now q k b
-          ∙ ap (λ (f : Block). f b) (put_elsewhere e.request.port (e.request.asked.first.0 + (from + n)) (λ _. 0) (left.after m (touch_steps e from n)).disks q k (λ e1 e2. ne e1 (omega (arith, e2)) (omega (arith, e2))))
+          ∙ ap (λ (f : Block). f b) (put_elsewhere e.request.port (e.request.asked.first.0 + (from + n)) (λ _. 0) (left.after m (touch_steps e from n)).disk_bytes q k (λ e1 e2. ne e1 (omega (arith, e2)) (omega (arith, e2))))
           ∙ old.others q k b (λ e1 low high. ne e1 low (omega (arith, high)));
     }
 
@@ -194,7 +194,7 @@ module _ (uses : SlotStates) (m : Machine) (d : Device) (a : StateRelation uses 
     means = means_taken port slot h.pending.request h.command t.meaning h.places t.places x.meaning x.places_are h.means
 
     op : h.pending.request.asked.op ≡ Trim
-    op = let e : Some Trim ≡ Some h.pending.request.asked.op = ap op_of (sym can.trim) ∙ means.op_is in cc
+    op = let e : Some Trim ≡ Some h.pending.request.asked.op = ap client_operation_of (sym can.trim) ∙ means.op_is in cc
 
     here_port : h.pending.request.port ≡ port_at port
     here_port = ap port_at h.port_is
@@ -207,7 +207,7 @@ module _ (uses : SlotStates) (m : Machine) (d : Device) (a : StateRelation uses 
 
     range : MeansRange t.block h.pending.request
     range = ⊎_elim
-        (λ (y : (t.moved ≡ 0) × (t.cleared ≡ 0) × MeansRange (bytes_at d.memory (scratch_of port) 512) h.pending.request). absurd (let mv : t.moved ≡ length t.places = can.block_is_moved in omega (arith, one_place, mv, y.0)))
+        (λ (y : (t.moved ≡ 0) × (t.cleared ≡ 0) × MeansRange (bytes_at d.memory (scratch_frame_address port) 512) h.pending.request). absurd (let mv : t.moved ≡ length t.places = can.block_is_moved in omega (arith, one_place, mv, y.0)))
         (λ (y : (t.moved ≡ 1) × MeansRange t.block h.pending.request). y.1) was.1
 
     starts : (first ≡ h.pending.request.asked.first.0 + t.cleared) × (t.cleared + 1 ≤ h.pending.request.asked.count)
@@ -221,21 +221,21 @@ module _ (uses : SlotStates) (m : Machine) (d : Device) (a : StateRelation uses 
         (ap (λ (l : List ℕ). take count (drop t.cleared l)) (sym range) ∙ can.sectors_follow)).1)
         (cases_eq count 0)
 
-    size_is : m.sizes h.pending.request.port ≡ (d.port port).disk.size
-    size_is = ap m.sizes here_port ∙ (a.disks_are_same port).size
+    size_is : m.sizes h.pending.request.port ≡ (d.port port).disk.sector_count
+    size_is = ap m.sizes here_port ∙ (a.disks_are_same port).sector_count
 
     done : Swept m h.pending t.cleared count
     done = swept m h.pending t.cleared count op h.may_still_move (ap m.present here_port ∙ (a.disks_are_same port).present ∙ can.works.working.present) fits
-        (⊎_elim (λ (none : count ≡ 0). inr none) (λ (i : first + count ≤ (d.port port).disk.size). inl (let f = starts.0 in omega (arith, f, i, size_is))) can.inside)
+        (⊎_elim (λ (none : count ≡ 0). inr none) (λ (i : first + count ≤ (d.port port).disk.sector_count). inl (let f = starts.0 in omega (arith, f, i, size_is))) can.inside)
 
     abbrev swept_machine : Machine
     swept_machine = left.after m (touch_steps h.pending t.cleared count)
 
-    zeroed : (k b : ℕ) → first ≤ k → k < first + count → b < 512 → slice_index (replicate 512 0) b ≡ swept_machine.disks (port_at port) k b
+    zeroed : (k b : ℕ) → first ≤ k → k < first + count → b < 512 → slice_index (replicate 512 0) b ≡ swept_machine.disk_bytes (port_at port) k b
     zeroed k b low high bl =
         get_or-replicate 512 b 0 0 bl
         ∙ sym (done.zeros k b (let c = starts.0 in omega (arith, c, low)) (let c = starts.0 in omega (arith, c, high)))
-        ∙ ap (λ (p : Port). swept_machine.disks p k b) here_port
+        ∙ ap (λ (p : Port). swept_machine.disk_bytes p k b) here_port
 
     cleared : SameSectors m (d.port port).disk port → SameSectors swept_machine (disk_cleared (d.port port).disk first count) port
     cleared s = record {
@@ -244,8 +244,8 @@ module _ (uses : SlotStates) (m : Machine) (d : Device) (a : StateRelation uses 
       bytes_are_same = λ k b kl bl. by k b kl bl (nat_le first k && nat_lt k (first + count)) refl;
     }
       where
-        by : (k b : ℕ) → k < (d.port port).disk.size → b < 512 → (v : Bool) → (nat_le first k && nat_lt k (first + count)) ≡ v
-            → slice_index (cond (nat_le first k && nat_lt k (first + count)) (replicate 512 0) (s.told_sectors k)) b ≡ swept_machine.disks (port_at port) k b
+        by : (k b : ℕ) → k < (d.port port).disk.sector_count → b < 512 → (v : Bool) → (nat_le first k && nat_lt k (first + count)) ≡ v
+            → slice_index (cond (nat_le first k && nat_lt k (first + count)) (replicate 512 0) (s.told_sectors k)) b ≡ swept_machine.disk_bytes (port_at port) k b
         by k b kl bl true e =
             let q = and_parts (nat_le first k) (nat_lt k (first + count)) e in
             let low : first ≤ k = leb-true first k q.0 in
@@ -263,8 +263,8 @@ module _ (uses : SlotStates) (m : Machine) (d : Device) (a : StateRelation uses 
     clear_serves : SimulatesSteps uses m d (device_after (Clear port slot t first count) d)
     clear_serves = record {
       steps = touch_steps h.pending t.cleared count;
-      may = done.may;
-      telling = refl;
+      steps_are_enabled = done.may;
+      telling_is_same = refl;
       steps_are_faithful = λ _. done.told;
       new_entries = _;
       tape_is = refl;
@@ -275,8 +275,8 @@ module _ (uses : SlotStates) (m : Machine) (d : Device) (a : StateRelation uses 
         refl,
         refl,
       );
-      plugged = plugged_kept d port _ (touch_steps h.pending t.cleared count) refl (λ q. touches_put h.pending t.cleared count q);
-      agrees = acted NoPort uses m swept_machine d a d.memory (d.tape ++ clear_entry port slot first count ∷ []) port slot _ (record {
+      plugged_disks_match_steps = plugged_kept d port _ (touch_steps h.pending t.cleared count) refl (λ q. touches_put h.pending t.cleared count q);
+      state_relation = acted NoPort uses m swept_machine d a d.memory (d.tape ++ clear_entry port slot first count ∷ []) port slot _ (record {
         id = h.pending.request.id;
         goes = done.goes;
         moves = others_move uses m swept_machine d a port slot id u (subst (λ (n : RequestId). Goes m swept_machine n) h.id_is done.goes);
@@ -285,7 +285,7 @@ module _ (uses : SlotStates) (m : Machine) (d : Device) (a : StateRelation uses 
         others = λ k ne. record { issued = refl; sact = refl; taken = changed_other (d.port port).taken slot _ k ne; st = refl; cr = refl; since = refl; list = refl };
         here = subst (λ (v : SlotState). RelatesSlot swept_machine d.memory (d.tape ++ clear_entry port slot first count ∷ []) (record (d.port port) { taken = changed (d.port port).taken slot (Some (record t { cleared = t.cleared + count })); disk = disk_cleared (d.port port).disk first count }) port slot v) (sym u)
             (record {
-              pending = touched_by h.pending t.cleared count;
+              pending = with_sectors_touched h.pending t.cleared count;
               may_still_move = done.moves;
               id_is = ap (λ (j : Accepted). j.id) (touched_request h.pending t.cleared count) ∙ h.id_is;
               port_is = ap (λ (j : Accepted). j.port.0) (touched_request h.pending t.cleared count) ∙ h.port_is;
@@ -300,9 +300,9 @@ module _ (uses : SlotStates) (m : Machine) (d : Device) (a : StateRelation uses 
                 meaning = x.meaning;
                 places_are = x.places_are;
                 running = x.running;
-                issued = x.issued;
+                ci_is_set_while_plain = x.issued;
                 sact = x.sact;
-                progress = subst (λ (o : Op). TouchedAsMoved o d.memory port (touched_by h.pending t.cleared count) (record t { cleared = t.cleared + count })) (sym (ap (λ (j : Accepted). j.asked.op) (touched_request h.pending t.cleared count) ∙ op))
+                progress = subst (λ (o : Op). TouchedAsMoved o d.memory port (with_sectors_touched h.pending t.cleared count) (record t { cleared = t.cleared + count })) (sym (ap (λ (j : Accepted). j.asked.op) (touched_request h.pending t.cleared count) ∙ op))
                     (touched_upto h.pending t.cleared count was.0, inr ((let mv : t.moved ≡ length t.places = can.block_is_moved in let r : t.moved ≡ 1 = omega (arith, mv, one_place) in r), subst (λ (j : Accepted). MeansRange t.block j) (sym (touched_request h.pending t.cleared count)) range));
                 unended = touched_ended h.pending t.cleared count ∙ x.unended;
               }));
@@ -314,9 +314,9 @@ module _ (uses : SlotStates) (m : Machine) (d : Device) (a : StateRelation uses 
         size = refl;
         sectors = λ t'. cleared (a.sectors_are_same t' port);
         other_sectors = λ t' q ne. sectors_on m swept_machine (d.port q).disk q (λ k b lb. done.others (port_at q) k b (λ e _ _. ne (e ∙ h.port_is))) (a.sectors_are_same t' q);
-        lasting = λ t'. lasting_on m swept_machine d.tape _ (d.port port) (d.port port) port refl refl (lasting_swept m h.pending t.cleared count port) (gains_clear d.tape swept_machine port slot first count port zeroed) (a.has_lasting t' port);
-        other_lasting = λ t' q ne. lasting_on m swept_machine d.tape _ (d.port q) (d.port q) q refl refl (lasting_swept m h.pending t.cleared count q) (gains_clear d.tape swept_machine port slot first count q zeroed) (a.has_lasting t' q);
-        memory = λ f b from small. a.memory_is_same f b from small ∙ ap (λ (g : Memory). g f b) (sym done.memory);
+        lasting = λ t'. lasting_on m swept_machine d.tape _ (d.port port) (d.port port) port refl refl (lasting_swept m h.pending t.cleared count port) (gains_clear d.tape swept_machine port slot first count port zeroed) (a.holds_replug_candidates t' port);
+        other_lasting = λ t' q ne. lasting_on m swept_machine d.tape _ (d.port q) (d.port q) q refl refl (lasting_swept m h.pending t.cleared count q) (gains_clear d.tape swept_machine port slot first count q zeroed) (a.holds_replug_candidates t' q);
+        memory = λ f b from small. a.client_frames_are_same f b from small ∙ ap (λ (g : Memory). g f b) (sym done.memory);
       });
     }
 
@@ -324,14 +324,14 @@ module _ (uses : SlotStates) (m : Machine) (d : Device) (a : StateRelation uses 
   clear_follows = by (uses port slot) refl (a.relates_slots port slot)
     where
       by : (v : SlotState) → uses port slot ≡ v → RelatesSlot m d.memory d.tape (d.port port) port slot v → SimulatesSteps uses m d (device_after (Clear port slot t first count) d)
-      by Free u h = some_none can.works.taken h.free
-      by Armed u h = some_none can.works.taken h.free
+      by Free u h = some_none can.works.taken h.is_not_taken
+      by Armed u h = some_none can.works.taken h.is_not_taken
       by (Own o) u h = own h.stage
         where
           own : OwnAwaitsFetch (d.port port) slot ⊎ (OwnIsTaken d.memory d.tape (d.port port) port slot h.command ⊎ OwnIsOver d.memory d.tape (d.port port) port slot h.command) → SimulatesSteps uses m d (device_after (Clear port slot t first count) d)
-          own (inl x) = some_none can.works.taken x.free
+          own (inl x) = some_none can.works.taken x.is_not_taken
           own (inr (inl x)) =
               let e : x.command ≡ t = some_same (sym x.taken ∙ can.works.taken) in
-              none_op (sym h.own ∙ ap op_of (sym h.operation_is) ∙ ap (λ (c : Meaning). op_of c.operation) (sym x.meaning) ∙ ap (λ (y : FetchedCommand). op_of y.meaning.operation) e ∙ ap op_of can.trim)
-          own (inr (inr x)) = some_none can.works.taken x.over.free
+              none_op (sym h.operation_is_drivers_own ∙ ap client_operation_of (sym h.operation_is) ∙ ap (λ (c : Meaning). client_operation_of c.operation) (sym x.meaning) ∙ ap (λ (y : FetchedCommand). client_operation_of y.meaning.operation) e ∙ ap client_operation_of can.trim)
+          own (inr (inr x)) = some_none can.works.taken x.over.is_not_taken
       by (Serves id) u h = clear_serves id u h (taken_as d.memory (d.port port) port slot h.pending h.command h.places t can.works.taken h.stage)

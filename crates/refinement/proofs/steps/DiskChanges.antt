@@ -17,8 +17,8 @@ use Rattle.block_machine.specs.Steps.{Step, Unplug, Replace}
 use Rattle.block_machine.specs.Expected.{after}
 use Rattle.block_machine.specs.Events.{IsByDevice, changes_disk}
 use Rattle.block_machine.proofs.Members.{contains_none, contains_here, contains_there, contains_cases}
-use Rattle.refinement.specs.Links.{IsPlugEvent}
-use Rattle.refinement.specs.Slots.{op_of}
+use Rattle.refinement.specs.PreservedParts.{IsPlugEvent}
+use Rattle.refinement.specs.Slots.{client_operation_of}
 use Rattle.refinement.specs.Tape.{TellsMove, TellsDone, TellsEntry, TellsDeviceSteps, NoneByDevice, touch_steps}
 
 module _ (port : Port) where
@@ -70,9 +70,9 @@ module _ (port : Port) where
       (cases_eq at.0 port.0)
 
   entry_alike : (m : Machine) (e : Entry) (steps : List Step) → TellsEntry m e steps → Alike e steps
-  entry_alike m (entry.Move move) steps t = inr (λ x. x, move_none (op_of move.operation) m move steps t)
+  entry_alike m (entry.Move move) steps t = inr (λ x. x, move_none (client_operation_of move.operation) m move steps t)
   entry_alike m (entry.Clear clear) steps t = inr (λ x. x, none_of _ steps t.step_is (touches_none t.pending t.first_number clear.count))
-  entry_alike m (entry.Done done) steps t = inr (λ x. x, done_none (op_of done.operation) m done steps t)
+  entry_alike m (entry.Done done) steps t = inr (λ x. x, done_none (client_operation_of done.operation) m done steps t)
   entry_alike m (entry.Fault fault) steps t = inr (λ x. x, none_of _ steps t refl)
   entry_alike m (entry.Fatal at) steps t = inr (λ x. x, none_of _ steps t refl)
   entry_alike m (entry.Unplug at) steps t = at_one at (Unplug at) refl steps t

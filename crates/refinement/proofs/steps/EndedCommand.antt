@@ -17,8 +17,8 @@ use Rattle.block_machine.specs.Histories.{IsReachable}
 use Rattle.block_machine.specs.Steps as machine
 use Rattle.block_machine.specs.Steps.{AllTouched, after_step, mark_ended}
 use Rattle.block_machine.proofs.Standing.{standing}
-use Rattle.refinement.specs.MemoryLayout.{scratch_of}
-use Rattle.refinement.specs.Slots.{SlotState, Free, Own, Serves, SlotStates, MeansRequest, MeansRange, AreRequestPlaces, TouchedUpTo, TouchedAsMoved, ServesRequest, PageStandsInScratch, OwnAwaitsFetch, OwnIsTaken, OwnIsOver, ServesOwn, RelatesSlot, op_of, Armed}
+use Rattle.refinement.specs.MemoryLayout.{scratch_frame_address}
+use Rattle.refinement.specs.Slots.{SlotState, Free, Own, Serves, SlotStates, MeansRequest, MeansRange, AreRequestPlaces, TouchedUpTo, TouchedAsMoved, ServesRequest, PageStandsInScratch, OwnAwaitsFetch, OwnIsTaken, OwnIsOver, ServesOwn, RelatesSlot, client_operation_of, Armed}
 use Rattle.refinement.specs.Relation.{StateRelation, port_at}
 use Rattle.refinement.specs.Tape.{TellsDone}
 use Rattle.refinement.specs.Simulation.{SimulatesSteps}
@@ -59,7 +59,7 @@ sact_other true f slot k ne = changed_other f slot false k ne
 sact_other false f slot k ne = refl
 
 -- only a trim's command does a trim
-pub is_trim : (o : Operation) → op_of o ≡ Some Trim → o ≡ operation.Trim
+pub is_trim : (o : Operation) → client_operation_of o ≡ Some Trim → o ≡ operation.Trim
 is_trim operation.Trim e = refl
 is_trim operation.Read e = absurd cc
 is_trim operation.ReadQueued e = absurd cc
@@ -73,7 +73,7 @@ upto_all : (f : ℕ → Bool) (n count : ℕ) → TouchedUpTo f n → n ≡ coun
 upto_all f n count h e i lt = h i ∙ lt-ltb i n (omega (arith, e, lt))
 
 -- all sectors of a finished command were touched
-all_touched : (op : Op) (memory : ℕ → ℕ) (port : ℕ) (e : Pending) (t : FetchedCommand) → IsFinished t → op_of t.meaning.operation ≡ Some op → AreRequestPlaces op port e.request t.places →
+all_touched : (op : Op) (memory : ℕ → ℕ) (port : ℕ) (e : Pending) (t : FetchedCommand) → IsFinished t → client_operation_of t.meaning.operation ≡ Some op → AreRequestPlaces op port e.request t.places →
     (op ≡ Flush → e.request.asked.count ≡ 0) → TouchedAsMoved op memory port e t → AllTouched e
 all_touched Read memory port e t fin is places flush p = upto_all e.touched t.moved e.request.asked.count p (fin.all_is_moved ∙ places.0)
 all_touched Write memory port e t fin is places flush p = upto_all e.touched t.moved e.request.asked.count p (fin.all_is_moved ∙ places.0)
@@ -86,7 +86,7 @@ all_touched Trim memory port e t fin is places flush p =
 
     range : MeansRange t.block e.request
     range = ⊎_elim
-        (λ (y : (t.moved ≡ 0) × (t.cleared ≡ 0) × MeansRange (bytes_at memory (scratch_of port) 512) e.request). absurd (let z : t.moved ≡ 1 = one in omega (arith, z, y.0)))
+        (λ (y : (t.moved ≡ 0) × (t.cleared ≡ 0) × MeansRange (bytes_at memory (scratch_frame_address port) 512) e.request). absurd (let z : t.moved ≡ 1 = one in omega (arith, z, y.0)))
         (λ (y : (t.moved ≡ 1) × MeansRange t.block e.request). y.1) p.1
 
 module _ (uses : SlotStates) (m : Machine) (d : Device) (a : StateRelation uses m d) (reached : IsReachable m) (port slot flag : ℕ) (t : FetchedCommand) (can : MayBeDone d port slot flag t) where
@@ -104,8 +104,8 @@ module _ (uses : SlotStates) (m : Machine) (d : Device) (a : StateRelation uses 
   end_serves : (id : RequestId) (u : uses port slot ≡ Serves id) (h : ServesRequest m d.memory (d.port port) port slot id) (x : TakenAs d.memory (d.port port) port slot h.pending h.command h.places t) → SimulatesSteps uses m d (device_after (Done port slot flag t) d)
   end_serves id u h x = record {
     steps = machine.End h.pending ∷ [];
-    may = (tt, (h.may_still_move, touched, ap m.present here_port ∙ (a.disks_are_same port).present ∙ can.works.working.present));
-    telling = refl;
+    steps_are_enabled = (tt, (h.may_still_move, touched, ap m.present here_port ∙ (a.disks_are_same port).present ∙ can.works.working.present));
+    telling_is_same = refl;
     steps_are_faithful = λ _. (tt, tt);
     new_entries = _;
     tape_is = refl;
@@ -117,8 +117,8 @@ module _ (uses : SlotStates) (m : Machine) (d : Device) (a : StateRelation uses 
       refl,
       refl,
     );
-    plugged = plugged_kept d port _ (machine.End h.pending ∷ []) refl (λ _. refl);
-    agrees = acted NoPort uses m (after_step m (machine.End h.pending)) d a d.memory (d.tape ++ done_entry port slot t.meaning.operation ∷ []) port slot (port_after_flush (port_after_done (d.port port) slot flag t.meaning.operation) t.meaning.operation (length d.tape)) (record {
+    plugged_disks_match_steps = plugged_kept d port _ (machine.End h.pending ∷ []) refl (λ _. refl);
+    state_relation = acted NoPort uses m (after_step m (machine.End h.pending)) d a d.memory (d.tape ++ done_entry port slot t.meaning.operation ∷ []) port slot (port_after_flush (port_after_done (d.port port) slot flag t.meaning.operation) t.meaning.operation (length d.tape)) (record {
       id = h.pending.request.id;
       goes = end_goes m h.pending;
       moves = others_move uses m (after_step m (machine.End h.pending)) d a port slot id u (subst (λ (n : RequestId). Goes m (after_step m (machine.End h.pending)) n) h.id_is (end_goes m h.pending));
@@ -137,9 +137,9 @@ module _ (uses : SlotStates) (m : Machine) (d : Device) (a : StateRelation uses 
             slot_decodes_to = h.slot_decodes_to;
             means = h.means;
             stage = inr (inr (inl (record {
-              issued = issued_clear (is_queued t.meaning.operation) (d.port port).st (d.port port).ci slot (x.issued ∙ ap (λ (c : Meaning). (d.port port).st && not (is_queued c.operation)) (sym x.meaning));
-              sact = sact_clear (is_queued t.meaning.operation) (d.port port).st (d.port port).sact slot (x.sact ∙ ap (λ (c : Meaning). (d.port port).st && is_queued c.operation) (sym x.meaning));
-              free = changed_same (d.port port).taken slot _;
+              is_not_issued = issued_clear (is_queued t.meaning.operation) (d.port port).st (d.port port).ci slot (x.issued ∙ ap (λ (c : Meaning). (d.port port).st && not (is_queued c.operation)) (sym x.meaning));
+              sact_is_clear = sact_clear (is_queued t.meaning.operation) (d.port port).st (d.port port).sact slot (x.sact ∙ ap (λ (c : Meaning). (d.port port).st && is_queued c.operation) (sym x.meaning));
+              is_not_taken = changed_same (d.port port).taken slot _;
               ended = refl;
               touched = touched;
             })));
@@ -151,9 +151,9 @@ module _ (uses : SlotStates) (m : Machine) (d : Device) (a : StateRelation uses 
       size = refl;
       sectors = λ t'. sectors_on m (after_step m (machine.End h.pending)) (d.port port).disk port (λ k b lb. refl) (a.sectors_are_same t' port);
       other_sectors = λ t' q ne. sectors_on m (after_step m (machine.End h.pending)) (d.port q).disk q (λ k b lb. refl) (a.sectors_are_same t' q);
-      lasting = λ t'. lasting_ended m h.pending d.tape (done_entry port slot t.meaning.operation) (λ _ _. refl) (port_after_done (d.port port) slot flag t.meaning.operation) port t.meaning.operation means.op_is (a.sectors_are_same t' port) (a.has_lasting t' port);
-      other_lasting = λ t' q ne. lasting_ended_elsewhere m h.pending d.tape (done_entry port slot t.meaning.operation) (λ _ _. refl) (d.port q) port q h.port_is ne (a.has_lasting t' q);
-      memory = a.memory_is_same;
+      lasting = λ t'. lasting_ended m h.pending d.tape (done_entry port slot t.meaning.operation) (λ _ _. refl) (port_after_done (d.port port) slot flag t.meaning.operation) port t.meaning.operation means.op_is (a.sectors_are_same t' port) (a.holds_replug_candidates t' port);
+      other_lasting = λ t' q ne. lasting_ended_elsewhere m h.pending d.tape (done_entry port slot t.meaning.operation) (λ _ _. refl) (d.port q) port q h.port_is ne (a.holds_replug_candidates t' q);
+      memory = a.client_frames_are_same;
     });
   }
     where
@@ -169,14 +169,14 @@ module _ (uses : SlotStates) (m : Machine) (d : Device) (a : StateRelation uses 
   end_own : (o : Operation) (u : uses port slot ≡ Own o) (h : ServesOwn d.memory d.tape (d.port port) port slot o) (x : OwnIsTaken d.memory d.tape (d.port port) port slot h.command) → x.command ≡ t → SimulatesSteps uses m d (device_after (Done port slot flag t) d)
   end_own o u h x is = record {
     steps = [];
-    may = tt;
-    telling = refl;
+    steps_are_enabled = tt;
+    telling_is_same = refl;
     steps_are_faithful = λ _. tt;
     new_entries = _;
     tape_is = refl;
     tape_tells_steps = ([], [], subst (λ (w : Option Op). TellsDone w m (record { port = record { 0 = port }; slot = record { 0 = slot }; operation = t.meaning.operation }) []) (sym own) refl, refl, refl);
-    plugged = plugged_kept d port _ [] refl (λ _. refl);
-    agrees = acted NoPort uses m m d a d.memory (d.tape ++ done_entry port slot t.meaning.operation ∷ []) port slot (port_after_flush (port_after_done (d.port port) slot flag t.meaning.operation) t.meaning.operation (length d.tape)) (record {
+    plugged_disks_match_steps = plugged_kept d port _ [] refl (λ _. refl);
+    state_relation = acted NoPort uses m m d a d.memory (d.tape ++ done_entry port slot t.meaning.operation ∷ []) port slot (port_after_flush (port_after_done (d.port port) slot flag t.meaning.operation) t.meaning.operation (length d.tape)) (record {
       id = record { 0 = 0 };
       goes = Goes-refl m (record { 0 = 0 });
       moves = λ port' slot' id' v ne y is r. r;
@@ -185,7 +185,7 @@ module _ (uses : SlotStates) (m : Machine) (d : Device) (a : StateRelation uses 
       others = others_same;
       here = subst (λ (v : SlotState). RelatesSlot m d.memory (d.tape ++ done_entry port slot t.meaning.operation ∷ []) (port_after_flush (port_after_done (d.port port) slot flag t.meaning.operation) t.meaning.operation (length d.tape)) port slot v) (sym u)
           (record {
-            own = h.own;
+            operation_is_drivers_own = h.operation_is_drivers_own;
             slot_is_0 = h.slot_is_0;
             list_is_in_place = placed_on (d.port port) _ port slot refl h.list_is_in_place;
             command = h.command;
@@ -194,7 +194,7 @@ module _ (uses : SlotStates) (m : Machine) (d : Device) (a : StateRelation uses 
             unqueued = own_kept (is_queued t.meaning.operation) (d.port port).sact slot (own_plain t.meaning.operation own) h.unqueued;
             st_set_is_on_tape = known_on d.tape (done_entry port slot t.meaning.operation ∷ []) (d.port port).notes.st_set_at h.st_set_is_on_tape;
             stage = inr (inr (record {
-              over = record { issued = own_clear (is_queued t.meaning.operation) (d.port port).ci slot (own_plain t.meaning.operation own); free = changed_same (d.port port).taken slot _ };
+              over = record { is_not_issued = own_clear (is_queued t.meaning.operation) (d.port port).ci slot (own_plain t.meaning.operation own); is_not_taken = changed_same (d.port port).taken slot _ };
               page_is_brought = inr brought;
             }));
           });
@@ -205,14 +205,14 @@ module _ (uses : SlotStates) (m : Machine) (d : Device) (a : StateRelation uses 
       size = refl;
       sectors = λ t'. a.sectors_are_same t' port;
       other_sectors = λ t' q ne. a.sectors_are_same t' q;
-      lasting = λ t'. lasting_read m d.tape (done_entry port slot t.meaning.operation) (port_after_done (d.port port) slot flag t.meaning.operation) port t.meaning.operation (λ _ _. refl) own (a.has_lasting t' port);
-      other_lasting = λ t' q ne. lasting_on m m d.tape _ (d.port q) (d.port q) q refl refl (λ _ _ held. held) (gains_quiet d.tape (done_entry port slot t.meaning.operation) m q (λ _ _. refl)) (a.has_lasting t' q);
-      memory = a.memory_is_same;
+      lasting = λ t'. lasting_read m d.tape (done_entry port slot t.meaning.operation) (port_after_done (d.port port) slot flag t.meaning.operation) port t.meaning.operation (λ _ _. refl) own (a.holds_replug_candidates t' port);
+      other_lasting = λ t' q ne. lasting_on m m d.tape _ (d.port q) (d.port q) q refl refl (λ _ _ held. held) (gains_quiet d.tape (done_entry port slot t.meaning.operation) m q (λ _ _. refl)) (a.holds_replug_candidates t' q);
+      memory = a.client_frames_are_same;
     });
   }
     where
-      own : op_of t.meaning.operation ≡ None
-      own = ap (λ (y : FetchedCommand). op_of y.meaning.operation) (sym is) ∙ ap (λ (c : Meaning). op_of c.operation) x.meaning ∙ ap op_of h.operation_is ∙ h.own
+      own : client_operation_of t.meaning.operation ≡ None
+      own = ap (λ (y : FetchedCommand). client_operation_of y.meaning.operation) (sym is) ∙ ap (λ (c : Meaning). client_operation_of c.operation) x.meaning ∙ ap client_operation_of h.operation_is ∙ h.operation_is_drivers_own
 
       -- all was moved: its page
       moved : t.moved ≡ 1
@@ -229,12 +229,12 @@ module _ (uses : SlotStates) (m : Machine) (d : Device) (a : StateRelation uses 
   end_follows = by (uses port slot) refl (a.relates_slots port slot)
     where
       by : (v : SlotState) → uses port slot ≡ v → RelatesSlot m d.memory d.tape (d.port port) port slot v → SimulatesSteps uses m d (device_after (Done port slot flag t) d)
-      by Free u h = some_none can.works.taken h.free
-      by Armed u h = some_none can.works.taken h.free
+      by Free u h = some_none can.works.taken h.is_not_taken
+      by Armed u h = some_none can.works.taken h.is_not_taken
       by (Own o) u h = own h.stage
         where
           own : OwnAwaitsFetch (d.port port) slot ⊎ (OwnIsTaken d.memory d.tape (d.port port) port slot h.command ⊎ OwnIsOver d.memory d.tape (d.port port) port slot h.command) → SimulatesSteps uses m d (device_after (Done port slot flag t) d)
-          own (inl x) = some_none can.works.taken x.free
+          own (inl x) = some_none can.works.taken x.is_not_taken
           own (inr (inl x)) = end_own o u h x (some_same (sym x.taken ∙ can.works.taken))
-          own (inr (inr x)) = some_none can.works.taken x.over.free
+          own (inr (inr x)) = some_none can.works.taken x.over.is_not_taken
       by (Serves id) u h = end_serves id u h (taken_as d.memory (d.port port) port slot h.pending h.command h.places t can.works.taken h.stage)

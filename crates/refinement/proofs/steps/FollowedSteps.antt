@@ -86,30 +86,30 @@ puts_append q first then early (machine.Load client frame offset bytes ∷ late)
 pub Follows-refl : (uses : SlotStates) (m : Machine) (d : Device) → StateRelation uses m d → SimulatesSteps uses m d d
 Follows-refl uses m d a = record {
   steps = [];
-  may = tt;
-  telling = refl;
+  steps_are_enabled = tt;
+  telling_is_same = refl;
   steps_are_faithful = λ _. tt;
   new_entries = [];
   tape_is = sym (append-nil d.tape);
   tape_tells_steps = refl;
-  plugged = λ q. ([], sym (append-nil (d.port q).plugged), refl);
-  agrees = a;
+  plugged_disks_match_steps = λ q. ([], sym (append-nil (d.port q).plug_history), refl);
+  state_relation = a;
 }
 
 pub Follows-trans : (uses : SlotStates) (m : Machine) (old mid new : Device) → (a : SimulatesSteps uses m old mid) → SimulatesSteps uses (left.after m a.steps) mid new → SimulatesSteps uses m old new
 Follows-trans uses m old mid new a b = record {
-  telling = b.telling ∙ a.telling;
+  telling_is_same = b.telling_is_same ∙ a.telling_is_same;
   steps = b.steps ++ a.steps;
-  may = may-append m b.steps a.steps a.may b.may;
-  steps_are_faithful = λ t. told_append m b.steps a.steps (a.steps_are_faithful t) (b.steps_are_faithful (a.telling ∙ t));
+  steps_are_enabled = may-append m b.steps a.steps a.steps_are_enabled b.steps_are_enabled;
+  steps_are_faithful = λ t. told_append m b.steps a.steps (a.steps_are_faithful t) (b.steps_are_faithful (a.telling_is_same ∙ t));
   new_entries = a.new_entries ++ b.new_entries;
   tape_is = b.tape_is ∙ (ap (λ t. t ++ b.new_entries) a.tape_is ∙ append_assoc old.tape a.new_entries b.new_entries);
   tape_tells_steps = tells_append m a.new_entries b.new_entries a.steps b.steps a.tape_tells_steps b.tape_tells_steps;
-  plugged = λ q.
-      let x = a.plugged q in
-      let y = b.plugged q in
-      (x.0 ++ y.0, y.1 ∙ ap (λ (l : List device.Disk). l ++ y.0) x.1 ∙ append_assoc (old.port q).plugged x.0 y.0, puts_append q x.0 y.0 a.steps b.steps x.2 y.2);
-  agrees = subst (λ (n : Machine). StateRelation uses n new) (sym (after-append m b.steps a.steps)) b.agrees;
+  plugged_disks_match_steps = λ q.
+      let x = a.plugged_disks_match_steps q in
+      let y = b.plugged_disks_match_steps q in
+      (x.0 ++ y.0, y.1 ∙ ap (λ (l : List device.Disk). l ++ y.0) x.1 ∙ append_assoc (old.port q).plug_history x.0 y.0, puts_append q x.0 y.0 a.steps b.steps x.2 y.2);
+  state_relation = subst (λ (n : Machine). StateRelation uses n new) (sym (after-append m b.steps a.steps)) b.state_relation;
 }
 
 leads_follow : (uses : SlotStates) (m : Machine) (steps : List steps.DeviceTransition) (old new : Device) → IsReachable m → StateRelation uses m old → TransitionsLead steps old new → SimulatesSteps uses m old new
@@ -117,7 +117,7 @@ leads_follow uses m [] old new r a e = subst (λ (d : Device). SimulatesSteps us
 leads_follow uses m (step ∷ steps) old new r a (can, lead) =
     let first : SimulatesSteps uses m old (device_after step old) = step_follows uses m old step r a can in
     Follows-trans uses m old (device_after step old) new first
-    (leads_follow uses (left.after m first.steps) steps (device_after step old) new (reached_more m first.steps r first.may) first.agrees lead)
+    (leads_follow uses (left.after m first.steps) steps (device_after step old) new (reached_more m first.steps r first.steps_are_enabled) first.state_relation lead)
 
 -- whatever the device does, the machine follows
 pub steps_follow : (uses : SlotStates) (m : Machine) (old new : Device) → IsReachable m → StateRelation uses m old → Steps old new → SimulatesSteps uses m old new
@@ -128,4 +128,4 @@ pub silent_agrees : (uses : SlotStates) (m : Machine) (old new : Device) → Sim
 silent_agrees uses m old new f same =
     let none : f.new_entries ≡ [] = append_cancel_left old.tape f.new_entries [] (sym f.tape_is ∙ same ∙ sym (append-nil old.tape)) in
     let still : f.steps ≡ [] = subst (λ (gained : List Entry). TapeTells m gained f.steps) none f.tape_tells_steps in
-    subst (λ (steps : List machine.Step). StateRelation uses (left.after m steps) new) still f.agrees
+    subst (λ (steps : List machine.Step). StateRelation uses (left.after m steps) new) still f.state_relation

@@ -24,8 +24,8 @@ use Rattle.block_machine.specs.Histories.{IsReachable}
 use Rattle.block_machine.specs.Steps as machine
 use Rattle.block_machine.specs.Steps.{Touch, after_step, touch, put_sector, put_bytes}
 use Rattle.block_machine.proofs.Standing.{Standing, standing}
-use Rattle.refinement.specs.MemoryLayout.{scratch_of, place_in}
-use Rattle.refinement.specs.Slots.{SlotState, Free, Own, Serves, SlotStates, MeansRequest, MeansRange, AreRequestPlaces, TouchedUpTo, TouchedAsMoved, IsInSomeStage, ServesRequest, IsMove, ServesOwn, RelatesSlot, op_of}
+use Rattle.refinement.specs.MemoryLayout.{scratch_frame_address, sector_address}
+use Rattle.refinement.specs.Slots.{SlotState, Free, Own, Serves, SlotStates, MeansRequest, MeansRange, AreRequestPlaces, TouchedUpTo, TouchedAsMoved, IsInSomeStage, ServesRequest, IsMove, ServesOwn, RelatesSlot, client_operation_of}
 use Rattle.refinement.specs.Relation.{StateRelation, port_at, SameSectors}
 use Rattle.refinement.specs.Tape.{TellsMove, MovesSector}
 use Rattle.refinement.specs.Simulation.{SimulatesSteps}
@@ -56,12 +56,12 @@ pub record TakenAs (memory : ℕ → ℕ) (p : DevicePort) (port slot : ℕ) (e 
   pub unended : e.ended ≡ false
 
 pub taken_as : (memory : ℕ → ℕ) (p : DevicePort) (port slot : ℕ) (e : Pending) (c : Meaning) (places : List ℕ) (t : FetchedCommand) → p.taken slot ≡ Some t → IsInSomeStage memory p port slot e c places → TakenAs memory p port slot e c places t
-taken_as memory p port slot e c places t is (inl w) = some_none is w.free
+taken_as memory p port slot e c places t is (inl w) = some_none is w.is_not_taken
 taken_as memory p port slot e c places t is (inr (inl x)) =
     subst (λ (u : FetchedCommand). TakenAs memory p port slot e c places u) (some_same (sym x.taken ∙ is))
-    (record { meaning = x.meaning; places_are = x.places_are; running = x.running; issued = x.issued; sact = x.sact; progress = x.progress; unended = x.unended })
-taken_as memory p port slot e c places t is (inr (inr (inl x))) = some_none is x.free
-taken_as memory p port slot e c places t is (inr (inr (inr x))) = some_none is x.free
+    (record { meaning = x.meaning; places_are = x.places_are; running = x.running; issued = x.ci_is_set_while_plain; sact = x.sact; progress = x.progress; unended = x.unended })
+taken_as memory p port slot e c places t is (inr (inr (inl x))) = some_none is x.is_not_taken
+taken_as memory p port slot e c places t is (inr (inr (inr x))) = some_none is x.is_not_taken
 
 -- the command that was taken is the request's
 pub means_taken : (port slot : ℕ) (r : state.Accepted) (c d : Meaning) (places others : List ℕ) → d ≡ c → others ≡ places → MeansRequest port slot r c places → MeansRequest port slot r d others
@@ -85,11 +85,11 @@ upto_more f n h k = ⊎_elim
         (cases_lt k n)
 
 -- an entry of a client's command is no move of the driver's own
-pub clients_move : (uses : SlotStates) (m : Machine) (d : Device) → StateRelation uses m d → (port slot : ℕ) (t : FetchedCommand) (bytes : List ℕ) (op : Op) → op_of t.meaning.operation ≡ Some op →
+pub clients_move : (uses : SlotStates) (m : Machine) (d : Device) → StateRelation uses m d → (port slot : ℕ) (t : FetchedCommand) (bytes : List ℕ) (op : Op) → client_operation_of t.meaning.operation ≡ Some op →
     (q : ℕ) (o : Operation) → uses q 0 ≡ Own o → IsMove q o (entry.Move (move_of port slot t bytes)) → ⊥
 clients_move uses m d a port slot t bytes op is q o u same =
     let h : ServesOwn d.memory d.tape (d.port q) q 0 o = subst (λ (v : SlotState). RelatesSlot m d.memory d.tape (d.port q) q 0 v) u (a.relates_slots q 0) in
-    none_op (sym h.own ∙ ap op_of (sym same.1) ∙ is)
+    none_op (sym h.operation_is_drivers_own ∙ ap client_operation_of (sym same.1) ∙ is)
 
 module _ (uses : SlotStates) (m : Machine) (d : Device) (a : StateRelation uses m d) (reached : IsReachable m) (port slot : ℕ) (id : RequestId) (u : uses port slot ≡ Serves id)
     (h : ServesRequest m d.memory (d.port port) port slot id) where
@@ -130,7 +130,7 @@ module _ (uses : SlotStates) (m : Machine) (d : Device) (a : StateRelation uses 
         meaning = meaning ∙ x.meaning;
         places_are = places ∙ x.places_are;
         running = x.running;
-        issued = x.issued;
+        ci_is_set_while_plain = x.issued;
         sact = x.sact;
         progress = progress;
         unended = ended ∙ x.unended;
@@ -143,14 +143,14 @@ module _ (uses : SlotStates) (m : Machine) (d : Device) (a : StateRelation uses 
     -- ---- a sector of a read or of a write
 
     module _ (op : Op) (op_is : h.pending.request.asked.op ≡ op) (bytes_move : MovesBytes op) (places : AreRequestPlaces op port h.pending.request t.places ≡ AreRequestPlaces Read port h.pending.request t.places)
-        (sector : next_sector t ≡ sector_of h.pending.request t.moved) (inside : next_sector t < (d.port port).disk.size) where
+        (sector : next_sector t ≡ sector_of h.pending.request t.moved) (inside : next_sector t < (d.port port).disk.sector_count) where
       places_are : AreRequestPlaces Read port h.pending.request t.places
       places_are = subst (λ (X : Type 0). X) places (subst (λ (o : Op). AreRequestPlaces o port h.pending.request t.places) op_is means.places_are)
 
       within : t.moved < h.pending.request.asked.count
       within = omega (arith, left, places_are.0)
 
-      place : next_place t ≡ place_in h.pending.request.asked.frames.items t.moved
+      place : next_place t ≡ sector_address h.pending.request.asked.frames.items t.moved
       place = places_are.1 t.moved within
 
       framed : t.moved / 8 < length h.pending.request.asked.frames.items
@@ -177,12 +177,12 @@ module _ (uses : SlotStates) (m : Machine) (d : Device) (a : StateRelation uses 
         step_is = refl;
       }
 
-      may : ((b : ℕ) → h.pending.request.asked.op ≡ Write → b < 512 → slice_index bytes b ≡ h.pending.request.held_blocks t.moved b) → machine.IsEnabled m (Touch h.pending t.moved (slice_index bytes))
+      may : ((b : ℕ) → h.pending.request.asked.op ≡ Write → b < 512 → slice_index bytes b ≡ h.pending.request.blocks_at_acceptance t.moved b) → machine.IsEnabled m (Touch h.pending t.moved (slice_index bytes))
       may own = (
         h.may_still_move,
         within,
         ap m.present here_port ∙ (a.disks_are_same port).present ∙ present,
-        (let s : m.sizes h.pending.request.port ≡ (d.port port).disk.size = ap m.sizes here_port ∙ (a.disks_are_same port).size in omega (arith, s, sector, inside)),
+        (let s : m.sizes h.pending.request.port ≡ (d.port port).disk.sector_count = ap m.sizes here_port ∙ (a.disks_are_same port).sector_count in omega (arith, s, sector, inside)),
         λ w b lt. own b w lt,
       )
 
@@ -191,18 +191,18 @@ module _ (uses : SlotStates) (m : Machine) (d : Device) (a : StateRelation uses 
 
     -- ---- a read
 
-    module _ (reads : h.pending.request.asked.op ≡ Read) (o : op_of t.meaning.operation ≡ Some Read) (sector : next_sector t ≡ sector_of h.pending.request t.moved) (inside : next_sector t < (d.port port).disk.size)
+    module _ (reads : h.pending.request.asked.op ≡ Read) (o : client_operation_of t.meaning.operation ≡ Some Read) (sector : next_sector t ≡ sector_of h.pending.request t.moved) (inside : next_sector t < (d.port port).disk.sector_count)
         (brings : IfSome (d.port port).disk.sectors (λ told. bytes ≡ told (next_sector t))) where
-      told : (s : SameSectors m (d.port port).disk port) (b : ℕ) → b < 512 → slice_index bytes b ≡ m.disks h.pending.request.port (sector_of h.pending.request t.moved) b
+      told : (s : SameSectors m (d.port port).disk port) (b : ℕ) → b < 512 → slice_index bytes b ≡ m.disk_bytes h.pending.request.port (sector_of h.pending.request t.moved) b
       told s b lb =
           let is : bytes ≡ s.told_sectors (next_sector t) = subst (λ (x : Option (ℕ → List ℕ)). IfSome x (λ told. bytes ≡ told (next_sector t))) s.disk_tells brings in
           ap (λ (l : List ℕ). slice_index l b) is
           ∙ s.bytes_are_same (next_sector t) b inside lb
-          ∙ ap (λ (q : Port). m.disks q (next_sector t) b) (sym here_port)
-          ∙ ap (λ (k : ℕ). m.disks h.pending.request.port k b) sector
+          ∙ ap (λ (q : Port). m.disk_bytes q (next_sector t) b) (sym here_port)
+          ∙ ap (λ (k : ℕ). m.disk_bytes h.pending.request.port k b) sector
 
-      disks_same : (q : Port) (k b : ℕ) → (after_step m (Touch h.pending t.moved (slice_index bytes))).disks q k b ≡ m.disks q k b
-      disks_same q k b = ap (λ (f : Port → state.DiskBytes). f q k b) (cond-false (changes_sectors h.pending.request.asked.op) (put_sector h.pending.request.port (sector_of h.pending.request t.moved) (block_written h.pending.request.asked.op h.pending.request.held_blocks t.moved) m.disks) m.disks (ap changes_sectors reads))
+      disks_same : (q : Port) (k b : ℕ) → (after_step m (Touch h.pending t.moved (slice_index bytes))).disk_bytes q k b ≡ m.disk_bytes q k b
+      disks_same q k b = ap (λ (f : Port → state.DiskBytes). f q k b) (cond-false (changes_sectors h.pending.request.asked.op) (put_sector h.pending.request.port (sector_of h.pending.request t.moved) (block_written h.pending.request.asked.op h.pending.request.blocks_at_acceptance t.moved) m.disk_bytes) m.disk_bytes (ap changes_sectors reads))
 
       memory_is : (after_step m (Touch h.pending t.moved (slice_index bytes))).memory ≡ put_bytes (frame_at h.pending.request.asked.frames.items (t.moved / 8)) (512 * (t.moved % 8)) 512 (slice_index bytes) m.memory
       memory_is = cond-true (is_reader h.pending.request.asked.op) _ m.memory (ap is_reader reads)
@@ -229,14 +229,14 @@ module _ (uses : SlotStates) (m : Machine) (d : Device) (a : StateRelation uses 
       })
       read_follows = record {
         steps = Touch h.pending t.moved (slice_index bytes) ∷ [];
-        may = (tt, may Read reads tt refl sector inside (λ b w lb. read_is_no_write (sym reads ∙ w)));
-        telling = refl;
+        steps_are_enabled = (tt, may Read reads tt refl sector inside (λ b w lb. read_is_no_write (sym reads ∙ w)));
+        telling_is_same = refl;
         steps_are_faithful = λ t'. (tt, λ _ b lb. told (a.sectors_are_same t' port) b lb);
         new_entries = _;
         tape_is = refl;
         tape_tells_steps = (Touch h.pending t.moved (slice_index bytes) ∷ [], [], subst (λ (w : Option Op). TellsMove w m (move_of port slot t bytes) (Touch h.pending t.moved (slice_index bytes) ∷ [])) (sym o) (is_touch Read reads tt refl sector inside), refl, refl);
-        plugged = plugged_kept d port _ (Touch h.pending t.moved (slice_index bytes) ∷ []) refl (λ _. refl);
-        agrees = acted NoPort uses m (after_step m (Touch h.pending t.moved (slice_index bytes))) d a new_memory later port slot _ (record {
+        plugged_disks_match_steps = plugged_kept d port _ (Touch h.pending t.moved (slice_index bytes) ∷ []) refl (λ _. refl);
+        state_relation = acted NoPort uses m (after_step m (Touch h.pending t.moved (slice_index bytes))) d a new_memory later port slot _ (record {
           id = h.pending.request.id;
           goes = touch_goes m h.pending t.moved (slice_index bytes);
           moves = moves_on Read reads tt refl sector inside;
@@ -253,11 +253,11 @@ module _ (uses : SlotStates) (m : Machine) (d : Device) (a : StateRelation uses 
           size = refl;
           sectors = λ t'. sectors_on m (after_step m (Touch h.pending t.moved (slice_index bytes))) (d.port port).disk port (λ k b lb. disks_same (port_at port) k b) (a.sectors_are_same t' port);
           other_sectors = λ t' q ne. sectors_on m (after_step m (Touch h.pending t.moved (slice_index bytes))) (d.port q).disk q (λ k b lb. disks_same (port_at q) k b) (a.sectors_are_same t' q);
-          lasting = λ t'. lasting_on m (after_step m (Touch h.pending t.moved (slice_index bytes))) d.tape later (d.port port) (d.port port) port refl refl (lasting_touched m h.pending t.moved (slice_index bytes) port) (gains_quiet d.tape (entry.Move (move_of port slot t bytes)) (after_step m (Touch h.pending t.moved (slice_index bytes))) port (quiet_move port slot t bytes (no_write o))) (a.has_lasting t' port);
-          other_lasting = λ t' q ne. lasting_on m (after_step m (Touch h.pending t.moved (slice_index bytes))) d.tape later (d.port q) (d.port q) q refl refl (lasting_touched m h.pending t.moved (slice_index bytes) q) (gains_quiet d.tape (entry.Move (move_of port slot t bytes)) (after_step m (Touch h.pending t.moved (slice_index bytes))) q (quiet_move port slot t bytes (no_write o))) (a.has_lasting t' q);
+          lasting = λ t'. lasting_on m (after_step m (Touch h.pending t.moved (slice_index bytes))) d.tape later (d.port port) (d.port port) port refl refl (lasting_touched m h.pending t.moved (slice_index bytes) port) (gains_quiet d.tape (entry.Move (move_of port slot t bytes)) (after_step m (Touch h.pending t.moved (slice_index bytes))) port (quiet_move port slot t bytes (no_write o))) (a.holds_replug_candidates t' port);
+          other_lasting = λ t' q ne. lasting_on m (after_step m (Touch h.pending t.moved (slice_index bytes))) d.tape later (d.port q) (d.port q) q refl refl (lasting_touched m h.pending t.moved (slice_index bytes) q) (gains_quiet d.tape (entry.Move (move_of port slot t bytes)) (after_step m (Touch h.pending t.moved (slice_index bytes))) q (quiet_move port slot t bytes (no_write o))) (a.holds_replug_candidates t' q);
           memory = λ f b from small.
               memory_put m d.memory (next_place t) (frame_at h.pending.request.asked.frames.items (t.moved / 8)) (512 * (t.moved % 8)) bytes
-              (place Read reads tt refl sector inside) (omega (arith, size)) a.memory_is_same f b from small
+              (place Read reads tt refl sector inside) (omega (arith, size)) a.client_frames_are_same f b from small
               ∙ ap (λ (n : ℕ). put_bytes (frame_at h.pending.request.asked.frames.items (t.moved / 8)) (512 * (t.moved % 8)) n (slice_index bytes) m.memory f b) size
               ∙ ap (λ (g : state.Memory). g f b) (sym memory_is);
         });
@@ -271,10 +271,10 @@ module _ (uses : SlotStates) (m : Machine) (d : Device) (a : StateRelation uses 
 
     -- ---- a write
 
-    module _ (writes : h.pending.request.asked.op ≡ Write) (o : op_of t.meaning.operation ≡ Some Write) (sector : next_sector t ≡ sector_of h.pending.request t.moved) (inside : next_sector t < (d.port port).disk.size)
+    module _ (writes : h.pending.request.asked.op ≡ Write) (o : client_operation_of t.meaning.operation ≡ Some Write) (sector : next_sector t ≡ sector_of h.pending.request t.moved) (inside : next_sector t < (d.port port).disk.sector_count)
         (brings : bytes ≡ bytes_at d.memory (next_place t) 512) where
       -- the frames hold the write's bytes
-      holds : (b : ℕ) → b < 512 → slice_index bytes b ≡ h.pending.request.held_blocks t.moved b
+      holds : (b : ℕ) → b < 512 → slice_index bytes b ≡ h.pending.request.blocks_at_acceptance t.moved b
       holds b lb =
           let w = place Write writes tt refl sector inside in
           let c = client Write writes tt refl sector inside in
@@ -282,14 +282,14 @@ module _ (uses : SlotStates) (m : Machine) (d : Device) (a : StateRelation uses 
           ap (λ (l : List ℕ). slice_index l b) brings
           ∙ bytes_index d.memory (next_place t) 512 b lb
           ∙ ap d.memory (let r : next_place t + b ≡ 4096 * (frame_at h.pending.request.asked.frames.items (t.moved / 8)).0 + (512 * (t.moved % 8) + b) = omega (arith, w) in r)
-          ∙ a.memory_is_same (frame_at h.pending.request.asked.frames.items (t.moved / 8)) (512 * (t.moved % 8) + b) c (omega (arith, lb))
+          ∙ a.client_frames_are_same (frame_at h.pending.request.asked.frames.items (t.moved / 8)) (512 * (t.moved % 8) + b) c (omega (arith, lb))
           ∙ std.held h.pending h.may_still_move t.moved b (λ reads. absurd (let z : true ≡ false = sym reads ∙ ap is_reader writes in cc)) (omega (arith, f)) lb
 
-      now : (q : Port) (k b : ℕ) → (after_step m (Touch h.pending t.moved (slice_index bytes))).disks q k b ≡ put_sector (port_at port) (sector_of h.pending.request t.moved) (h.pending.request.held_blocks t.moved) m.disks q k b
+      now : (q : Port) (k b : ℕ) → (after_step m (Touch h.pending t.moved (slice_index bytes))).disk_bytes q k b ≡ put_sector (port_at port) (sector_of h.pending.request t.moved) (h.pending.request.blocks_at_acceptance t.moved) m.disk_bytes q k b
       now q k b =
-          ap (λ (f : Port → state.DiskBytes). f q k b) (cond-true (changes_sectors h.pending.request.asked.op) (put_sector h.pending.request.port (sector_of h.pending.request t.moved) (block_written h.pending.request.asked.op h.pending.request.held_blocks t.moved) m.disks) m.disks (ap changes_sectors writes))
-          ∙ ap (λ (r : Port). put_sector r (sector_of h.pending.request t.moved) (block_written h.pending.request.asked.op h.pending.request.held_blocks t.moved) m.disks q k b) here_port
-          ∙ ap (λ (w : Op). put_sector (port_at port) (sector_of h.pending.request t.moved) (block_written w h.pending.request.held_blocks t.moved) m.disks q k b) writes
+          ap (λ (f : Port → state.DiskBytes). f q k b) (cond-true (changes_sectors h.pending.request.asked.op) (put_sector h.pending.request.port (sector_of h.pending.request t.moved) (block_written h.pending.request.asked.op h.pending.request.blocks_at_acceptance t.moved) m.disk_bytes) m.disk_bytes (ap changes_sectors writes))
+          ∙ ap (λ (r : Port). put_sector r (sector_of h.pending.request t.moved) (block_written h.pending.request.asked.op h.pending.request.blocks_at_acceptance t.moved) m.disk_bytes q k b) here_port
+          ∙ ap (λ (w : Op). put_sector (port_at port) (sector_of h.pending.request t.moved) (block_written w h.pending.request.blocks_at_acceptance t.moved) m.disk_bytes q k b) writes
 
       memory_kept : (after_step m (Touch h.pending t.moved (slice_index bytes))).memory ≡ m.memory
       memory_kept = cond-false (is_reader h.pending.request.asked.op) (put_bytes (frame_at h.pending.request.asked.frames.items (t.moved / 8)) (512 * (t.moved % 8)) 512 (slice_index bytes) m.memory) m.memory (ap is_reader writes)
@@ -304,14 +304,14 @@ module _ (uses : SlotStates) (m : Machine) (d : Device) (a : StateRelation uses 
       })
       write_follows = record {
         steps = Touch h.pending t.moved (slice_index bytes) ∷ [];
-        may = (tt, may Write writes tt refl sector inside (λ b w lb. holds b lb));
-        telling = refl;
+        steps_are_enabled = (tt, may Write writes tt refl sector inside (λ b w lb. holds b lb));
+        telling_is_same = refl;
         steps_are_faithful = λ t'. (tt, λ reads. write_is_no_read (sym writes ∙ reads));
         new_entries = _;
         tape_is = refl;
         tape_tells_steps = (Touch h.pending t.moved (slice_index bytes) ∷ [], [], subst (λ (w : Option Op). TellsMove w m (move_of port slot t bytes) (Touch h.pending t.moved (slice_index bytes) ∷ [])) (sym o) (is_touch Write writes tt refl sector inside), refl, refl);
-        plugged = plugged_kept d port _ (Touch h.pending t.moved (slice_index bytes) ∷ []) refl (λ _. refl);
-        agrees = acted NoPort uses m (after_step m (Touch h.pending t.moved (slice_index bytes))) d a d.memory _ port slot _ (record {
+        plugged_disks_match_steps = plugged_kept d port _ (Touch h.pending t.moved (slice_index bytes) ∷ []) refl (λ _. refl);
+        state_relation = acted NoPort uses m (after_step m (Touch h.pending t.moved (slice_index bytes))) d a d.memory _ port slot _ (record {
           id = h.pending.request.id;
           goes = touch_goes m h.pending t.moved (slice_index bytes);
           moves = moves_on Write writes tt refl sector inside;
@@ -327,12 +327,12 @@ module _ (uses : SlotStates) (m : Machine) (d : Device) (a : StateRelation uses 
           name = refl;
           size = refl;
           sectors = λ t'. subst (λ (k : ℕ). SameSectors (after_step m (Touch h.pending t.moved (slice_index bytes))) (disk_with_sector (d.port port).disk k bytes) port) (sym sector)
-              (sector_written m (after_step m (Touch h.pending t.moved (slice_index bytes))) (d.port port).disk port (sector_of h.pending.request t.moved) bytes (h.pending.request.held_blocks t.moved) (λ k b. now (port_at port) k b) holds (a.sectors_are_same t' port));
+              (sector_written m (after_step m (Touch h.pending t.moved (slice_index bytes))) (d.port port).disk port (sector_of h.pending.request t.moved) bytes (h.pending.request.blocks_at_acceptance t.moved) (λ k b. now (port_at port) k b) holds (a.sectors_are_same t' port));
           other_sectors = λ t' q ne. sectors_on m (after_step m (Touch h.pending t.moved (slice_index bytes))) (d.port q).disk q
-              (λ k b lb. now (port_at q) k b ∙ ap (λ (f : Block). f b) (put_elsewhere (port_at port) (sector_of h.pending.request t.moved) (h.pending.request.held_blocks t.moved) m.disks (port_at q) k (λ z _. ne z))) (a.sectors_are_same t' q);
-          lasting = λ t'. lasting_on m (after_step m (Touch h.pending t.moved (slice_index bytes))) d.tape _ (d.port port) (d.port port) port refl refl (lasting_touched m h.pending t.moved (slice_index bytes) port) (gains_write d.tape (after_step m (Touch h.pending t.moved (slice_index bytes))) port slot t bytes port written) (a.has_lasting t' port);
-          other_lasting = λ t' q ne. lasting_on m (after_step m (Touch h.pending t.moved (slice_index bytes))) d.tape _ (d.port q) (d.port q) q refl refl (lasting_touched m h.pending t.moved (slice_index bytes) q) (gains_write d.tape (after_step m (Touch h.pending t.moved (slice_index bytes))) port slot t bytes q written) (a.has_lasting t' q);
-          memory = λ f b from small. a.memory_is_same f b from small ∙ ap (λ (g : state.Memory). g f b) (sym memory_kept);
+              (λ k b lb. now (port_at q) k b ∙ ap (λ (f : Block). f b) (put_elsewhere (port_at port) (sector_of h.pending.request t.moved) (h.pending.request.blocks_at_acceptance t.moved) m.disk_bytes (port_at q) k (λ z _. ne z))) (a.sectors_are_same t' q);
+          lasting = λ t'. lasting_on m (after_step m (Touch h.pending t.moved (slice_index bytes))) d.tape _ (d.port port) (d.port port) port refl refl (lasting_touched m h.pending t.moved (slice_index bytes) port) (gains_write d.tape (after_step m (Touch h.pending t.moved (slice_index bytes))) port slot t bytes port written) (a.holds_replug_candidates t' port);
+          other_lasting = λ t' q ne. lasting_on m (after_step m (Touch h.pending t.moved (slice_index bytes))) d.tape _ (d.port q) (d.port q) q refl refl (lasting_touched m h.pending t.moved (slice_index bytes) q) (gains_write d.tape (after_step m (Touch h.pending t.moved (slice_index bytes))) port slot t bytes q written) (a.holds_replug_candidates t' q);
+          memory = λ f b from small. a.client_frames_are_same f b from small ∙ ap (λ (g : state.Memory). g f b) (sym memory_kept);
         });
       }
         where
@@ -340,19 +340,19 @@ module _ (uses : SlotStates) (m : Machine) (d : Device) (a : StateRelation uses 
           write_is_no_read z = absurd cc
 
           -- the machine's disk holds what was moved
-          written : (b : ℕ) → b < 512 → slice_index bytes b ≡ (after_step m (Touch h.pending t.moved (slice_index bytes))).disks (port_at port) (next_sector t) b
+          written : (b : ℕ) → b < 512 → slice_index bytes b ≡ (after_step m (Touch h.pending t.moved (slice_index bytes))).disk_bytes (port_at port) (next_sector t) b
           written b lb =
               holds b lb
-              ∙ ap (λ (f : Block). f b) (sym (put_there (port_at port) (sector_of h.pending.request t.moved) (h.pending.request.held_blocks t.moved) m.disks))
+              ∙ ap (λ (f : Block). f b) (sym (put_there (port_at port) (sector_of h.pending.request t.moved) (h.pending.request.blocks_at_acceptance t.moved) m.disk_bytes))
               ∙ sym (now (port_at port) (sector_of h.pending.request t.moved) b)
-              ∙ ap (λ (k : ℕ). (after_step m (Touch h.pending t.moved (slice_index bytes))).disks (port_at port) k b) (sym sector)
+              ∙ ap (λ (k : ℕ). (after_step m (Touch h.pending t.moved (slice_index bytes))).disk_bytes (port_at port) k b) (sym sector)
 
     -- ---- a trim's block
 
-    module _ (trims : h.pending.request.asked.op ≡ Trim) (o : op_of t.meaning.operation ≡ Some Trim) (brings : bytes ≡ bytes_at d.memory (next_place t) 512) where
-      trim_place : (t.places ≡ scratch_of port ∷ []) × (t.moved ≡ 0) × (next_place t ≡ scratch_of port)
+    module _ (trims : h.pending.request.asked.op ≡ Trim) (o : client_operation_of t.meaning.operation ≡ Some Trim) (brings : bytes ≡ bytes_at d.memory (next_place t) 512) where
+      trim_place : (t.places ≡ scratch_frame_address port ∷ []) × (t.moved ≡ 0) × (next_place t ≡ scratch_frame_address port)
       trim_place =
-          let is : t.places ≡ scratch_of port ∷ [] = subst (λ (w : Op). AreRequestPlaces w port h.pending.request t.places) trims means.places_are in
+          let is : t.places ≡ scratch_frame_address port ∷ [] = subst (λ (w : Op). AreRequestPlaces w port h.pending.request t.places) trims means.places_are in
           let one : t.moved ≡ 0 = let n : length t.places ≡ 1 = ap length is in omega (arith, left, n) in
           (is, one, ap (λ (k : ℕ). slice_index t.places k) one ∙ ap (λ (l : List ℕ). slice_index l 0) is)
 
@@ -361,7 +361,7 @@ module _ (uses : SlotStates) (m : Machine) (d : Device) (a : StateRelation uses 
 
       names : MeansRange bytes h.pending.request
       names = ⊎_elim
-          (λ (y : (t.moved ≡ 0) × (t.cleared ≡ 0) × MeansRange (bytes_at d.memory (scratch_of port) 512) h.pending.request).
+          (λ (y : (t.moved ≡ 0) × (t.cleared ≡ 0) × MeansRange (bytes_at d.memory (scratch_frame_address port) 512) h.pending.request).
           subst (λ (l : List ℕ). MeansRange l h.pending.request) (ap (λ (k : ℕ). bytes_at d.memory k 512) (sym trim_place.2) ∙ sym brings) y.2)
           (λ (y : (t.moved ≡ 1) × MeansRange t.block h.pending.request). absurd (let z : t.moved ≡ 0 = trim_place.1 in omega (arith, z, y.0)))
           was.1
@@ -376,14 +376,14 @@ module _ (uses : SlotStates) (m : Machine) (d : Device) (a : StateRelation uses 
       })
       block_follows = record {
         steps = [];
-        may = tt;
-        telling = refl;
+        steps_are_enabled = tt;
+        telling_is_same = refl;
         steps_are_faithful = λ _. tt;
         new_entries = _;
         tape_is = refl;
         tape_tells_steps = ([], [], subst (λ (w : Option Op). TellsMove w m (move_of port slot t bytes) []) (sym o) (trim_place.2, refl), refl, refl);
-        plugged = plugged_kept d port _ [] refl (λ _. refl);
-        agrees = acted NoPort uses m m d a d.memory (d.tape ++ entry.Move (move_of port slot t bytes) ∷ []) port slot _ (record {
+        plugged_disks_match_steps = plugged_kept d port _ [] refl (λ _. refl);
+        state_relation = acted NoPort uses m m d a d.memory (d.tape ++ entry.Move (move_of port slot t bytes) ∷ []) port slot _ (record {
           id = record { 0 = 0 };
           goes = Goes-refl m (record { 0 = 0 });
           moves = λ port' slot' id' v ne y is r. r;
@@ -399,9 +399,9 @@ module _ (uses : SlotStates) (m : Machine) (d : Device) (a : StateRelation uses 
           size = refl;
           sectors = λ t'. a.sectors_are_same t' port;
           other_sectors = λ t' q ne. a.sectors_are_same t' q;
-          lasting = λ t'. lasting_on m m d.tape _ (d.port port) (d.port port) port refl refl (λ _ _ held. held) (gains_quiet d.tape _ m port (quiet_move port slot t bytes (no_write o))) (a.has_lasting t' port);
-          other_lasting = λ t' q ne. lasting_on m m d.tape _ (d.port q) (d.port q) q refl refl (λ _ _ held. held) (gains_quiet d.tape _ m q (quiet_move port slot t bytes (no_write o))) (a.has_lasting t' q);
-          memory = a.memory_is_same;
+          lasting = λ t'. lasting_on m m d.tape _ (d.port port) (d.port port) port refl refl (λ _ _ held. held) (gains_quiet d.tape _ m port (quiet_move port slot t bytes (no_write o))) (a.holds_replug_candidates t' port);
+          other_lasting = λ t' q ne. lasting_on m m d.tape _ (d.port q) (d.port q) q refl refl (λ _ _ held. held) (gains_quiet d.tape _ m q (quiet_move port slot t bytes (no_write o))) (a.holds_replug_candidates t' q);
+          memory = a.client_frames_are_same;
         });
       }
         where

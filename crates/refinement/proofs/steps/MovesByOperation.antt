@@ -16,8 +16,8 @@ use Rattle.adapter.proofs.Changed.{changed_same, changed_other}
 use Rattle.adapter.proofs.MemoryLemmas.{patched_bytes}
 use Rattle.block_machine.specs.State.{Machine}
 use Rattle.block_machine.specs.Histories.{IsReachable}
-use Rattle.refinement.specs.MemoryLayout.{scratch_of}
-use Rattle.refinement.specs.Slots.{SlotState, Free, Own, Serves, SlotStates, AreRequestPlaces, ServesRequest, PageStandsInScratch, OwnAwaitsFetch, OwnIsTaken, OwnIsOver, ServesOwn, RelatesSlot, op_of, Armed}
+use Rattle.refinement.specs.MemoryLayout.{scratch_frame_address}
+use Rattle.refinement.specs.Slots.{SlotState, Free, Own, Serves, SlotStates, AreRequestPlaces, ServesRequest, PageStandsInScratch, OwnAwaitsFetch, OwnIsTaken, OwnIsOver, ServesOwn, RelatesSlot, client_operation_of, Armed}
 use Rattle.refinement.specs.Relation.{StateRelation}
 use Rattle.refinement.specs.Tape.{TellsMove}
 use Rattle.refinement.specs.Simulation.{SimulatesSteps}
@@ -43,9 +43,9 @@ client_move : (uses : SlotStates) (m : Machine) (d : Device) (a : StateRelation 
     → TakenAs d.memory (d.port port) port slot h.pending h.command h.places (taken_of o first count places moved block cleared)
     → SimulatesSteps uses m d (device_after (Move port slot (taken_of o first count places moved block cleared) bytes) d)
 client_move uses m d a reached port slot id u h bytes operation.Identify first count places moved block cleared can x =
-    none_op (ap (λ (c : Meaning). op_of c.operation) x.meaning ∙ h.means.op_is)
+    none_op (ap (λ (c : Meaning). client_operation_of c.operation) x.meaning ∙ h.means.op_is)
 client_move uses m d a reached port slot id u h bytes operation.ReadLog first count places moved block cleared can x =
-    none_op (ap (λ (c : Meaning). op_of c.operation) x.meaning ∙ h.means.op_is)
+    none_op (ap (λ (c : Meaning). client_operation_of c.operation) x.meaning ∙ h.means.op_is)
 client_move uses m d a reached port slot id u h bytes operation.Flush first count places moved block cleared can x =
     let w = means_taken port slot h.pending.request h.command (record { operation = operation.Flush; first = first; count = count }) h.places places x.meaning x.places_are h.means in
     absurd (let op : Flush ≡ h.pending.request.asked.op = op_same w.op_is in
@@ -76,13 +76,13 @@ client_move uses m d a reached port slot id u h bytes operation.Trim first count
 -- a move of a command of the driver's own: a page into the scratch frame
 module _ (uses : SlotStates) (m : Machine) (d : Device) (a : StateRelation uses m d) (port slot : ℕ) (o : Operation) (u : uses port slot ≡ Own o) (h : ServesOwn d.memory d.tape (d.port port) port slot o) where
   module _ (t : FetchedCommand) (x : OwnIsTaken d.memory d.tape (d.port port) port slot h.command) (is : x.command ≡ t) (bytes : List ℕ) (left : t.moved < length t.places) (size : length bytes ≡ 512) where
-    places_are : t.places ≡ scratch_of port ∷ []
+    places_are : t.places ≡ scratch_frame_address port ∷ []
     places_are = ap (λ (y : FetchedCommand). y.places) (sym is) ∙ x.places_are
 
     none_moved : t.moved ≡ 0
     none_moved = let n : length t.places ≡ 1 = ap length places_are in omega (arith, left, n)
 
-    place : next_place t ≡ scratch_of port
+    place : next_place t ≡ scratch_frame_address port
     place = ap (λ (k : ℕ). slice_index t.places k) none_moved ∙ ap (λ (l : List ℕ). slice_index l 0) places_are
 
     operation_is : t.meaning.operation ≡ o
@@ -108,8 +108,8 @@ module _ (uses : SlotStates) (m : Machine) (d : Device) (a : StateRelation uses 
       later = [];
       tape_is_split = refl;
       is_move = (refl, operation_is ∙ sym h.operation_is);
-      last = λ k e small. absurd (omega (arith, small));
-      bytes = ap (λ (n : ℕ). bytes_at (patched d.memory (next_place t) bytes) (scratch_of port) n) (sym size)
+      no_later_move = λ k e small. absurd (omega (arith, small));
+      scratch_holds_page = ap (λ (n : ℕ). bytes_at (patched d.memory (next_place t) bytes) (scratch_frame_address port) n) (sym size)
           ∙ ap (λ (at : ℕ). bytes_at (patched d.memory (next_place t) bytes) at (length bytes)) (sym place)
           ∙ patched_bytes d.memory (next_place t) bytes;
     }
@@ -118,7 +118,7 @@ module _ (uses : SlotStates) (m : Machine) (d : Device) (a : StateRelation uses 
     no_write r w = let z : None ≡ Some Write = sym r ∙ w in cc
 
     quiet : IsQuiet (entry.Move (move_of port slot t bytes))
-    quiet = quiet_move port slot t bytes (no_write (ap op_of operation_is ∙ h.own))
+    quiet = quiet_move port slot t bytes (no_write (ap client_operation_of operation_is ∙ h.operation_is_drivers_own))
 
     used : uses port slot ≡ Free → ⊥
     used f = let z : Own o ≡ Free = sym u ∙ f in cc
@@ -130,14 +130,14 @@ module _ (uses : SlotStates) (m : Machine) (d : Device) (a : StateRelation uses 
     })
     page_follows = record {
       steps = [];
-      may = tt;
-      telling = refl;
+      steps_are_enabled = tt;
+      telling_is_same = refl;
       steps_are_faithful = λ _. tt;
       new_entries = _;
       tape_is = refl;
-      tape_tells_steps = ([], [], subst (λ (w : Option Op). TellsMove w m (move_of port slot t bytes) []) (sym (ap op_of operation_is ∙ h.own)) (place, refl), refl, refl);
-      plugged = plugged_kept d port _ [] refl (λ _. refl);
-      agrees = acted Here uses m m d a (patched d.memory (next_place t) bytes) (d.tape ++ entry.Move (move_of port slot t bytes) ∷ []) port slot _ (record {
+      tape_tells_steps = ([], [], subst (λ (w : Option Op). TellsMove w m (move_of port slot t bytes) []) (sym (ap client_operation_of operation_is ∙ h.operation_is_drivers_own)) (place, refl), refl, refl);
+      plugged_disks_match_steps = plugged_kept d port _ [] refl (λ _. refl);
+      state_relation = acted Here uses m m d a (patched d.memory (next_place t) bytes) (d.tape ++ entry.Move (move_of port slot t bytes) ∷ []) port slot _ (record {
         id = record { 0 = 0 };
         goes = Goes-refl m (record { 0 = 0 });
         moves = λ port' slot' id' v ne y is r. r;
@@ -146,12 +146,12 @@ module _ (uses : SlotStates) (m : Machine) (d : Device) (a : StateRelation uses 
         others = λ k ne. record { issued = refl; sact = refl; taken = changed_other (d.port port).taken slot _ k ne; st = refl; cr = refl; since = refl; list = refl };
         here = subst (λ (v : SlotState). RelatesSlot m (patched d.memory (next_place t) bytes) (d.tape ++ entry.Move (move_of port slot t bytes) ∷ []) (record (d.port port) { taken = changed (d.port port).taken slot (Some (record t { moved = t.moved + 1 })); disk = (d.port port).disk }) port slot v) (sym u)
             (record {
-              own = h.own;
+              operation_is_drivers_own = h.operation_is_drivers_own;
               slot_is_0 = h.slot_is_0;
               list_is_in_place = placed_on (d.port port) _ port slot refl h.list_is_in_place;
               command = h.command;
               operation_is = h.operation_is;
-              slot_decodes_to = told_on d.memory (patched d.memory (next_place t) bytes) (d.port port).bases.clb (d.port port).bases.clb port slot h.command (scratch_of port ∷ []) h.list_is_in_place.list refl
+              slot_decodes_to = told_on d.memory (patched d.memory (next_place t) bytes) (d.port port).bases.clb (d.port port).bases.clb port slot h.command (scratch_frame_address port ∷ []) h.list_is_in_place.list refl
                   (fixed.tables port slot used h.list_is_in_place.port_below h.list_is_in_place.slot_below) h.slot_decodes_to;
               unqueued = h.unqueued;
               st_set_is_on_tape = known_on d.tape (entry.Move (move_of port slot t bytes) ∷ []) (d.port port).notes.st_set_at h.st_set_is_on_tape;
@@ -172,13 +172,13 @@ module _ (uses : SlotStates) (m : Machine) (d : Device) (a : StateRelation uses 
         size = refl;
         sectors = λ t'. a.sectors_are_same t' port;
         other_sectors = λ t' q ne. a.sectors_are_same t' q;
-        lasting = λ t'. lasting_on m m d.tape _ (d.port port) (d.port port) port refl refl (λ _ _ held. held) (gains_quiet d.tape _ m port quiet) (a.has_lasting t' port);
-        other_lasting = λ t' q ne. lasting_on m m d.tape _ (d.port q) (d.port q) q refl refl (λ _ _ held. held) (gains_quiet d.tape _ m q quiet) (a.has_lasting t' q);
-        memory = memory_low m d.memory (next_place t) bytes (let below = h.list_is_in_place.port_below in let p = place in omega (arith, p, size, below)) a.memory_is_same;
+        lasting = λ t'. lasting_on m m d.tape _ (d.port port) (d.port port) port refl refl (λ _ _ held. held) (gains_quiet d.tape _ m port quiet) (a.holds_replug_candidates t' port);
+        other_lasting = λ t' q ne. lasting_on m m d.tape _ (d.port q) (d.port q) q refl refl (λ _ _ held. held) (gains_quiet d.tape _ m q quiet) (a.holds_replug_candidates t' q);
+        memory = memory_low m d.memory (next_place t) bytes (let below = h.list_is_in_place.port_below in let p = place in omega (arith, p, size, below)) a.client_frames_are_same;
       });
     }
 
-  own_by : (bytes : List ℕ) (w : Operation) (first count : ℕ) (places : List ℕ) (moved : ℕ) (block : List ℕ) (cleared : ℕ) → op_of w ≡ None
+  own_by : (bytes : List ℕ) (w : Operation) (first count : ℕ) (places : List ℕ) (moved : ℕ) (block : List ℕ) (cleared : ℕ) → client_operation_of w ≡ None
       → MayMove d port slot (taken_of w first count places moved block cleared) bytes
       → (x : OwnIsTaken d.memory d.tape (d.port port) port slot h.command) → x.command ≡ taken_of w first count places moved block cleared
       → SimulatesSteps uses m d (device_after (Move port slot (taken_of w first count places moved block cleared) bytes) d)
@@ -195,12 +195,12 @@ module _ (uses : SlotStates) (m : Machine) (d : Device) (a : StateRelation uses 
 
   own_follows : (t : FetchedCommand) (bytes : List ℕ) → MayMove d port slot t bytes →
       OwnAwaitsFetch (d.port port) slot ⊎ (OwnIsTaken d.memory d.tape (d.port port) port slot h.command ⊎ OwnIsOver d.memory d.tape (d.port port) port slot h.command) → SimulatesSteps uses m d (device_after (Move port slot t bytes) d)
-  own_follows t bytes can (inl x) = some_none can.works.taken x.free
+  own_follows t bytes can (inl x) = some_none can.works.taken x.is_not_taken
   own_follows t bytes can (inr (inl x)) =
       let e : x.command ≡ t = some_same (sym x.taken ∙ can.works.taken) in
       own_by bytes t.meaning.operation t.meaning.first t.meaning.count t.places t.moved t.block t.cleared
-      (ap (λ (y : FetchedCommand). op_of y.meaning.operation) (sym e) ∙ ap (λ (c : Meaning). op_of c.operation) x.meaning ∙ ap op_of h.operation_is ∙ h.own) can x e
-  own_follows t bytes can (inr (inr x)) = some_none can.works.taken x.over.free
+      (ap (λ (y : FetchedCommand). client_operation_of y.meaning.operation) (sym e) ∙ ap (λ (c : Meaning). client_operation_of c.operation) x.meaning ∙ ap client_operation_of h.operation_is ∙ h.operation_is_drivers_own) can x e
+  own_follows t bytes can (inr (inr x)) = some_none can.works.taken x.over.is_not_taken
 
 -- every move
 pub move_follows : (uses : SlotStates) (m : Machine) (d : Device) (a : StateRelation uses m d) → IsReachable m → (port slot : ℕ) (t : FetchedCommand) (bytes : List ℕ) → MayMove d port slot t bytes →
@@ -208,8 +208,8 @@ pub move_follows : (uses : SlotStates) (m : Machine) (d : Device) (a : StateRela
 move_follows uses m d a reached port slot t bytes can = by (uses port slot) refl (a.relates_slots port slot)
   where
     by : (v : SlotState) → uses port slot ≡ v → RelatesSlot m d.memory d.tape (d.port port) port slot v → SimulatesSteps uses m d (device_after (Move port slot t bytes) d)
-    by Free u h = some_none can.works.taken h.free
-    by Armed u h = some_none can.works.taken h.free
+    by Free u h = some_none can.works.taken h.is_not_taken
+    by Armed u h = some_none can.works.taken h.is_not_taken
     by (Own o) u h = own_follows uses m d a port slot o u h t bytes can h.stage
     by (Serves id) u h =
         client_move uses m d a reached port slot id u h bytes t.meaning.operation t.meaning.first t.meaning.count t.places t.moved t.block t.cleared can

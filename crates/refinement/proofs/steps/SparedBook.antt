@@ -7,7 +7,7 @@ use Rattle.ata_types.specs.declared.request.Frame.{Frame}
 use Rattle.ata_types.specs.declared.request.RequestId.{RequestId}
 use Rattle.adapter.specs.Device.{Device}
 use Rattle.block_machine.specs.State.{Accepted, Block, Memory, Pending, Machine, frame_at, unanswered, is_reader}
-use Rattle.block_machine.specs.Steps.{Step, Accept, Issue, Touch, End, Age, WaitAgain, Answer, Revoke, Release, Unplug, Replace, Store, Load, IsEnabled, MayStillMove, NoneQuarantined, after_step, update_pending, touch, mark_ended, put_bytes, memory_after}
+use Rattle.block_machine.specs.Steps.{Step, Accept, Issue, Touch, End, Age, WaitAgain, Answer, Revoke, Release, Unplug, Replace, Store, Load, IsEnabled, MayStillMove, NoneKept, after_step, update_pending, touch, mark_ended, put_bytes, memory_after_touch}
 use Rattle.block_machine.specs.Expected.{after}
 use Rattle.block_machine.specs.Events.{IsByDevice, AllByDevice, AllEnabled}
 use Rattle.block_machine.specs.Histories.{IsReachable}
@@ -19,7 +19,7 @@ use Rattle.block_machine.proofs.Standing.{standing}
 use Rattle.block_machine.proofs.Trace.{runs_lives}
 use Rattle.refinement.specs.Simulation.{SimulatesSteps}
 use Rattle.refinement.specs.Slots.{SlotStates}
-use Rattle.refinement.specs.SparedBook.{IsFurther, AllFurther, SparesBook}
+use Rattle.refinement.specs.SparedBook.{IsFurther, AllFurther, KeepsBookAndLoans}
 use Rattle.refinement.proofs.steps.WaitingRequests.{tells_device}
 
 -- ---- requests
@@ -65,25 +65,25 @@ all_at f on id (e ∷ es) = (one, all_at f on id es)
 
 -- ---- steps
 
-pub spares_refl : (m : Machine) → SparesBook m m
-spares_refl m = record { rows = refl; owner = refl; lent = refl; next = refl; book = all_refl m.book; kept = all_refl m.kept }
+pub spares_refl : (m : Machine) → KeepsBookAndLoans m m
+spares_refl m = record { rows = refl; owner = refl; lent = refl; next_id = refl; book = all_refl m.book; kept = all_refl m.kept }
 
-pub spares_more : (a b c : Machine) → SparesBook a b → SparesBook b c → SparesBook a c
+pub spares_more : (a b c : Machine) → KeepsBookAndLoans a b → KeepsBookAndLoans b c → KeepsBookAndLoans a c
 spares_more a b c x y = record {
   rows = y.rows ∙ x.rows;
   owner = y.owner ∙ x.owner;
   lent = y.lent ∙ x.lent;
-  next = y.next ∙ x.next;
+  next_id = y.next_id ∙ x.next_id;
   book = all_more a.book b.book c.book x.book y.book;
   kept = all_more a.kept b.kept c.kept x.kept y.kept;
 }
 
-step_spares : (m : Machine) (step : Step) → IsByDevice step → SparesBook m (after_step m step)
+step_spares : (m : Machine) (step : Step) → IsByDevice step → KeepsBookAndLoans m (after_step m step)
 step_spares m (Touch e i block) is = record {
   rows = refl;
   owner = refl;
   lent = refl;
-  next = refl;
+  next_id = refl;
   book = all_at (touch i) (touch_further i) e.request.id m.book;
   kept = all_at (touch i) (touch_further i) e.request.id m.kept;
 }
@@ -91,12 +91,12 @@ step_spares m (End e) is = record {
   rows = refl;
   owner = refl;
   lent = refl;
-  next = refl;
+  next_id = refl;
   book = all_at mark_ended ended_further e.request.id m.book;
   kept = all_at mark_ended ended_further e.request.id m.kept;
 }
-step_spares m (Unplug port) is = record { rows = refl; owner = refl; lent = refl; next = refl; book = all_refl m.book; kept = all_refl m.kept }
-step_spares m (Replace port id size disk) is = record { rows = refl; owner = refl; lent = refl; next = refl; book = all_refl m.book; kept = all_refl m.kept }
+step_spares m (Unplug port) is = record { rows = refl; owner = refl; lent = refl; next_id = refl; book = all_refl m.book; kept = all_refl m.kept }
+step_spares m (Replace port id size disk) is = record { rows = refl; owner = refl; lent = refl; next_id = refl; book = all_refl m.book; kept = all_refl m.kept }
 step_spares m (Accept r) is = absurd is
 step_spares m (Issue mode e) is = absurd is
 step_spares m (Age ready) is = absurd is
@@ -107,7 +107,7 @@ step_spares m Release is = absurd is
 step_spares m (Store client frame offset bytes) is = absurd is
 step_spares m (Load client frame offset bytes) is = absurd is
 
-pub steps_spare : (m : Machine) (steps : List Step) → AllByDevice steps → SparesBook m (after m steps)
+pub steps_spare : (m : Machine) (steps : List Step) → AllByDevice steps → KeepsBookAndLoans m (after m steps)
 steps_spare m [] is = spares_refl m
 steps_spare m (step ∷ before) is =
     spares_more m (after m before) (after m (step ∷ before)) (steps_spare m before is.0) (step_spares (after m before) step is.1)
@@ -146,7 +146,7 @@ found_before (x ∷ xs) (y ∷ ys) e a i = ⊎_elim
 abbrev IsUnmoved : Machine → Frame → Type 0
 IsUnmoved m frame = (e : Pending) → MayStillMove m e → m.lent frame ≡ Some e.request.id → ⊥
 
-unmoved_on : (m n : Machine) (frame : Frame) → SparesBook m n → IsUnmoved m frame → IsUnmoved n frame
+unmoved_on : (m n : Machine) (frame : Frame) → KeepsBookAndLoans m n → IsUnmoved m frame → IsUnmoved n frame
 unmoved_on m n frame s none e may lent = ⊎_elim
     (λ (z : Contains n.book e × (e.issued ≡ true)).
     let q = found_before m.book n.book e s.book z.0 in
@@ -161,7 +161,7 @@ touch_leaves : (m : Machine) → Sound m → (e : Pending) (i : ℕ) (block : Bl
     (after_step m (Touch e i block)).memory frame b ≡ m.memory frame b
 touch_leaves m s e i block may frame none b = by (is_reader e.request.asked.op) refl
   where
-    by : (t : Bool) → is_reader e.request.asked.op ≡ t → memory_after e.request i block m.memory frame b ≡ m.memory frame b
+    by : (t : Bool) → is_reader e.request.asked.op ≡ t → memory_after_touch e.request i block m.memory frame b ≡ m.memory frame b
     by false t = ap (λ (x : Memory). x frame b) (cond-false (is_reader e.request.asked.op) (put_bytes (frame_at e.request.asked.frames.items (i / 8)) (512 * (i % 8)) 512 block m.memory) m.memory t)
     by true t =
         let l = runs_lives m e may.0 in
@@ -194,14 +194,14 @@ frames_stay m (step ∷ before) frame r is may none b =
 
 -- ---- a machine that follows
 
-pub follows_spare : (uses : SlotStates) (m : Machine) (old new : Device) → (f : SimulatesSteps uses m old new) → SparesBook m (after m f.steps)
+pub follows_spare : (uses : SlotStates) (m : Machine) (old new : Device) → (f : SimulatesSteps uses m old new) → KeepsBookAndLoans m (after m f.steps)
 follows_spare uses m old new f = steps_spare m f.steps (tells_device m f.new_entries f.steps f.tape_tells_steps)
 
 -- where no request of the port is kept, none is later
-pub none_kept_on : (m n : Machine) (port : Port) → SparesBook m n → NoneQuarantined m port → NoneQuarantined n port
+pub none_kept_on : (m n : Machine) (port : Port) → KeepsBookAndLoans m n → NoneKept m port → NoneKept n port
 none_kept_on m n port s none e i is =
     let q = found_before m.kept n.kept e s.kept i in
     none q.0 q.1 (ap (λ (r : Accepted). r.port) (sym q.2.request) ∙ is)
 
-pub none_kept_after : (m : Machine) (steps : List Step) (port : Port) → AllByDevice steps → NoneQuarantined m port → NoneQuarantined (after m steps) port
+pub none_kept_after : (m : Machine) (steps : List Step) (port : Port) → AllByDevice steps → NoneKept m port → NoneKept (after m steps) port
 none_kept_after m steps port device none = none_kept_on m (after m steps) port (steps_spare m steps device) none

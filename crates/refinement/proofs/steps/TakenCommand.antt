@@ -6,15 +6,15 @@ use Rattle.adapter.specs.Commands.{Meaning, is_queued}
 use Rattle.adapter.specs.Memory.{changed}
 use Rattle.adapter.specs.Device.{Device}
 use Rattle.adapter.specs.Decoding.{DecodesTo}
-use Rattle.adapter.specs.Steps.{device_after, IsFetchable, MayFetch, MayFetchFault, port_after_fetch, begun}
+use Rattle.adapter.specs.Steps.{device_after, IsFetchable, MayFetch, MayFetchFault, port_after_fetch, newly_fetched}
 use Rattle.adapter.specs.Steps.DeviceTransition.{Fetch}
 use Rattle.adapter.specs.declared.command.Operation.{Operation}
 use Rattle.adapter.specs.declared.command.Operation.TheVariants as operation
 use Rattle.adapter.proofs.Changed.{changed_same, changed_other}
 use Rattle.adapter.proofs.SaysLemmas.{says_meaning, says_places}
 use Rattle.block_machine.specs.State.{Pending, Machine}
-use Rattle.refinement.specs.MemoryLayout.{scratch_of}
-use Rattle.refinement.specs.Slots.{SlotState, Free, Own, Serves, SlotStates, TouchedAsMoved, HasTrimBlock, TouchedUpTo, IsInSomeStage, OwnAwaitsFetch, OwnIsTaken, OwnIsOver, RelatesSlot, op_of, Armed}
+use Rattle.refinement.specs.MemoryLayout.{scratch_frame_address}
+use Rattle.refinement.specs.Slots.{SlotState, Free, Own, Serves, SlotStates, TouchedAsMoved, HasBlockIfTrim, TouchedUpTo, IsInSomeStage, OwnAwaitsFetch, OwnIsTaken, OwnIsOver, RelatesSlot, client_operation_of, Armed}
 use Rattle.refinement.specs.Relation.{StateRelation}
 use Rattle.refinement.specs.Simulation.{SimulatesSteps}
 use Rattle.refinement.proofs.relation.SlotRelation.{SameFixed-refl, NoPort, placed_on}
@@ -26,7 +26,7 @@ pub none_op : {A : Type 0} {o : Op} → None ≡ Some o → A
 none_op e = absurd cc
 
 -- none of the driver's own commands is queued
-pub own_plain : (o : Operation) → op_of o ≡ None → is_queued o ≡ false
+pub own_plain : (o : Operation) → client_operation_of o ≡ None → is_queued o ≡ false
 own_plain operation.Identify e = refl
 own_plain operation.ReadLog e = refl
 own_plain operation.Flush e = refl
@@ -46,8 +46,8 @@ other_if true f slot k ne = changed_other f slot false k ne
 other_if false f slot k ne = refl
 
 -- nothing moved yet
-started : (op : Op) (memory : ℕ → ℕ) (port : ℕ) (e : Pending) (c : Meaning) (places : List ℕ) → HasTrimBlock op memory port e.request → TouchedUpTo e.touched 0 →
-    TouchedAsMoved op memory port e (begun c places)
+started : (op : Op) (memory : ℕ → ℕ) (port : ℕ) (e : Pending) (c : Meaning) (places : List ℕ) → HasBlockIfTrim op memory port e.request → TouchedUpTo e.touched 0 →
+    TouchedAsMoved op memory port e (newly_fetched c places)
 started Read memory port e c places block none = none
 started Write memory port e c places block none = none
 started Trim memory port e c places block none = (none, inl (refl, refl, block))
@@ -56,9 +56,9 @@ started Flush memory port e c places block none = tt
 module _ (uses : SlotStates) (m : Machine) (d : Device) (a : StateRelation uses m d) (port slot : ℕ) where
   -- what waits there says a command
   waiting : (u : SlotState) → RelatesSlot m d.memory d.tape (d.port port) port slot u → IsFetchable (d.port port) slot → (c : Meaning) × (places : List ℕ) × DecodesTo d.memory (d.port port).bases.clb slot c places
-  waiting Free h w = true_false w.issued h.issued
-  waiting Armed h w = true_false w.issued h.issued
-  waiting (Own o) h w = (h.command, scratch_of port ∷ [], h.slot_decodes_to.decodes_to)
+  waiting Free h w = true_false w.issued h.is_not_issued
+  waiting Armed h w = true_false w.issued h.is_not_issued
+  waiting (Own o) h w = (h.command, scratch_frame_address port ∷ [], h.slot_decodes_to.decodes_to)
   waiting (Serves id) h w = (h.command, h.places, h.slot_decodes_to.decodes_to)
 
   -- no issued command is refused for its bytes
@@ -68,10 +68,10 @@ module _ (uses : SlotStates) (m : Machine) (d : Device) (a : StateRelation uses 
 
   module _ (c : Meaning) (places : List ℕ) (can : MayFetch d port slot c places) where
     fetch_slot : (u : SlotState) → RelatesSlot m d.memory d.tape (d.port port) port slot u → RelatesSlot m d.memory d.tape (port_after_fetch (d.port port) slot c places) port slot u
-    fetch_slot Free h = true_false can.fetchable.issued h.issued
-    fetch_slot Armed h = true_false can.fetchable.issued h.issued
+    fetch_slot Free h = true_false can.fetchable.issued h.is_not_issued
+    fetch_slot Armed h = true_false can.fetchable.issued h.is_not_issued
     fetch_slot (Own o) h = record {
-      own = h.own;
+      operation_is_drivers_own = h.operation_is_drivers_own;
       slot_is_0 = h.slot_is_0;
       list_is_in_place = placed_on (d.port port) _ port slot refl h.list_is_in_place;
       command = h.command;
@@ -83,10 +83,10 @@ module _ (uses : SlotStates) (m : Machine) (d : Device) (a : StateRelation uses 
     }
       where
         same : c ≡ h.command
-        same = says_meaning d.memory (d.port port).bases.clb slot c h.command places (scratch_of port ∷ []) can.says h.slot_decodes_to.decodes_to
+        same = says_meaning d.memory (d.port port).bases.clb slot c h.command places (scratch_frame_address port ∷ []) can.says h.slot_decodes_to.decodes_to
 
         plain : is_queued c.operation ≡ false
-        plain = own_plain c.operation (ap (λ (x : Meaning). op_of x.operation) same ∙ ap op_of h.operation_is ∙ h.own)
+        plain = own_plain c.operation (ap (λ (x : Meaning). client_operation_of x.operation) same ∙ ap client_operation_of h.operation_is ∙ h.operation_is_drivers_own)
 
         own : OwnAwaitsFetch (d.port port) slot ⊎ (OwnIsTaken d.memory d.tape (d.port port) port slot h.command ⊎ OwnIsOver d.memory d.tape (d.port port) port slot h.command)
             → OwnAwaitsFetch (port_after_fetch (d.port port) slot c places) slot ⊎ (OwnIsTaken d.memory d.tape (port_after_fetch (d.port port) slot c places) port slot h.command ⊎ OwnIsOver d.memory d.tape (port_after_fetch (d.port port) slot c places) port slot h.command)
@@ -95,13 +95,13 @@ module _ (uses : SlotStates) (m : Machine) (d : Device) (a : StateRelation uses 
               command = _;
               taken = changed_same (d.port port).taken slot _;
               meaning = same;
-              places_are = says_places d.memory (d.port port).bases.clb slot c h.command places (scratch_of port ∷ []) can.says h.slot_decodes_to.decodes_to;
-              running = can.working.running;
-              issued = fallen_if (is_queued c.operation) (d.port port).ci slot can.fetchable.issued ∙ ap not plain ∙ sym can.fetchable.st;
+              places_are = says_places d.memory (d.port port).bases.clb slot c h.command places (scratch_frame_address port ∷ []) can.says h.slot_decodes_to.decodes_to;
+              running = can.working.cr_is_set;
+              issued = fallen_if (is_queued c.operation) (d.port port).ci slot can.fetchable.issued ∙ ap not plain ∙ sym can.fetchable.st_is_set;
               page_is_brought = inl refl;
             }))
         own (inr (inl x)) = some_none x.taken can.fetchable.free
-        own (inr (inr x)) = true_false can.fetchable.issued x.over.issued
+        own (inr (inr x)) = true_false can.fetchable.issued x.over.is_not_issued
     fetch_slot (Serves id) h = record {
       pending = h.pending;
       may_still_move = h.may_still_move;
@@ -128,27 +128,27 @@ module _ (uses : SlotStates) (m : Machine) (d : Device) (a : StateRelation uses 
               taken = changed_same (d.port port).taken slot _;
               meaning = same;
               places_are = says_places d.memory (d.port port).bases.clb slot c h.command places h.places can.says h.slot_decodes_to.decodes_to;
-              running = can.working.running;
-              issued = fallen_if (is_queued c.operation) (d.port port).ci slot can.fetchable.issued ∙ ap not queued ∙ ap (λ (st : Bool). st && not (is_queued h.command.operation)) (sym can.fetchable.st);
-              sact = x.sact ∙ ap (λ (st : Bool). st && is_queued h.command.operation) (sym can.fetchable.st);
-              progress = started h.pending.request.asked.op d.memory port h.pending c places x.block x.untouched;
+              running = can.working.cr_is_set;
+              ci_is_set_while_plain = fallen_if (is_queued c.operation) (d.port port).ci slot can.fetchable.issued ∙ ap not queued ∙ ap (λ (st : Bool). st && not (is_queued h.command.operation)) (sym can.fetchable.st_is_set);
+              sact = x.sact ∙ ap (λ (st : Bool). st && is_queued h.command.operation) (sym can.fetchable.st_is_set);
+              progress = started h.pending.request.asked.op d.memory port h.pending c places x.has_block_if_trim x.untouched;
               unended = x.unended;
             }))
         of (inr (inl x)) = some_none x.taken can.fetchable.free
-        of (inr (inr (inl x))) = true_false can.fetchable.issued x.issued
-        of (inr (inr (inr x))) = true_false can.fetchable.issued x.issued
+        of (inr (inr (inl x))) = true_false can.fetchable.issued x.is_not_issued
+        of (inr (inr (inr x))) = true_false can.fetchable.issued x.is_not_issued
 
     pub fetch_follows : SimulatesSteps uses m d (device_after (Fetch port slot c places) d)
     fetch_follows = record {
       steps = [];
-      may = tt;
-      telling = refl;
+      steps_are_enabled = tt;
+      telling_is_same = refl;
       steps_are_faithful = λ _. tt;
       new_entries = [];
       tape_is = sym (append-nil d.tape);
       tape_tells_steps = refl;
-      plugged = plugged_kept d port _ [] refl (λ _. refl);
-      agrees = acted NoPort uses m m d a d.memory d.tape port slot (port_after_fetch (d.port port) slot c places) (record {
+      plugged_disks_match_steps = plugged_kept d port _ [] refl (λ _. refl);
+      state_relation = acted NoPort uses m m d a d.memory d.tape port slot (port_after_fetch (d.port port) slot c places) (record {
         id = record { 0 = 0 };
         goes = Goes-refl m (record { 0 = 0 });
         moves = λ port' slot' id' u ne e is r. r;
@@ -171,8 +171,8 @@ module _ (uses : SlotStates) (m : Machine) (d : Device) (a : StateRelation uses 
         size = refl;
         sectors = λ t. a.sectors_are_same t port;
         other_sectors = λ t q ne. a.sectors_are_same t q;
-        lasting = λ t. a.has_lasting t port;
-        other_lasting = λ t q ne. a.has_lasting t q;
-        memory = a.memory_is_same;
+        lasting = λ t. a.holds_replug_candidates t port;
+        other_lasting = λ t q ne. a.holds_replug_candidates t q;
+        memory = a.client_frames_are_same;
       });
     }

@@ -28,8 +28,8 @@ use Rattle.block_machine.proofs.Standing.{standing}
 use Rattle.block_machine.proofs.Stepping.{asks_issued}
 use Rattle.block_machine.proofs.HistoryLemmas.{reached_more}
 use Rattle.refinement.specs.Acts.{IsIssueStep}
-use Rattle.refinement.specs.Slots.{Serves, SlotStates, op_of}
-use Rattle.refinement.specs.Relation.{HaveSlots}
+use Rattle.refinement.specs.Slots.{Serves, SlotStates, client_operation_of}
+use Rattle.refinement.specs.Relation.{HaveSlotsUnlessParked}
 use Rattle.refinement.specs.Tape.{TellsMove, TellsDone, TellsEntry, TapeTells, touch_steps}
 use Rattle.refinement.specs.Simulation.{SimulatesSteps}
 use Rattle.refinement.proofs.relation.TouchesAndEnds.{Goes, touch_goes, end_goes}
@@ -60,9 +60,9 @@ done_device None m done steps t = from_steps t tt
 done_device (Some op) m done steps t = from_steps t.step_is (tt, tt)
 
 pub entry_device : (m : Machine) (e : Entry) (steps : List Step) → TellsEntry m e steps → AllByDevice steps
-entry_device m (entry.Move move) steps t = move_device (op_of move.operation) m move steps t
+entry_device m (entry.Move move) steps t = move_device (client_operation_of move.operation) m move steps t
 entry_device m (entry.Clear clear) steps t = from_steps t.step_is (touches_device t.pending t.first_number clear.count)
-entry_device m (entry.Done done) steps t = done_device (op_of done.operation) m done steps t
+entry_device m (entry.Done done) steps t = done_device (client_operation_of done.operation) m done steps t
 entry_device m (entry.Fault fault) steps t = from_steps t tt
 entry_device m (entry.Fatal port) steps t = from_steps t tt
 entry_device m (entry.Unplug port) steps t = from_steps t (tt, tt)
@@ -75,12 +75,12 @@ tells_device m (e ∷ entries) steps t =
 
 -- ---- requests keep their slots
 
-pub have_on : (uses : SlotStates) (m m' : Machine) (id : RequestId) → Goes m m' id → (port : ℕ) (parked : List RequestId) → HaveSlots uses m port parked → HaveSlots uses m' port parked
+pub have_on : (uses : SlotStates) (m m' : Machine) (id : RequestId) → Goes m m' id → (port : ℕ) (parked : List RequestId) → HaveSlotsUnlessParked uses m port parked → HaveSlotsUnlessParked uses m' port parked
 have_on uses m m' id goes port parked have e r at_port =
     let q = goes.back e r in
     subst (λ (j : Accepted). Contains parked j.id ⊎ ((slot : ℕ) × (uses port slot ≡ Serves j.id))) (sym q.2) (have q.0 q.1 (ap (λ (j : Accepted). j.port.0) (sym q.2) ∙ at_port))
 
-step_have : (uses : SlotStates) (m : Machine) (step : Step) → IsByDevice step → (port : ℕ) (parked : List RequestId) → HaveSlots uses m port parked → HaveSlots uses (after_step m step) port parked
+step_have : (uses : SlotStates) (m : Machine) (step : Step) → IsByDevice step → (port : ℕ) (parked : List RequestId) → HaveSlotsUnlessParked uses m port parked → HaveSlotsUnlessParked uses (after_step m step) port parked
 step_have uses m (Touch x i block) is port parked had = have_on uses m (after_step m (Touch x i block)) x.request.id (touch_goes m x i block) port parked had
 step_have uses m (End x) is port parked had = have_on uses m (after_step m (End x)) x.request.id (end_goes m x) port parked had
 step_have uses m (Unplug p) is port parked had = had
@@ -95,11 +95,11 @@ step_have uses m Release is port parked had = absurd is
 step_have uses m (Store client frame offset bytes) is port parked had = absurd is
 step_have uses m (Load client frame offset bytes) is port parked had = absurd is
 
-steps_have : (uses : SlotStates) (m : Machine) (steps : List Step) → AllByDevice steps → (port : ℕ) (parked : List RequestId) → HaveSlots uses m port parked → HaveSlots uses (left.after m steps) port parked
+steps_have : (uses : SlotStates) (m : Machine) (steps : List Step) → AllByDevice steps → (port : ℕ) (parked : List RequestId) → HaveSlotsUnlessParked uses m port parked → HaveSlotsUnlessParked uses (left.after m steps) port parked
 steps_have uses m [] is port parked had = had
 steps_have uses m (step ∷ before) is port parked had = step_have uses (left.after m before) step is.1 port parked (steps_have uses m before is.0 port parked had)
 
-pub follows_have : (uses : SlotStates) (m : Machine) (old new : Device) (f : SimulatesSteps uses m old new) (port : ℕ) (parked : List RequestId) → HaveSlots uses m port parked → HaveSlots uses (left.after m f.steps) port parked
+pub follows_have : (uses : SlotStates) (m : Machine) (old new : Device) (f : SimulatesSteps uses m old new) (port : ℕ) (parked : List RequestId) → HaveSlotsUnlessParked uses m port parked → HaveSlotsUnlessParked uses (left.after m f.steps) port parked
 follows_have uses m old new f = steps_have uses m f.steps (tells_device m f.new_entries f.steps f.tape_tells_steps)
 
 -- ---- requests that may be issued may be so still

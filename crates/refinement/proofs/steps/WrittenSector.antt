@@ -15,7 +15,7 @@ use Rattle.adapter.proofs.MemoryLemmas.{patched_apart}
 use Rattle.block_machine.specs.State.{Block, DiskBytes, Machine}
 use Rattle.block_machine.specs.Steps.{put_bytes, put_sector}
 use Rattle.block_machine.proofs.Reading.{put_other, put_same}
-use Rattle.refinement.specs.Relation.{port_at, SameSectors, SameMemory}
+use Rattle.refinement.specs.Relation.{port_at, SameSectors, SameClientFrames}
 
 pub patched_in : (memory : ℕ → ℕ) (at : ℕ) (bytes : List ℕ) (j : ℕ) → j < length bytes → patched memory at bytes (at + j) ≡ slice_index bytes j
 unfolding patched
@@ -27,7 +27,7 @@ patched_in memory at bytes j lt =
 
 -- n bytes of a frame, as both write them
 module _ (m : Machine) (memory : ℕ → ℕ) (at : ℕ) (frame : Frame) (offset : ℕ) (bytes : List ℕ) (here : at ≡ 4096 * frame.0 + offset) (fits : offset + length bytes ≤ 4096)
-    (same : SameMemory m memory) where
+    (same : SameClientFrames m memory) where
   inside : (f : Frame) (b : ℕ) → f ≡ frame → offset ≤ b → b < offset + length bytes →
       patched memory at bytes (4096 * f.0 + b) ≡ put_bytes frame offset (length bytes) (slice_index bytes) m.memory f b
   inside f b e low high =
@@ -73,7 +73,7 @@ put_elsewhere port k block disks p s ne =
     (false_from_ne_true _ (λ t. let q = and_parts (p.0 == port.0) (s == k) t in ne (eqb-true p.0 port.0 q.0) (eqb-true s k q.1)))
 
 pub sector_written : (m m' : Machine) (disk : device.Disk) (port k : ℕ) (bytes : List ℕ) (block : Block) →
-    ((s b : ℕ) → m'.disks (port_at port) s b ≡ put_sector (port_at port) k block m.disks (port_at port) s b) →
+    ((s b : ℕ) → m'.disk_bytes (port_at port) s b ≡ put_sector (port_at port) k block m.disk_bytes (port_at port) s b) →
     ((b : ℕ) → b < 512 → slice_index bytes b ≡ block b) → SameSectors m disk port → SameSectors m' (disk_with_sector disk k bytes) port
 sector_written m m' disk port k bytes block now brings s = record {
   told_sectors = changed s.told_sectors k bytes;
@@ -81,18 +81,18 @@ sector_written m m' disk port k bytes block now brings s = record {
   bytes_are_same = λ x b xl bl. ⊎_elim (here x b bl) (there x b xl bl) (cases_eq x k);
 }
   where
-    here : (x b : ℕ) → b < 512 → x ≡ k → slice_index (changed s.told_sectors k bytes x) b ≡ m'.disks (port_at port) x b
+    here : (x b : ℕ) → b < 512 → x ≡ k → slice_index (changed s.told_sectors k bytes x) b ≡ m'.disk_bytes (port_at port) x b
     here x b bl e =
         ap (λ (y : ℕ). slice_index (changed s.told_sectors k bytes y) b) e
         ∙ ap (λ (l : List ℕ). slice_index l b) (changed_same s.told_sectors k bytes)
         ∙ brings b bl
-        ∙ ap (λ (f : Block). f b) (sym (put_there (port_at port) k block m.disks))
+        ∙ ap (λ (f : Block). f b) (sym (put_there (port_at port) k block m.disk_bytes))
         ∙ sym (now k b)
-        ∙ ap (λ (y : ℕ). m'.disks (port_at port) y b) (sym e)
+        ∙ ap (λ (y : ℕ). m'.disk_bytes (port_at port) y b) (sym e)
 
-    there : (x b : ℕ) → x < disk.size → b < 512 → (x ≡ k → ⊥) → slice_index (changed s.told_sectors k bytes x) b ≡ m'.disks (port_at port) x b
+    there : (x b : ℕ) → x < disk.sector_count → b < 512 → (x ≡ k → ⊥) → slice_index (changed s.told_sectors k bytes x) b ≡ m'.disk_bytes (port_at port) x b
     there x b xl bl ne =
         ap (λ (l : List ℕ). slice_index l b) (changed_other s.told_sectors k bytes x ne)
         ∙ s.bytes_are_same x b xl bl
-        ∙ ap (λ (f : Block). f b) (sym (put_elsewhere (port_at port) k block m.disks (port_at port) x (λ _ e. ne e)))
+        ∙ ap (λ (f : Block). f b) (sym (put_elsewhere (port_at port) k block m.disk_bytes (port_at port) x (λ _ e. ne e)))
         ∙ sym (now x b)

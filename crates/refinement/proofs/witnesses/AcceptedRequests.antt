@@ -17,21 +17,21 @@ use Rattle.block_machine.specs.Rules.{IsNamed, BreaksNone, HasRow}
 use Rattle.block_machine.specs.State.{Accepted, Machine, block_of, frame_at}
 use Rattle.block_machine.specs.Steps.{MayAccept, unanswered_count}
 use Rattle.block_machine.proofs.Setting.{client, port, frame, row, request, two_rows, granted, its_row, IsFit, acceptable}
-use Rattle.refinement.specs.MemoryLayout.{place_in}
+use Rattle.refinement.specs.MemoryLayout.{sector_address}
 
 -- the request as the machine accepts it next
 abbrev pub accepted_of : Machine → Request → Accepted
-accepted_of m r = record { id = record { 0 = m.next_id }; port = port; asked = r; held_blocks = block_of m.memory r.frames.items }
+accepted_of m r = record { id = record { 0 = m.next_id }; port = port; asked = r; blocks_at_acceptance = block_of m.memory r.frames.items }
 
 -- it breaks no rule, and names the row of port 0
 pub new_of : (m : Machine) (r : Request) → m.rows ≡ two_rows → r.grant ≡ 0 → BreaksNone m.rows m.owner m.lent r → unanswered_count m.book r.client < 16 → m.next_id < 2 ^ 64 → MayAccept m (accepted_of m r)
 new_of m r rows grant unbroken few ids = record {
-  id = refl;
-  id_left = ids;
-  unbroken = unbroken;
-  port = λ x named. sym (ap (λ (x : GrantRow). x.port) (its_row x (subst (λ (rs : List GrantRow). Contains rs x) rows named.0) ∙ ap row (named.1.1 ∙ grant)));
-  few = few;
-  held = refl;
+  id_is_next = refl;
+  an_id_is_left = ids;
+  breaks_no_rule = unbroken;
+  port_is_of_its_row = λ x named. sym (ap (λ (x : GrantRow). x.port) (its_row x (subst (λ (rs : List GrantRow). Contains rs x) rows named.0) ∙ ap row (named.1.1 ∙ grant)));
+  client_has_room = few;
+  blocks_are_in_memory = refl;
 }
 
 -- and that row is there
@@ -44,13 +44,13 @@ abbrev pub read_into : ℕ → ℕ → Request
 read_into first n = request 0 Read first 8 (frame n ∷ [])
 
 abbrev admission_context_of : Machine → AdmissionContext
-admission_context_of m = record { rows = m.rows; owner = m.owner; lent = m.lent; state = λ p. Ready; sectors = λ p. 256; trims = λ p. true; unanswered = λ c. 0; next_id = 1 }
+admission_context_of m = record { rows = m.rows; owner = m.owner; lent = m.lent; state = λ p. Ready; sectors = λ p. 256; zeroes_after_trim = λ p. true; unanswered_count = λ c. 0; next_id = 1 }
 
 pub read_no_trim : Read ≡ Trim → ⊥
 read_no_trim e = cc
 
 -- where its sectors lie
-pub places_in : (n i : ℕ) → i < 8 → slice_index (piece_addresses (4096 * n) 8) i ≡ place_in (frame n ∷ []) i
+pub places_in : (n i : ℕ) → i < 8 → slice_index (piece_addresses (4096 * n) 8) i ≡ sector_address (frame n ∷ []) i
 places_in n i lt =
     let zero_is : i / 8 ≡ 0 = omega (arith, lt) in
     let same : (frame_at (frame n ∷ []) (i / 8)).0 ≡ n = ap (λ (k : ℕ). (frame_at (frame n ∷ []) k).0) zero_is in

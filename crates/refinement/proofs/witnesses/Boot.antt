@@ -11,7 +11,7 @@ use Rattle.hba_regs.specs.declared.reg.Reg.{Reg}
 use Rattle.hba_regs.specs.declared.reg.Reg.TheVariants.{Px}
 use Rattle.hba_regs.specs.declared.reg.PortReg.{PortReg}
 use Rattle.hba_regs.specs.declared.reg.PortReg.TheVariants.{Is, Cmd, Tfd, Ssts, Sctl, Serr, Ci}
-use Rattle.adapter.specs.Access.{Reads, Writes, noted, written, shown_interrupt}
+use Rattle.adapter.specs.Access.{Reads, Writes, device_after_reading, device_after_write, shown_interrupt}
 use Rattle.adapter.specs.Access.Access.{Reading, Writing}
 use Rattle.adapter.specs.Device.{DevicePort, Device}
 use Rattle.adapter.specs.Memory.{changed}
@@ -22,9 +22,9 @@ use Rattle.refinement.specs.StepLaws.{StepLaws}
 use Rattle.refinement.specs.Relation.{port_at}
 use Rattle.refinement.specs.BootWitness.{waking_device, BootWitness}
 use Rattle.refinement.specs.Errors.{IsDiskComing, NoDiskComes}
-use Rattle.refinement.specs.PortFacts.{TellsNoTrouble}
-use Rattle.refinement.specs.Links.{IsPlugEvent, NoPlugEvents}
-use Rattle.refinement.specs.StartedPort.{IsUp, IsComingUp, SetsNoStart}
+use Rattle.refinement.specs.PortFacts.{PxisValueTellsNoTrouble}
+use Rattle.refinement.specs.PreservedParts.{IsPlugEvent, NoPlugEvents}
+use Rattle.refinement.specs.StartedPort.{IsUpForStart, IsComingUp, SetsNoStart}
 use Rattle.refinement.proofs.device.AllowedWrites.{write_stays}
 use Rattle.refinement.proofs.device.BootedPort.{well_is_found}
 use Rattle.refinement.proofs.device.RisingLink.{comreset_comes, access_coming, up_is_found, access_up}
@@ -35,35 +35,35 @@ abbrev port_reg : PortReg → Reg
 port_reg r = Px (port_at 0) r
 
 abbrev sent : Device
-sent = written (port_reg Sctl) 1 waking_device
+sent = device_after_write (port_reg Sctl) 1 waking_device
 
 abbrev released : Device
-released = written (port_reg Sctl) 0 sent
+released = device_after_write (port_reg Sctl) 0 sent
 
 abbrev up : Device
 up = device_after (LinkUp 0 0x101 true) released
 
 abbrev linked : Device
-linked = noted (port_reg Ssts) 3 up
+linked = device_after_reading (port_reg Ssts) 3 up
 
 abbrev cleared : Device
-cleared = written (port_reg Serr) 0xffffffff linked
+cleared = device_after_write (port_reg Serr) 0xffffffff linked
 
 abbrev quieted : Device
-quieted = written (port_reg Is) 0xffffffff cleared
+quieted = device_after_write (port_reg Is) 0xffffffff cleared
 
 abbrev ready : Device
-ready = noted (port_reg Tfd) 0x77 quieted
+ready = device_after_reading (port_reg Tfd) 0x77 quieted
 
 abbrev started : Device
-started = written (port_reg Cmd) 0x11 ready
+started = device_after_write (port_reg Cmd) 0x11 ready
 
 abbrev found : Device
-found = noted (port_reg Is) 0 started
+found = device_after_reading (port_reg Is) 0 started
 
 -- a write at once
-writes : (r : Reg) (v : ℕ) (d : Device) → Writes r v d (written r v d)
-writes r v d = record { mid = d; steps = record { steps = []; lead = refl }; effect = refl }
+writes : (r : Reg) (v : ℕ) (d : Device) → Writes r v d (device_after_write r v d)
+writes r v d = record { at_access = d; steps = record { steps = []; lead = refl }; effect = refl }
 
 can_link : Can (LinkUp 0 0x101 true) released
 unfolding changed
@@ -71,15 +71,15 @@ can_link = record { present = refl; no_comreset = refl; link_is_due = refl; sig_
 
 links : Reads (port_reg Ssts) 3 released linked
 unfolding changed
-links = record { mid = up; steps = record { steps = (LinkUp 0 0x101 true) ∷ []; lead = (can_link, refl) }; shows = refl; effect = refl }
+links = record { at_access = up; steps = record { steps = (LinkUp 0 0x101 true) ∷ []; lead = (can_link, refl) }; shows = refl; effect = refl }
 
 waits : Reads (port_reg Tfd) 0x77 quieted ready
 unfolding changed
-waits = record { mid = quieted; steps = record { steps = []; lead = refl }; shows = refl; effect = refl }
+waits = record { at_access = quieted; steps = record { steps = []; lead = refl }; shows = refl; effect = refl }
 
 is_startable : MayStart (ready.port 0)
 unfolding changed
-is_startable = record { cr_is_clear = refl; receives = refl; programmed = record { clb = refl; clbu = refl; fb = refl; fbu = refl }; link_was_seen = refl; not_busy = refl }
+is_startable = record { cr_is_clear = refl; receives = refl; programmed = record { clb_is_written = refl; clbu_is_written = refl; fb_is_written = refl; fbu_is_written = refl }; link_was_seen = refl; not_busy = refl }
 
 -- 0 has no bit
 no_bit : (place : ℕ) → bit 0 place ≡ false
@@ -96,15 +96,15 @@ none_shown p x n is place = no_bit place ∙ sym (by (nat_eq place 6) (nat_eq pl
 
 tells : Reads (port_reg Is) 0 started found
 unfolding changed
-tells = record { mid = started; steps = record { steps = []; lead = refl }; shows = λ place cause. none_shown (started.port 0) refl refl (λ k. refl) place; effect = refl }
+tells = record { at_access = started; steps = record { steps = []; lead = refl }; shows = λ place cause. none_shown (started.port 0) refl refl (λ k. refl) place; effect = refl }
 
-no_trouble : TellsNoTrouble 0
+no_trouble : PxisValueTellsNoTrouble 0
 no_trouble = record { pcs_is_clear = no_bit 6; prcs_is_clear = no_bit 22; no_error_bit_is_set = λ place low high. no_bit place }
 
 -- ---- the writes are permitted
 
 permitted : (r : PortReg) (v : ℕ) (d : Device) → ((p : Port) → port_reg r ≢ Px p Ci) → d.ae ≡ true → d.hr ≡ false → d.pi ≡ 0x0f → MayWritePort r v d (d.port 0) → IsStable (MayWrite (port_reg r) v) d
-permitted r v d other ae hr pi x = write_stays (port_reg r) v d other (record { ae = ae; no_reset = hr }, (omega arith, ap (λ (n : ℕ). bit n 0) pi), x)
+permitted r v d other ae hr pi x = write_stays (port_reg r) v d other (record { ae_is_set = ae; no_reset = hr }, (omega arith, ap (λ (n : ℕ). bit n 0) pi), x)
 
 may_send : IsStable (MayWrite (port_reg Sctl) 1) waking_device
 unfolding changed
@@ -126,7 +126,7 @@ may_start = permitted Cmd 0x11 ready (λ p e. cc) refl refl refl (record {
   start = λ b. inr is_startable;
   receive = λ b. inl refl;
   stop_receiving = λ b. absurd (true≢false b);
-  others = λ place lt start receive. ap (λ (n : ℕ). n == 1) (two_bits place start receive ∙ sym (bit_at-zero place));
+  other_bits_are_kept = λ place lt start receive. ap (λ (n : ℕ). n == 1) (two_bits place start receive ∙ sym (bit_at-zero place));
 })
 
 -- ---- what is known of it
@@ -150,14 +150,14 @@ coming : StepLaws → IsComingUp (released.port 0)
 coming laws = access_coming laws (port_at 0) (Writing (port_reg Sctl) 0) sent released (no_start Sctl 0 (λ e. cc)) (writes (port_reg Sctl) 0 sent) (none_comes sent released refl)
     (comreset_comes laws (port_at 0) 1 waking_device sent stands.0 refl (writes (port_reg Sctl) 1 waking_device))
 
-is_linked : StepLaws → IsUp (linked.port 0)
+is_linked : StepLaws → IsUpForStart (linked.port 0)
 is_linked laws = up_is_found laws (port_at 0) 3 released linked (none_comes released linked refl) links refl (coming laws)
 
-is_quieted : StepLaws → IsUp (quieted.port 0)
+is_quieted : StepLaws → IsUpForStart (quieted.port 0)
 is_quieted laws = access_up laws (port_at 0) (Writing (port_reg Is) 0xffffffff) cleared quieted refl stands.2 (no_start Is 0xffffffff (λ e. cc)) (λ e. cc) (plugs_none cleared quieted refl) (writes (port_reg Is) 0xffffffff cleared)
     (access_up laws (port_at 0) (Writing (port_reg Serr) 0xffffffff) linked cleared refl stands.1 (no_start Serr 0xffffffff (λ e. cc)) (λ e. cc) (plugs_none linked cleared refl) (writes (port_reg Serr) 0xffffffff linked) (is_linked laws))
 
-is_ready : StepLaws → IsUp (ready.port 0)
+is_ready : StepLaws → IsUpForStart (ready.port 0)
 is_ready laws = access_up laws (port_at 0) (Reading (port_reg Tfd) 0x77) quieted ready refl stands.3 (λ w e. absurd (let z : Reading (port_reg Tfd) 0x77 ≡ Writing (port_reg Cmd) w = e in cc)) tt (plugs_none quieted ready refl) waits (is_quieted laws)
 
 pub boot_is_found : StepLaws → BootWitness
@@ -177,12 +177,12 @@ boot_is_found laws = record {
   may_quiet = permitted Is 0xffffffff cleared (λ p e. cc) refl refl refl tt;
   quiets = writes (port_reg Is) 0xffffffff cleared;
   ready = ready;
-  waits = waits;
-  may = is_startable;
+  tfd_is_read_idle = waits;
+  port_may_start = is_startable;
   may_start = may_start;
   started = started;
   starts = writes (port_reg Cmd) 0x11 ready;
   found = found;
-  tells = tells;
+  pxis_is_read_clear = tells;
   port_runs_well = well_is_found laws (port_at 0) 0x11 0 ready started found refl stands.5 stands.4 refl (is_ready laws) (writes (port_reg Cmd) 0x11 ready) tells no_trouble;
 }

@@ -9,7 +9,7 @@ use Rattle.hba_regs.specs.Bits.{bit}
 use Rattle.hba_regs.specs.declared.reg.Reg.TheVariants.{Px}
 use Rattle.hba_regs.specs.declared.reg.PortReg.TheVariants.{Ci}
 use Rattle.byteorder.specs.Endian.{little_from}
-use Rattle.adapter.specs.Access.{written}
+use Rattle.adapter.specs.Access.{device_after_write}
 use Rattle.adapter.specs.Commands.{Meaning}
 use Rattle.adapter.specs.Device.{DevicePort, Device}
 use Rattle.adapter.specs.FirstRead.{first_memory, first_read_device, empty_port, reading_port, first_disk_sector}
@@ -29,9 +29,9 @@ use Rattle.block_machine.specs.Steps.{Accept, Issue, IsEnabled, MayAccept, MaySt
 use Rattle.block_machine.proofs.Setting.{empty, filled_starts}
 use Rattle.refinement.specs.StepLaws.{StepLaws}
 use Rattle.refinement.specs.Slots.{Free, Serves, SlotDecodesTo, IsEmptySlot}
-use Rattle.refinement.specs.Relation.{StateRelation, port_at, IsDiskOf, SameSectors, HasLasting, HasReceivedArea}
+use Rattle.refinement.specs.Relation.{StateRelation, port_at, IsDiskOf, SameSectors, HoldsReplugCandidates, HasReceivedArea}
 use Rattle.refinement.specs.Driver.{DriverRelation, IsPrepared, idle_driver_state}
-use Rattle.refinement.specs.ReadWitness.{first_uses, first_driver_state, ready_port, ready_device, prepared_read, PreparedReadWitness, FirstReadWitness}
+use Rattle.refinement.specs.ReadWitness.{first_slot_states, first_driver_state, ready_port, ready_device, prepared_read, PreparedReadWitness, FirstReadWitness}
 use Rattle.refinement.proofs.relation.OneSlot.{changed_at}
 use Rattle.refinement.proofs.witnesses.AcceptedRequests.{accepted_of, has_its_grant, read_into, read_is_new, read_no_trim, places_in}
 use Rattle.refinement.proofs.driver.PutSlot.{issued_port, issue_agrees, issue_have}
@@ -47,14 +47,14 @@ start_with memory = record empty {
   present = λ p. p.0 == 0;
   disk_ids = λ p. 0;
   sizes = λ p. cond (p.0 == 0) 256 0;
-  disks = λ p k b. k;
+  disk_bytes = λ p k b. k;
   memory = λ f b. memory (4096 * f.0 + b);
 }
 
 pub starts_with : (memory : ℕ → ℕ) → IsInitial (start_with memory)
 starts_with memory =
     let s : IsInitial (record empty { memory = λ f b. memory (4096 * f.0 + b) }) = filled_starts (λ f b. memory (4096 * f.0 + b)) in
-    record { book = s.book; kept = s.kept; lent = s.lent; next = s.next; few = s.few; rows = s.rows; configured = s.configured; owned = s.owned }
+    record { book_is_empty = s.book_is_empty; none_is_kept = s.none_is_kept; no_frame_is_lent = s.no_frame_is_lent; next_id_is_1 = s.next_id_is_1; rows_are_at_most_64 = s.rows_are_at_most_64; rows_differ_in_name = s.rows_differ_in_name; rows_are_valid = s.rows_are_valid; owned_frames_are_clients = s.owned_frames_are_clients }
 
 abbrev start : Machine
 start = start_with first_memory
@@ -66,7 +66,7 @@ is_new : MayAccept start accepted
 is_new = read_is_new start 100 100 refl refl refl (omega arith) (omega arith) (omega arith) (omega arith)
 
 abbrev pub plain : QueueMode
-plain = record { queued = false; usable = 1 }
+plain = record { queued = false; usable_slots = 1 }
 
 abbrev pub waits : Pending
 waits = newly_accepted accepted
@@ -84,7 +84,7 @@ abbrev pub issued : Machine
 issued = after_step accepting (Issue plain waits)
 
 pub reached : StepLaws → IsReachable issued
-reached laws = laws.reached accepting (Issue plain waits ∷ []) accepting_reached (tt, may_issue)
+reached laws = laws.reachable_goes_on accepting (Issue plain waits ∷ []) accepting_reached (tt, may_issue)
 
 moves : MayStillMove issued (newly_issued waits)
 moves = inl ((0, omega arith, refl), refl)
@@ -120,26 +120,26 @@ lasts memory k bytes (inr (entry, here, is)) = let lt = here.1 in absurd (omega 
 pub ready_knows : (memory : ℕ → ℕ) → DriverRelation (start_with memory) (idle_driver_state (ready_device memory))
 ready_knows memory = record {
   state_relation = record {
-    relates_slots = λ q k. changed_at (λ _. empty_port) 0 ready_port (λ n p. IsEmptySlot p k) (record { issued = refl; free = refl; unarmed = refl }) (λ n ne. record { issued = refl; free = refl; unarmed = refl }) q;
-    serve_apart = λ q k q' k' id u v. absurd (let z : Free ≡ Serves id = u in cc);
-    received_areas_are_placed = changed_at (λ _. empty_port) 0 ready_port (λ n p. p.fre ≡ true → HasReceivedArea p n) (λ _. record { below = omega arith; area = refl }) (λ n ne f. true_false f refl);
-    disks_are_same = changed_at (λ _. empty_port) 0 ready_port (λ n p. IsDiskOf (start_with memory) p n) (record { present = refl; id = refl; size = refl })
-        (λ n ne. record { present = ne_eqb n 0 ne; id = refl; size = cond-false (n == 0) 256 0 (ne_eqb n 0 ne) });
-    memory_is_same = λ f b from small. refl;
+    relates_slots = λ q k. changed_at (λ _. empty_port) 0 ready_port (λ n p. IsEmptySlot p k) (record { is_not_issued = refl; is_not_taken = refl; unarmed = refl }) (λ n ne. record { is_not_issued = refl; is_not_taken = refl; unarmed = refl }) q;
+    serve_distinct_requests = λ q k q' k' id u v. absurd (let z : Free ≡ Serves id = u in cc);
+    received_areas_are_placed = changed_at (λ _. empty_port) 0 ready_port (λ n p. p.fre ≡ true → HasReceivedArea p n) (λ _. record { port_is_below_4 = omega arith; area_is_in_place = refl }) (λ n ne f. true_false f refl);
+    disks_are_same = changed_at (λ _. empty_port) 0 ready_port (λ n p. IsDiskOf (start_with memory) p n) (record { present = refl; id = refl; sector_count = refl })
+        (λ n ne. record { present = ne_eqb n 0 ne; id = refl; sector_count = cond-false (n == 0) 256 0 (ne_eqb n 0 ne) });
+    client_frames_are_same = λ f b from small. refl;
     sectors_are_same = λ _. changed_at (λ _. empty_port) 0 ready_port (λ n p. SameSectors (start_with memory) p.disk n)
         (record { told_sectors = first_disk_sector; disk_tells = refl; bytes_are_same = λ k b kl bl. tells k b bl })
         (λ n ne. record { told_sectors = λ k. []; disk_tells = refl; bytes_are_same = λ k b kl bl. absurd (omega (arith, kl)) });
-    has_lasting = λ _. changed_at (λ _. empty_port) 0 ready_port (λ n p. HasLasting (start_with memory) [] p n) (λ k inside bytes w. lasts memory k bytes w) (λ n ne k inside bytes w. absurd (omega (arith, inside)));
+    holds_replug_candidates = λ _. changed_at (λ _. empty_port) 0 ready_port (λ n p. HoldsReplugCandidates (start_with memory) [] p n) (λ k inside bytes w. lasts memory k bytes w) (λ n ne k inside bytes w. absurd (omega (arith, inside)));
   };
   have_slots = λ q e may at_port. ⊎_elim (λ z. absurd (All-contains (λ _. ⊥) [] e (All-nil (λ _. ⊥)) z.0)) (λ z. absurd (All-contains (λ _. ⊥) [] e (All-nil (λ _. ⊥)) z)) may;
 }
 
 -- a command that is issued there may be taken
-pub can_take : (memory : ℕ → ℕ) (c : Meaning) (places : List ℕ) → DecodesTo memory 0 0 c places → Can (Fetch 0 0 c places) (written (Px (port_at 0) Ci) 1 (ready_device memory))
+pub can_take : (memory : ℕ → ℕ) (c : Meaning) (places : List ℕ) → DecodesTo memory 0 0 c places → Can (Fetch 0 0 c places) (device_after_write (Px (port_at 0) Ci) 1 (ready_device memory))
 unfolding changed
 can_take memory c places says = record {
-  fetchable = record { st = refl; issued = refl; free = refl };
-  working = record { running = refl; present = refl; fresh = refl; admitted = refl; whole = refl };
+  fetchable = record { st_is_set = refl; issued = refl; free = refl };
+  working = record { cr_is_set = refl; present = refl; fresh = refl; admitted = refl; is_not_broken = refl };
   is_unmixed = λ slot t is. absurd (none-some _ is);
   says = says;
 }
@@ -156,13 +156,13 @@ other_bit n k ne = ap (λ (b : ℕ). b == 1) (bit_at-pow_other n k ne)
 pub bit_one_other : (k : ℕ) → k ≢ 0 → bit 1 k ≡ false
 bit_one_other k ne = other_bit 0 k ne
 
-prepared : IsPrepared (idle_driver_state prepared_read).uses accepting prepared_read 0 0 plain waits 1
+prepared : IsPrepared (idle_driver_state prepared_read).slot_states accepting prepared_read 0 0 plain waits 1
 unfolding changed
 prepared = record {
-  may = may_issue;
+  issue_is_enabled = may_issue;
   port_is = refl;
-  free = refl;
-  usable = omega arith;
+  slot_state_is = refl;
+  slot_is_usable = omega arith;
   plain_is_in_slot_0 = λ _. refl;
   st_is_set = refl;
   list_is_in_place = record { port_below = omega arith; slot_below = omega arith; list = refl };
@@ -170,8 +170,8 @@ prepared = record {
   places = piece_addresses 0x64000 8;
   slot_decodes_to = told;
   means = record { op_is = refl; first_sector_is = λ _. refl; places_are = (cut_length 0x64000 8, places_in 100); trim_is_in_slot_0 = λ e. absurd (read_no_trim e) };
-  kind = refl;
-  block = tt;
+  queued_as_request = refl;
+  has_block_if_trim = tt;
   bit_is_set = refl;
   no_other_bit_is_set = bit_one_other;
 }
@@ -186,7 +186,7 @@ issued_ports = fun_ext (λ q. changed_at (changed (λ _. empty_port) 0 ready_por
     (issued_port_is ∙ sym (changed_same (λ _. empty_port) 0 reading_port))
     (λ n ne. changed_other (λ _. empty_port) 0 ready_port n ne ∙ sym (changed_other (λ _. empty_port) 0 reading_port n ne)) q)
 
-issues : first_read_device ≡ written (Px (port_at 0) Ci) 1 prepared_read
+issues : first_read_device ≡ device_after_write (Px (port_at 0) Ci) 1 prepared_read
 issues =
     ap (λ (ports : ℕ → DevicePort). record first_read_device { port = ports })
     (sym issued_ports ∙ ap (λ (p : DevicePort). changed (changed (λ _. empty_port) 0 ready_port) 0 (issued_port p 1)) (sym (changed_same (λ _. empty_port) 0 ready_port)))
@@ -200,16 +200,16 @@ prepared_is_known laws = record {
   request = waits;
   id_is = refl;
   prepared = prepared;
-  permitted = issue_is_permitted laws (idle_driver_state prepared_read).uses accepting prepared_read accepting_reached accepting_knows.state_relation (port_at 0) 0 plain waits 1
-      (record { ae = refl; no_reset = refl }) (omega arith, refl) (omega arith) prepared;
-  writes = record { mid = prepared_read; steps = record { steps = []; lead = refl }; effect = issues };
+  permitted = issue_is_permitted laws (idle_driver_state prepared_read).slot_states accepting prepared_read accepting_reached accepting_knows.state_relation (port_at 0) 0 plain waits 1
+      (record { ae_is_set = refl; no_reset = refl }) (omega arith, refl) (omega arith) prepared;
+  writes = record { at_access = prepared_read; steps = record { steps = []; lead = refl }; effect = issues };
 }
 
 pub first_knows : DriverRelation issued first_driver_state
 first_knows = record {
-  state_relation = subst (λ (d : Device). StateRelation first_uses issued d) (sym issues)
-      (issue_agrees (idle_driver_state prepared_read).uses accepting prepared_read accepting_reached accepting_knows.state_relation 0 0 plain waits 1 prepared);
-  have_slots = λ q. issue_have (idle_driver_state prepared_read).uses accepting prepared_read accepting_reached accepting_knows.state_relation 0 0 plain waits 1 prepared q [] (accepting_knows.have_slots q);
+  state_relation = subst (λ (d : Device). StateRelation first_slot_states issued d) (sym issues)
+      (issue_agrees (idle_driver_state prepared_read).slot_states accepting prepared_read accepting_reached accepting_knows.state_relation 0 0 plain waits 1 prepared);
+  have_slots = λ q. issue_have (idle_driver_state prepared_read).slot_states accepting prepared_read accepting_reached accepting_knows.state_relation 0 0 plain waits 1 prepared q [] (accepting_knows.have_slots q);
 }
 
 pub first_is_known : StepLaws → FirstReadWitness

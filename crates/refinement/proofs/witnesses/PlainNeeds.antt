@@ -5,7 +5,7 @@ use Rattle.std.proofs.lemmas.Bool.{both_ways, false≢true, true≢false}
 use Rattle.std.proofs.lemmas.Option.{none-some}
 use Rattle.hba_regs.specs.declared.reg.Reg.TheVariants.{Px}
 use Rattle.hba_regs.specs.declared.reg.PortReg.TheVariants.{Cmd, Ci}
-use Rattle.adapter.specs.Access.{written}
+use Rattle.adapter.specs.Access.{device_after_write}
 use Rattle.adapter.specs.Commands.{is_queued, command_of}
 use Rattle.adapter.specs.Device.{FetchedCommand, Device}
 use Rattle.adapter.specs.Device.Halt.{NotHalted, LogOnly}
@@ -13,7 +13,7 @@ use Rattle.adapter.specs.FirstRead.{first_memory}
 use Rattle.adapter.specs.Memory.{patched, bytes_at, changed}
 use Rattle.adapter.specs.Rules.{MayWrite}
 use Rattle.adapter.specs.Decoding.{piece_addresses}
-use Rattle.adapter.specs.Steps.{Can, device_after, begun, Steps, halt_after_start}
+use Rattle.adapter.specs.Steps.{Can, device_after, newly_fetched, Steps, halt_after_start}
 use Rattle.adapter.specs.Steps.DeviceTransition.{Fetch, Fault}
 use Rattle.adapter.specs.declared.command.Operation.TheVariants.{ReadQueued}
 use Rattle.adapter.specs.declared.command.Prd.{Prd}
@@ -21,9 +21,9 @@ use Rattle.block_machine.specs.Histories.{IsReachable}
 use Rattle.block_machine.specs.State.{Machine}
 use Rattle.refinement.specs.StepLaws.{StepLaws}
 use Rattle.refinement.specs.Relation.{StateRelation, port_at}
-use Rattle.refinement.specs.Driver.{LeavesUses}
-use Rattle.refinement.specs.MemoryLayout.{table_of}
-use Rattle.refinement.specs.TwoReads.{queued_read, two_memory, two_issued, one_taken, two_reads_driver_state, TwoReadsWitness}
+use Rattle.refinement.specs.Driver.{KeepsSlotStates}
+use Rattle.refinement.specs.MemoryLayout.{command_table_address}
+use Rattle.refinement.specs.TwoReadsWitness.{queued_read, two_reads_memory, two_issued, one_taken, two_reads_driver_state, TwoReadsWitness}
 use Rattle.refinement.specs.Slots.{SlotStates, SlotDecodesTo}
 use Rattle.refinement.specs.ReadWitness.{ready_device}
 use Rattle.refinement.proofs.witnesses.QueuedReads.{two_are_known}
@@ -47,36 +47,36 @@ issued_runs = refl
 pub needs_unarmed : StepLaws → ((uses : SlotStates) (m : Machine) (port : ℕ) (old new : Device) → IsReachable m → StateRelation uses m old → Steps old new → halt_after_start (old.port port).halt ≡ NotHalted → AreTakenPlainly old port → AreTakenPlainly new port) → ⊥
 needs_unarmed laws law =
     let w : TwoReadsWitness = two_are_known laws in
-    absurd (both_ways _ (law (two_reads_driver_state two_issued).uses w.machine 0 two_issued one_taken w.reached w.issued.state_relation w.takes issued_runs none_taken 0 w.command w.taken) w.queued)
+    absurd (both_ways _ (law (two_reads_driver_state two_issued).slot_states w.machine 0 two_issued one_taken w.reached w.issued.state_relation w.takes issued_runs none_taken 0 w.command w.taken) w.queued)
 
 -- ---- one was taken before ST was cleared
 
 abbrev stopping : Device
-stopping = written (Px (port_at 0) Cmd) 0x10 one_taken
+stopping = device_after_write (Px (port_at 0) Cmd) 0x10 one_taken
 
 abbrev queued_taken : FetchedCommand
-queued_taken = begun (queued_read 100) (piece_addresses 0x64000 8)
+queued_taken = newly_fetched (queued_read 100) (piece_addresses 0x64000 8)
 
 may_stop : MayWrite (Px (port_at 0) Cmd) 0x10 one_taken
 unfolding changed
 may_stop = (
-  record { ae = refl; no_reset = refl },
+  record { ae_is_set = refl; no_reset = refl },
   (omega arith, refl),
   record {
     start = λ b. absurd (false≢true b);
     receive = λ b. inl refl;
     stop_receiving = λ b. absurd (true≢false b);
-    others = λ place lt start receive. ap (λ (n : ℕ). n == 1) (bit_at-pow_other 4 place receive ∙ sym (bit_at-zero place));
+    other_bits_are_kept = λ place lt start receive. ap (λ (n : ℕ). n == 1) (bit_at-pow_other 4 place receive ∙ sym (bit_at-zero place));
   },
 )
 
-leaves : LeavesUses (two_reads_driver_state one_taken).uses (Px (port_at 0) Cmd) 0x10 one_taken
+leaves : KeepsSlotStates (two_reads_driver_state one_taken).slot_states (Px (port_at 0) Cmd) 0x10 one_taken
 unfolding changed
 leaves = record { start = λ b. absurd (false≢true b); receive = λ _. (omega arith, refl) }
 
 can_fail : Can (Fault 0 0 0x40 0 queued_taken) stopping
 unfolding changed
-can_fail = record { taken = refl; running = refl; is_byte = omega arith; kept_bits_are_allowed = refl }
+can_fail = record { taken = refl; cr_is_set = refl; is_byte = omega arith; kept_bits_are_allowed = refl }
 
 stopping_is : (halt_after_start (stopping.port 0).halt ≡ NotHalted) × ((slot : ℕ) → (stopping.port 0).sact slot ≡ false)
 unfolding changed
@@ -90,8 +90,8 @@ pub needs_plain : StepLaws → ((uses : SlotStates) (m : Machine) (port : ℕ) (
     halt_after_start (new.port port).halt ≡ NotHalted) → ⊥
 needs_plain laws law =
     let w : TwoReadsWitness = two_are_known laws in
-    let a : StateRelation (two_reads_driver_state one_taken).uses w.machine stopping = written_agrees (two_reads_driver_state one_taken).uses w.machine one_taken w.driver_relation.state_relation (Px (port_at 0) Cmd) 0x10 may_stop leaves in
-    let z : LogOnly ≡ NotHalted = sym log_only ∙ law (two_reads_driver_state one_taken).uses w.machine 0 stopping (device_after (Fault 0 0 0x40 0 queued_taken) stopping) w.reached a
+    let a : StateRelation (two_reads_driver_state one_taken).slot_states w.machine stopping = written_agrees (two_reads_driver_state one_taken).slot_states w.machine one_taken w.driver_relation.state_relation (Px (port_at 0) Cmd) 0x10 may_stop leaves in
+    let z : LogOnly ≡ NotHalted = sym log_only ∙ law (two_reads_driver_state one_taken).slot_states w.machine 0 stopping (device_after (Fault 0 0 0x40 0 queued_taken) stopping) w.reached a
     (record { steps = (Fault 0 0 0x40 0 queued_taken) ∷ []; lead = (can_fail, refl) }) stopping_is.0 stopping_is.1 in
     cc
 
@@ -101,10 +101,10 @@ abbrev frame_prd : ℕ → Prd
 frame_prd n = record { address = 4096 * n; bytes = 4096 }
 
 -- a queued read of eight sectors into a frame
-queued_spelt : (memory : ℕ → ℕ) (slot first n : ℕ) → first < 2 ^ 48 → table_of 0 slot % 128 ≡ 0 → 4096 * n % 2 ≡ 0 →
-    IsSpeltHeader (bytes_at memory (0 + 32 * slot) 32) false (table_of 0 slot) →
-    IsSpeltCommand (bytes_at memory (table_of 0 slot) 20) (command_of ReadQueued slot first 8) →
-    IsSpeltPrd (bytes_at memory (table_of 0 slot + 128) 16) (frame_prd n) → IsSpelt memory slot (queued_read first) (frame_prd n)
+queued_spelt : (memory : ℕ → ℕ) (slot first n : ℕ) → first < 2 ^ 48 → command_table_address 0 slot % 128 ≡ 0 → 4096 * n % 2 ≡ 0 →
+    IsSpeltHeader (bytes_at memory (0 + 32 * slot) 32) false (command_table_address 0 slot) →
+    IsSpeltCommand (bytes_at memory (command_table_address 0 slot) 20) (command_of ReadQueued slot first 8) →
+    IsSpeltPrd (bytes_at memory (command_table_address 0 slot + 128) 16) (frame_prd n) → IsSpelt memory slot (queued_read first) (frame_prd n)
 queued_spelt memory slot first n small aligned even header fis prd = record {
   header = header;
   aligned = aligned;
@@ -116,26 +116,26 @@ queued_spelt memory slot first n small aligned even header fis prd = record {
   as_many = refl;
 }
 
-first_told : SlotDecodesTo two_memory 0 0 0 (queued_read 100) (piece_addresses 0x64000 8)
-unfolding two_memory first_memory patched bytes_at zeros_from
-first_told = spelt_told two_memory 0 (queued_read 100) (frame_prd 100)
-    (queued_spelt two_memory 0 100 100 (omega arith) refl refl (refl, refl, refl) (refl, refl, refl, refl, refl, refl, refl, refl) (refl, refl, refl))
+first_told : SlotDecodesTo two_reads_memory 0 0 0 (queued_read 100) (piece_addresses 0x64000 8)
+unfolding two_reads_memory first_memory patched bytes_at zeros_from
+first_told = spelt_told two_reads_memory 0 (queued_read 100) (frame_prd 100)
+    (queued_spelt two_reads_memory 0 100 100 (omega arith) refl refl (refl, refl, refl) (refl, refl, refl, refl, refl, refl, refl, refl) (refl, refl, refl))
 
 abbrev unarmed : Device
-unarmed = written (Px (port_at 0) Ci) 1 (ready_device two_memory)
+unarmed = device_after_write (Px (port_at 0) Ci) 1 (ready_device two_reads_memory)
 
 can_fetch : Can (Fetch 0 0 (queued_read 100) (piece_addresses 0x64000 8)) unarmed
 unfolding changed
 can_fetch = record {
-  fetchable = record { st = refl; issued = refl; free = refl };
-  working = record { running = refl; present = refl; fresh = refl; admitted = refl; whole = refl };
+  fetchable = record { st_is_set = refl; issued = refl; free = refl };
+  working = record { cr_is_set = refl; present = refl; fresh = refl; admitted = refl; is_not_broken = refl };
   is_unmixed = λ slot t is. absurd (none-some _ is);
   says = first_told.decodes_to;
 }
 
 unarmed_works : WorksPlainly (unarmed.port 0)
 unfolding changed
-unarmed_works = record { start_ends_halt = refl; unarmed = λ slot. refl; plain = λ slot t is. absurd (none-some _ is) }
+unarmed_works = record { start_ends_halt = refl; unarmed = λ slot. refl; taken_are_plain = λ slot t is. absurd (none-some _ is) }
 
 taken_then : ((device_after (Fetch 0 0 (queued_read 100) (piece_addresses 0x64000 8)) unarmed).port 0).taken 0 ≡ Some queued_taken
 unfolding changed
@@ -144,4 +144,4 @@ taken_then = refl
 pub needs_agreed : ((port : ℕ) (old new : Device) → Steps old new → WorksPlainly (old.port port) → WorksPlainly (new.port port)) → ⊥
 needs_agreed law =
     absurd (true≢false ((law 0 unarmed (device_after (Fetch 0 0 (queued_read 100) (piece_addresses 0x64000 8)) unarmed)
-    (record { steps = (Fetch 0 0 (queued_read 100) (piece_addresses 0x64000 8)) ∷ []; lead = (can_fetch, refl) }) unarmed_works).plain 0 queued_taken taken_then))
+    (record { steps = (Fetch 0 0 (queued_read 100) (piece_addresses 0x64000 8)) ∷ []; lead = (can_fetch, refl) }) unarmed_works).taken_are_plain 0 queued_taken taken_then))

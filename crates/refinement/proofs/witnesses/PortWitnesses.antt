@@ -8,7 +8,7 @@ use Rattle.adapter.specs.FirstRead.{first_read_device}
 use Rattle.adapter.specs.Memory.{changed}
 use Rattle.adapter.specs.ReadDone.{read_of}
 use Rattle.adapter.specs.Decoding.{piece_addresses}
-use Rattle.adapter.specs.Steps.{Can, device_after, begun, Steps}
+use Rattle.adapter.specs.Steps.{Can, device_after, newly_fetched, Steps}
 use Rattle.adapter.specs.Steps.DeviceTransition.{Fetch, Fault}
 use Rattle.adapter.proofs.FirstRead.{first_says}
 use Rattle.refinement.specs.PortFacts.{RecordsFaults, IsCleanToStart}
@@ -26,11 +26,11 @@ first_recorded = record {
 -- the port beside it has no device
 pub second_quiet : IsCleanToStart (first_read_device.port 1)
 unfolding changed
-second_quiet = record { tfes_is_clear = (refl, refl); no_link_is_due = refl; no_comreset = λ (e : 0 ≡ 1). omega (arith, e) }
+second_quiet = record { is_stopped_tfes_clear = (refl, refl); no_link_is_due = refl; no_comreset = λ (e : 0 ≡ 1). omega (arith, e) }
 
 -- the read is taken, and fails
 abbrev taken_read : FetchedCommand
-taken_read = begun (read_of 100 8) (piece_addresses 0x64000 8)
+taken_read = newly_fetched (read_of 100 8) (piece_addresses 0x64000 8)
 
 abbrev fetched : Device
 fetched = device_after (Fetch 0 0 (read_of 100 8) (piece_addresses 0x64000 8)) first_read_device
@@ -41,15 +41,15 @@ failed = device_after (Fault 0 0 0x40 0 taken_read) fetched
 first_fetch : Can (Fetch 0 0 (read_of 100 8) (piece_addresses 0x64000 8)) first_read_device
 unfolding changed
 first_fetch = record {
-  fetchable = record { st = refl; issued = refl; free = refl };
-  working = record { running = refl; present = refl; fresh = refl; admitted = refl; whole = refl };
+  fetchable = record { st_is_set = refl; issued = refl; free = refl };
+  working = record { cr_is_set = refl; present = refl; fresh = refl; admitted = refl; is_not_broken = refl };
   is_unmixed = λ slot t is. absurd (none-some _ is);
   says = first_says;
 }
 
 first_fault : Can (Fault 0 0 0x40 0 taken_read) fetched
 unfolding changed
-first_fault = record { taken = refl; running = refl; is_byte = omega arith; kept_bits_are_allowed = refl }
+first_fault = record { taken = refl; cr_is_set = refl; is_byte = omega arith; kept_bits_are_allowed = refl }
 
 failing : Steps first_read_device failed
 failing = record { steps = Fetch 0 0 (read_of 100 8) (piece_addresses 0x64000 8) ∷ Fault 0 0 0x40 0 taken_read ∷ []; lead = (first_fetch, (first_fault, refl)) }

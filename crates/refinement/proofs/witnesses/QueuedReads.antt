@@ -8,13 +8,13 @@ use Rattle.ata_types.specs.declared.request.Frame.{Frame}
 use Rattle.hba_regs.specs.Bits.{bit}
 use Rattle.hba_regs.specs.declared.reg.Reg.TheVariants.{Px}
 use Rattle.hba_regs.specs.declared.reg.PortReg.TheVariants.{Sact}
-use Rattle.adapter.specs.Access.{written}
+use Rattle.adapter.specs.Access.{device_after_write}
 use Rattle.adapter.specs.Commands.{command_of}
 use Rattle.adapter.specs.Device.{Device}
 use Rattle.adapter.specs.FirstRead.{first_memory}
 use Rattle.adapter.specs.Memory.{patched, bytes_at, changed}
 use Rattle.adapter.specs.Decoding.{piece_addresses}
-use Rattle.adapter.specs.Steps.{Can, begun}
+use Rattle.adapter.specs.Steps.{Can, newly_fetched}
 use Rattle.adapter.specs.Steps.DeviceTransition.{Fetch}
 use Rattle.adapter.specs.declared.command.Operation.TheVariants.{ReadQueued}
 use Rattle.adapter.specs.declared.command.Prd.{Prd}
@@ -26,10 +26,10 @@ use Rattle.block_machine.specs.Steps.{Accept, Issue, IsEnabled, after_step, newl
 use Rattle.block_machine.proofs.Members.{contains_here, contains_there, contains_none, contains_cases, into_map}
 use Rattle.block_machine.proofs.Setting.{frame}
 use Rattle.refinement.specs.StepLaws.{StepLaws}
-use Rattle.refinement.specs.Relation.{StateRelation, port_at, HaveSlots}
+use Rattle.refinement.specs.Relation.{StateRelation, port_at, HaveSlotsUnlessParked}
 use Rattle.refinement.specs.Driver.{DriverRelation, IsPrepared, idle_driver_state}
-use Rattle.refinement.specs.MemoryLayout.{table_of}
-use Rattle.refinement.specs.TwoReads.{queued_read, two_memory, two_armed, armed_uses, one_issued, two_issued, one_taken, two_reads_driver_state, TwoReadsWitness, TwoStoredReads}
+use Rattle.refinement.specs.MemoryLayout.{command_table_address}
+use Rattle.refinement.specs.TwoReadsWitness.{queued_read, two_reads_memory, two_armed, armed_uses, one_issued, two_issued, one_taken, two_reads_driver_state, TwoReadsWitness, TwoStoredReads}
 use Rattle.refinement.specs.Slots.{Free, Serves, SlotStates, set_slot_state, SlotDecodesTo, Armed}
 use Rattle.refinement.specs.ReadWitness.{first_id, ready_device}
 use Rattle.refinement.proofs.witnesses.AcceptedRequests.{accepted_of, has_its_grant, read_into, read_is_new, read_no_trim, places_in}
@@ -48,10 +48,10 @@ abbrev frame_prd : ℕ → Prd
 frame_prd n = record { address = 4096 * n; bytes = 4096 }
 
 -- a queued read of eight sectors into a frame
-queued_spelt : (memory : ℕ → ℕ) (slot first n : ℕ) → first < 2 ^ 48 → table_of 0 slot % 128 ≡ 0 → 4096 * n % 2 ≡ 0 →
-    IsSpeltHeader (bytes_at memory (0 + 32 * slot) 32) false (table_of 0 slot) →
-    IsSpeltCommand (bytes_at memory (table_of 0 slot) 20) (command_of ReadQueued slot first 8) →
-    IsSpeltPrd (bytes_at memory (table_of 0 slot + 128) 16) (frame_prd n) → IsSpelt memory slot (queued_read first) (frame_prd n)
+queued_spelt : (memory : ℕ → ℕ) (slot first n : ℕ) → first < 2 ^ 48 → command_table_address 0 slot % 128 ≡ 0 → 4096 * n % 2 ≡ 0 →
+    IsSpeltHeader (bytes_at memory (0 + 32 * slot) 32) false (command_table_address 0 slot) →
+    IsSpeltCommand (bytes_at memory (command_table_address 0 slot) 20) (command_of ReadQueued slot first 8) →
+    IsSpeltPrd (bytes_at memory (command_table_address 0 slot + 128) 16) (frame_prd n) → IsSpelt memory slot (queued_read first) (frame_prd n)
 queued_spelt memory slot first n small aligned even header fis prd = record {
   header = header;
   aligned = aligned;
@@ -63,20 +63,20 @@ queued_spelt memory slot first n small aligned even header fis prd = record {
   as_many = refl;
 }
 
-first_told : SlotDecodesTo two_memory 0 0 0 (queued_read 100) (piece_addresses 0x64000 8)
-unfolding two_memory first_memory patched bytes_at zeros_from
-first_told = spelt_told two_memory 0 (queued_read 100) (frame_prd 100)
-    (queued_spelt two_memory 0 100 100 (omega arith) refl refl (refl, refl, refl) (refl, refl, refl, refl, refl, refl, refl, refl) (refl, refl, refl))
+first_told : SlotDecodesTo two_reads_memory 0 0 0 (queued_read 100) (piece_addresses 0x64000 8)
+unfolding two_reads_memory first_memory patched bytes_at zeros_from
+first_told = spelt_told two_reads_memory 0 (queued_read 100) (frame_prd 100)
+    (queued_spelt two_reads_memory 0 100 100 (omega arith) refl refl (refl, refl, refl) (refl, refl, refl, refl, refl, refl, refl, refl) (refl, refl, refl))
 
-pub second_told : SlotDecodesTo two_memory 0 0 1 (queued_read 108) (piece_addresses 0x65000 8)
-unfolding two_memory first_memory patched bytes_at zeros_from
-second_told = spelt_told two_memory 1 (queued_read 108) (frame_prd 101)
-    (queued_spelt two_memory 1 108 101 (omega arith) refl refl (refl, refl, refl) (refl, refl, refl, refl, refl, refl, refl, refl) (refl, refl, refl))
+pub second_told : SlotDecodesTo two_reads_memory 0 0 1 (queued_read 108) (piece_addresses 0x65000 8)
+unfolding two_reads_memory first_memory patched bytes_at zeros_from
+second_told = spelt_told two_reads_memory 1 (queued_read 108) (frame_prd 101)
+    (queued_spelt two_reads_memory 1 108 101 (omega arith) refl refl (refl, refl, refl) (refl, refl, refl, refl, refl, refl, refl, refl) (refl, refl, refl))
 
 -- ---- the machine
 
 abbrev start : Machine
-start = start_with two_memory
+start = start_with two_reads_memory
 
 abbrev first_request : Accepted
 first_request = accepted_of start (read_into 100 100)
@@ -94,7 +94,7 @@ accepted_reached : IsReachable accepted
 accepted_reached = record {
   initial_machine = start;
   steps_since = Accept second_request ∷ Accept first_request ∷ [];
-  is_initial = starts_with two_memory;
+  is_initial = starts_with two_reads_memory;
   is_legal = (
     (tt, read_is_new start 100 100 refl refl refl (omega arith) (omega arith) (omega arith) (omega arith)),
     read_is_new one_accepted 108 101 refl refl refl (omega arith) (omega arith) (omega arith) (omega arith),
@@ -103,7 +103,7 @@ accepted_reached = record {
 }
 
 abbrev queued : QueueMode
-queued = record { queued = true; usable = 32 }
+queued = record { queued = true; usable_slots = 32 }
 
 abbrev first_waits : Pending
 first_waits = newly_accepted first_request
@@ -121,7 +121,7 @@ abbrev issuing : Machine
 issuing = after_step accepted (Issue queued first_waits)
 
 issuing_reached : StepLaws → IsReachable issuing
-issuing_reached laws = laws.reached accepted (Issue queued first_waits ∷ []) accepted_reached (tt, may_first)
+issuing_reached laws = laws.reachable_goes_on accepted (Issue queued first_waits ∷ []) accepted_reached (tt, may_first)
 
 second_in : Contains issuing.book second_waits
 second_in = contains_there (newly_issued first_waits) (second_waits ∷ []) second_waits (contains_here second_waits [] second_waits refl)
@@ -133,17 +133,17 @@ abbrev machine : Machine
 machine = after_step issuing (Issue queued second_waits)
 
 reached : StepLaws → IsReachable machine
-reached laws = laws.reached issuing (Issue queued second_waits ∷ []) (issuing_reached laws) (tt, may_second)
+reached laws = laws.reachable_goes_on issuing (Issue queued second_waits ∷ []) (issuing_reached laws) (tt, may_second)
 
 -- ---- a read is prepared in a slot, with its bit of PxSACT
 
 read_prepared : (uses : SlotStates) (m was : Machine) (d : Device) (slot first n : ℕ) → IsEnabled m (Issue queued (newly_accepted (accepted_of was (read_into first n)))) → uses 0 slot ≡ Armed → slot < 32 → (d.port 0).st ≡ true → (d.port 0).bases.clb ≡ 0 →
     SlotDecodesTo d.memory 0 0 slot (queued_read first) (piece_addresses (4096 * n) 8) → IsPrepared uses m d 0 slot queued (newly_accepted (accepted_of was (read_into first n))) (2 ^ slot)
 read_prepared uses m was d slot first n may free small started list told = record {
-  may = may;
+  issue_is_enabled = may;
   port_is = refl;
-  free = free;
-  usable = small;
+  slot_state_is = free;
+  slot_is_usable = small;
   plain_is_in_slot_0 = λ plain. absurd (false≢true plain);
   st_is_set = started;
   list_is_in_place = record { port_below = omega arith; slot_below = small; list = list };
@@ -151,24 +151,24 @@ read_prepared uses m was d slot first n may free small started list told = recor
   places = piece_addresses (4096 * n) 8;
   slot_decodes_to = subst (λ (at : ℕ). SlotDecodesTo d.memory at 0 slot (queued_read first) (piece_addresses (4096 * n) 8)) (sym list) told;
   means = record { op_is = refl; first_sector_is = λ _. refl; places_are = (cut_length (4096 * n) 8, places_in n); trim_is_in_slot_0 = λ e. absurd (read_no_trim e) };
-  kind = refl;
-  block = tt;
+  queued_as_request = refl;
+  has_block_if_trim = tt;
   bit_is_set = ap (λ (b : ℕ). b == 1) (bit_at-pow_same slot);
   no_other_bit_is_set = other_bit slot;
 }
 
 -- ---- PxSACT is written
 
-accepted_knows : DriverRelation accepted (idle_driver_state (ready_device two_memory))
-accepted_knows = accept_knows (idle_driver_state (ready_device two_memory)) one_accepted second_request (accept_knows (idle_driver_state (ready_device two_memory)) start first_request (ready_knows two_memory))
+accepted_knows : DriverRelation accepted (idle_driver_state (ready_device two_reads_memory))
+accepted_knows = accept_knows (idle_driver_state (ready_device two_reads_memory)) one_accepted second_request (accept_knows (idle_driver_state (ready_device two_reads_memory)) start first_request (ready_knows two_reads_memory))
 
 abbrev one_armed : Device
-one_armed = written (Px (port_at 0) Sact) 1 (ready_device two_memory)
+one_armed = device_after_write (Px (port_at 0) Sact) 1 (ready_device two_reads_memory)
 
 bit_here : (slot : ℕ) → bit (2 ^ slot) slot ≡ true
 bit_here slot = ap (λ (b : ℕ). b == 1) (bit_at-pow_same slot)
 
-ready_runs : ((ready_device two_memory).port 0).st ≡ true
+ready_runs : ((ready_device two_reads_memory).port 0).st ≡ true
 unfolding changed
 ready_runs = refl
 
@@ -181,12 +181,12 @@ unfolding changed
 still_free = refl
 
 one_armed_agrees : StateRelation (set_slot_state (λ _ _. Free) 0 0 Armed) accepted one_armed
-one_armed_agrees = arming_agrees (idle_driver_state (ready_device two_memory)).uses accepted (ready_device two_memory) accepted_knows.state_relation 0 0 1 refl ready_runs (bit_here 0) (other_bit 0)
+one_armed_agrees = arming_agrees (idle_driver_state (ready_device two_reads_memory)).slot_states accepted (ready_device two_reads_memory) accepted_knows.state_relation 0 0 1 refl ready_runs (bit_here 0) (other_bit 0)
 
 two_armed_agrees : StateRelation armed_uses accepted two_armed
 two_armed_agrees = arming_agrees (set_slot_state (λ _ _. Free) 0 0 Armed) accepted one_armed one_armed_agrees 0 1 2 still_free one_runs (bit_here 1) (other_bit 1)
 
-armed_have : (q : ℕ) → HaveSlots armed_uses accepted q []
+armed_have : (q : ℕ) → HaveSlotsUnlessParked armed_uses accepted q []
 armed_have q =
     put_have (set_slot_state (λ _ _. Free) 0 0 Armed) accepted 0 1 Armed q [] (λ id u. absurd (serves_free (sym u ∙ still_free)))
     (put_have (λ _ _. Free) accepted 0 0 Armed q [] (λ id u. absurd (serves_free (sym u))) (accepted_knows.have_slots q))
@@ -203,7 +203,7 @@ first_prepared = read_prepared armed_uses accepted start two_armed 0 100 100 may
 one_agrees : StateRelation one_uses issuing one_issued
 one_agrees = issue_agrees armed_uses accepted two_armed accepted_reached two_armed_agrees 0 0 queued first_waits 1 first_prepared
 
-one_have : (q : ℕ) → HaveSlots one_uses issuing q []
+one_have : (q : ℕ) → HaveSlotsUnlessParked one_uses issuing q []
 one_have q = issue_have armed_uses accepted two_armed accepted_reached two_armed_agrees 0 0 queued first_waits 1 first_prepared q [] (armed_have q)
 
 second_prepared : IsPrepared one_uses issuing one_issued 0 1 queued second_waits 2
@@ -221,17 +221,17 @@ two_knows laws = record {
 can_fetch : Can (Fetch 0 0 (queued_read 100) (piece_addresses 0x64000 8)) two_issued
 unfolding changed
 can_fetch = record {
-  fetchable = record { st = refl; issued = refl; free = refl };
-  working = record { running = refl; present = refl; fresh = refl; admitted = refl; whole = refl };
+  fetchable = record { st_is_set = refl; issued = refl; free = refl };
+  working = record { cr_is_set = refl; present = refl; fresh = refl; admitted = refl; is_not_broken = refl };
   is_unmixed = λ slot t is. absurd (none-some _ is);
   says = first_told.decodes_to;
 }
 
-taken_agrees : StepLaws → StateRelation (two_reads_driver_state one_taken).uses machine one_taken
-taken_agrees laws = silent_agrees (two_reads_driver_state one_taken).uses machine two_issued one_taken
-    (fetch_follows (two_reads_driver_state one_taken).uses machine two_issued (two_knows laws).state_relation 0 0 (queued_read 100) (piece_addresses 0x64000 8) can_fetch) refl
+taken_agrees : StepLaws → StateRelation (two_reads_driver_state one_taken).slot_states machine one_taken
+taken_agrees laws = silent_agrees (two_reads_driver_state one_taken).slot_states machine two_issued one_taken
+    (fetch_follows (two_reads_driver_state one_taken).slot_states machine two_issued (two_knows laws).state_relation 0 0 (queued_read 100) (piece_addresses 0x64000 8) can_fetch) refl
 
-bits : ((one_taken.port 0).taken 0 ≡ Some (begun (queued_read 100) (piece_addresses 0x64000 8))) × ((one_taken.port 0).ci 1 ≡ true)
+bits : ((one_taken.port 0).taken 0 ≡ Some (newly_fetched (queued_read 100) (piece_addresses 0x64000 8))) × ((one_taken.port 0).ci 1 ≡ true)
 unfolding changed
 bits = (refl, refl)
 
@@ -244,7 +244,7 @@ frames_apart f a b = ⊎_elim
 
 pub two_are_known : StepLaws → TwoReadsWitness
 two_are_known laws = record {
-  before = accepted;
+  machine_before_issue = accepted;
   reached_before = accepted_reached;
   armed = record { state_relation = two_armed_agrees; have_slots = armed_have };
   machine = machine;
@@ -256,18 +256,18 @@ two_are_known laws = record {
     inl (contains_there (newly_issued first_waits) (newly_issued second_waits ∷ []) (newly_issued second_waits) (contains_here (newly_issued second_waits) [] (newly_issued second_waits) refl), refl),
   );
   ids = (refl, refl);
-  apart = frames_apart;
+  frames_are_disjoint = frames_apart;
   first_permitted = issue_is_permitted laws armed_uses accepted two_armed accepted_reached two_armed_agrees (port_at 0) 0 queued first_waits 1
-      (record { ae = refl; no_reset = refl }) (omega arith, refl) (omega arith) first_prepared;
+      (record { ae_is_set = refl; no_reset = refl }) (omega arith, refl) (omega arith) first_prepared;
   second_permitted = issue_is_permitted laws one_uses issuing one_issued (issuing_reached laws) one_agrees (port_at 0) 1 queued second_waits 2
-      (record { ae = refl; no_reset = refl }) (omega arith, refl) (omega arith) second_prepared;
+      (record { ae_is_set = refl; no_reset = refl }) (omega arith, refl) (omega arith) second_prepared;
   issued = (two_knows laws);
   takes = record { steps = (Fetch 0 0 (queued_read 100) (piece_addresses 0x64000 8)) ∷ []; lead = (can_fetch, refl) };
   driver_relation = record { state_relation = (taken_agrees laws); have_slots = (two_knows laws).have_slots };
-  command = begun (queued_read 100) (piece_addresses 0x64000 8);
+  command = newly_fetched (queued_read 100) (piece_addresses 0x64000 8);
   taken = bits.0;
   queued = refl;
-  waits = bits.1;
+  second_waits_for_fetch = bits.1;
 }
 
 pub two_are_stored : TwoStoredReads
@@ -277,12 +277,12 @@ two_are_stored = record {
   driver_relation = accepted_knows;
   mode = queued;
   queued = refl;
-  usable = omega arith;
+  two_slots_are_usable = omega arith;
   first_request = first_waits;
   second_request = second_waits;
   first_asks = record { port_is = refl; operation = refl; first_is = refl; count = refl; frames = refl };
   second_asks = record { port_is = refl; operation = refl; first_is = refl; count = refl; frames = refl };
-  may = ((tt, may_first), may_second);
+  issues_are_enabled = ((tt, may_first), may_second);
   first_says = first_told;
   second_says = second_told;
 }

@@ -11,7 +11,7 @@ use Rattle.hba_regs.specs.declared.reg.Reg.{Reg}
 use Rattle.hba_regs.specs.declared.reg.Reg.TheVariants.{Px}
 use Rattle.hba_regs.specs.declared.reg.PortReg.{PortReg}
 use Rattle.hba_regs.specs.declared.reg.PortReg.TheVariants.{Is, Cmd, Tfd, Ssts, Serr, Ci}
-use Rattle.adapter.specs.Access.{Reads, Writes, noted, written, shown_interrupt}
+use Rattle.adapter.specs.Access.{Reads, Writes, device_after_reading, device_after_write, shown_interrupt}
 use Rattle.adapter.specs.Device.{FetchedCommand, DevicePort, Device}
 use Rattle.adapter.specs.Device.Halt.{HaltedPlain, HaltedQueued}
 use Rattle.adapter.specs.FirstRead.{first_read_device}
@@ -19,17 +19,17 @@ use Rattle.adapter.specs.Memory.{changed}
 use Rattle.adapter.specs.ReadDone.{read_of}
 use Rattle.adapter.specs.Rules.{MayStart, MayWrite, MayWritePort, IsStable}
 use Rattle.adapter.specs.Decoding.{piece_addresses}
-use Rattle.adapter.specs.Steps.{Can, device_after, begun, Steps}
+use Rattle.adapter.specs.Steps.{Can, device_after, newly_fetched, Steps}
 use Rattle.adapter.specs.Steps.DeviceTransition.{Fetch, Fault, Fall}
 use Rattle.adapter.proofs.Changed.{changed_other}
 use Rattle.adapter.proofs.FirstRead.{first_says}
 use Rattle.refinement.specs.StepLaws.{StepLaws}
 use Rattle.refinement.specs.Relation.{port_at}
-use Rattle.refinement.specs.PortFacts.{IsEngineStopped, TellsNoTrouble}
+use Rattle.refinement.specs.PortFacts.{IsEngineStopped, PxisValueTellsNoTrouble}
 use Rattle.refinement.proofs.device.AllowedWrites.{write_stays}
 use Rattle.refinement.specs.RecoveryWitness.{FaultIsSeen, RecoveredWitness}
 use Rattle.refinement.specs.HaltRecovery.{IsLinked, WorksPlainly}
-use Rattle.refinement.specs.TwoReads.{queued_read, two_issued}
+use Rattle.refinement.specs.TwoReadsWitness.{queued_read, two_issued}
 use Rattle.refinement.proofs.device.PlainPort.{plainly_well}
 use Rattle.refinement.proofs.witnesses.QueuedReads.{second_told}
 
@@ -39,7 +39,7 @@ abbrev port_reg : PortReg → Reg
 port_reg r = Px (port_at 0) r
 
 abbrev taken_read : FetchedCommand
-taken_read = begun (read_of 100 8) (piece_addresses 0x64000 8)
+taken_read = newly_fetched (read_of 100 8) (piece_addresses 0x64000 8)
 
 abbrev fetched : Device
 fetched = device_after (Fetch 0 0 (read_of 100 8) (piece_addresses 0x64000 8)) first_read_device
@@ -48,43 +48,43 @@ abbrev failed : Device
 failed = device_after (Fault 0 0 0x40 0 taken_read) fetched
 
 abbrev stopping : Device
-stopping = written (port_reg Cmd) 0x10 failed
+stopping = device_after_write (port_reg Cmd) 0x10 failed
 
 abbrev stopped : Device
 stopped = device_after (Fall 0) stopping
 
 abbrev cleared : Device
-cleared = written (port_reg Serr) 0xffffffff stopped
+cleared = device_after_write (port_reg Serr) 0xffffffff stopped
 
 abbrev quieted : Device
-quieted = written (port_reg Is) 0xffffffff cleared
+quieted = device_after_write (port_reg Is) 0xffffffff cleared
 
 abbrev idle : Device
-idle = noted (port_reg Tfd) 0x4041 quieted
+idle = device_after_reading (port_reg Tfd) 0x4041 quieted
 
 abbrev ready : Device
-ready = noted (port_reg Ssts) 3 idle
+ready = device_after_reading (port_reg Ssts) 3 idle
 
 abbrev started : Device
-started = written (port_reg Cmd) 0x11 ready
+started = device_after_write (port_reg Cmd) 0x11 ready
 
 abbrev found : Device
-found = noted (port_reg Is) 0 started
+found = device_after_reading (port_reg Is) 0 started
 
 -- ---- the device's steps
 
 first_fetch : Can (Fetch 0 0 (read_of 100 8) (piece_addresses 0x64000 8)) first_read_device
 unfolding changed
 first_fetch = record {
-  fetchable = record { st = refl; issued = refl; free = refl };
-  working = record { running = refl; present = refl; fresh = refl; admitted = refl; whole = refl };
+  fetchable = record { st_is_set = refl; issued = refl; free = refl };
+  working = record { cr_is_set = refl; present = refl; fresh = refl; admitted = refl; is_not_broken = refl };
   is_unmixed = λ slot t is. absurd (none-some _ is);
   says = first_says;
 }
 
 first_fault : Can (Fault 0 0 0x40 0 taken_read) fetched
 unfolding changed
-first_fault = record { taken = refl; running = refl; is_byte = omega arith; kept_bits_are_allowed = refl }
+first_fault = record { taken = refl; cr_is_set = refl; is_byte = omega arith; kept_bits_are_allowed = refl }
 
 fails : Steps first_read_device failed
 fails = record { steps = Fetch 0 0 (read_of 100 8) (piece_addresses 0x64000 8) ∷ Fault 0 0 0x40 0 taken_read ∷ []; lead = (first_fetch, (first_fault, refl)) }
@@ -95,16 +95,16 @@ can_fall = (refl, refl)
 
 -- ---- the accesses
 
-writes : (r : Reg) (v : ℕ) (d : Device) → Writes r v d (written r v d)
-writes r v d = record { mid = d; steps = record { steps = []; lead = refl }; effect = refl }
+writes : (r : Reg) (v : ℕ) (d : Device) → Writes r v d (device_after_write r v d)
+writes r v d = record { at_access = d; steps = record { steps = []; lead = refl }; effect = refl }
 
 waits : Reads (port_reg Tfd) 0x4041 quieted idle
 unfolding changed
-waits = record { mid = quieted; steps = record { steps = []; lead = refl }; shows = refl; effect = refl }
+waits = record { at_access = quieted; steps = record { steps = []; lead = refl }; shows = refl; effect = refl }
 
 sees : Reads (port_reg Ssts) 3 idle ready
 unfolding changed
-sees = record { mid = idle; steps = record { steps = []; lead = refl }; shows = refl; effect = refl }
+sees = record { at_access = idle; steps = record { steps = []; lead = refl }; shows = refl; effect = refl }
 
 -- 0 has no bit
 no_bit : (place : ℕ) → bit 0 place ≡ false
@@ -132,15 +132,15 @@ all_quiet place = ⊎_elim
     (cases_eq place 30)
 
 tells : Reads (port_reg Is) 0 started found
-tells = record { mid = started; steps = record { steps = []; lead = refl }; shows = λ place cause. none_shown (started.port 0) clear_errors.0 clear_errors.1 all_quiet place; effect = refl }
+tells = record { at_access = started; steps = record { steps = []; lead = refl }; shows = λ place cause. none_shown (started.port 0) clear_errors.0 clear_errors.1 all_quiet place; effect = refl }
 
-no_trouble : TellsNoTrouble 0
+no_trouble : PxisValueTellsNoTrouble 0
 no_trouble = record { pcs_is_clear = no_bit 6; prcs_is_clear = no_bit 22; no_error_bit_is_set = λ place low high. no_bit place }
 
 -- ---- the writes are permitted
 
 permitted : (r : PortReg) (v : ℕ) (d : Device) → ((p : Port) → port_reg r ≢ Px p Ci) → d.ae ≡ true → d.hr ≡ false → d.pi ≡ 0x0f → MayWritePort r v d (d.port 0) → IsStable (MayWrite (port_reg r) v) d
-permitted r v d other ae hr pi x = write_stays (port_reg r) v d other (record { ae = ae; no_reset = hr }, (omega arith, ap (λ (n : ℕ). bit n 0) pi), x)
+permitted r v d other ae hr pi x = write_stays (port_reg r) v d other (record { ae_is_set = ae; no_reset = hr }, (omega arith, ap (λ (n : ℕ). bit n 0) pi), x)
 
 -- 10h and 11h have the bits of FRE, and of ST and FRE, alone
 one_bit : (place : ℕ) → place ≢ 4 → bit_at 0x10 place ≡ 0
@@ -157,12 +157,12 @@ may_stop = permitted Cmd 0x10 failed (λ p e. cc) refl refl refl (record {
   start = λ b. absurd (false≢true b);
   receive = λ b. inl refl;
   stop_receiving = λ b. absurd (true≢false b);
-  others = λ place lt start receive. ap (λ (n : ℕ). n == 1) (one_bit place receive ∙ sym (bit_at-zero place));
+  other_bits_are_kept = λ place lt start receive. ap (λ (n : ℕ). n == 1) (one_bit place receive ∙ sym (bit_at-zero place));
 })
 
 is_startable : MayStart (ready.port 0)
 unfolding changed
-is_startable = record { cr_is_clear = refl; receives = refl; programmed = record { clb = refl; clbu = refl; fb = refl; fbu = refl }; link_was_seen = refl; not_busy = refl }
+is_startable = record { cr_is_clear = refl; receives = refl; programmed = record { clb_is_written = refl; clbu_is_written = refl; fb_is_written = refl; fbu_is_written = refl }; link_was_seen = refl; not_busy = refl }
 
 may_start : IsStable (MayWrite (port_reg Cmd) 0x11) ready
 unfolding changed
@@ -170,26 +170,26 @@ may_start = permitted Cmd 0x11 ready (λ p e. cc) refl refl refl (record {
   start = λ b. inr is_startable;
   receive = λ b. inl refl;
   stop_receiving = λ b. absurd (true≢false b);
-  others = λ place lt start receive. ap (λ (n : ℕ). n == 1) (two_bits place start receive ∙ sym (bit_at-zero place));
+  other_bits_are_kept = λ place lt start receive. ap (λ (n : ℕ). n == 1) (two_bits place start receive ∙ sym (bit_at-zero place));
 })
 
 -- ---- what is known of it
 
 first_plain : WorksPlainly (first_read_device.port 0)
 unfolding changed
-first_plain = record { start_ends_halt = refl; unarmed = λ slot. refl; plain = λ slot t is. absurd (none-some _ is) }
+first_plain = record { start_ends_halt = refl; unarmed = λ slot. refl; taken_are_plain = λ slot t is. absurd (none-some _ is) }
 
 first_linked : IsLinked (first_read_device.port 0)
 unfolding changed
-first_linked = record { det = refl; present = refl; fresh = refl; no_link_is_due = refl; comreset_is_over = λ (e : 0 ≡ 1). omega (arith, e) }
+first_linked = record { det_is_3 = refl; present = refl; fresh = refl; no_link_is_due = refl; comreset_is_over = λ (e : 0 ≡ 1). omega (arith, e) }
 
 ready_plain : WorksPlainly (ready.port 0)
 unfolding changed
-ready_plain = record { start_ends_halt = refl; unarmed = λ slot. refl; plain = λ slot t is. absurd (none-some _ is) }
+ready_plain = record { start_ends_halt = refl; unarmed = λ slot. refl; taken_are_plain = λ slot t is. absurd (none-some _ is) }
 
 ready_linked : IsLinked (ready.port 0)
 unfolding changed
-ready_linked = record { det = refl; present = refl; fresh = refl; no_link_is_due = refl; comreset_is_over = λ (e : 0 ≡ 1). omega (arith, e) }
+ready_linked = record { det_is_3 = refl; present = refl; fresh = refl; no_link_is_due = refl; comreset_is_over = λ (e : 0 ≡ 1). omega (arith, e) }
 
 states : ((failed.port 0).halt ≡ HaltedPlain) × ((ready.port 0).st ≡ false) × ((ready.port 0).cr ≡ false)
 unfolding changed
@@ -198,7 +198,7 @@ states = (refl, refl, refl)
 -- the command was taken when ST was cleared, and isn't any more
 stands : IsEngineStopped (stopped.port 0)
 unfolding changed
-stands = record { st = refl; cr = refl; ci = λ slot. refl; taken = λ slot. refl }
+stands = record { st_is_clear = refl; cr_is_clear = refl; no_command_is_issued = λ slot. refl; no_command_is_taken = λ slot. refl }
 
 pub recovery_is_found : StepLaws → RecoveredWitness
 recovery_is_found laws = record {
@@ -215,19 +215,19 @@ recovery_is_found laws = record {
   engine_has_stopped = stands;
   may_clear = permitted Serr 0xffffffff stopped (λ p e. cc) refl refl refl tt;
   cleared = cleared;
-  clears = writes (port_reg Serr) 0xffffffff stopped;
-  may_quiet = permitted Is 0xffffffff cleared (λ p e. cc) refl refl refl tt;
+  serr_is_cleared = writes (port_reg Serr) 0xffffffff stopped;
+  pxis_may_be_cleared = permitted Is 0xffffffff cleared (λ p e. cc) refl refl refl tt;
   quieted = quieted;
-  quiets = writes (port_reg Is) 0xffffffff cleared;
+  pxis_is_cleared = writes (port_reg Is) 0xffffffff cleared;
   idle = idle;
-  waits = waits;
+  tfd_is_read_idle = waits;
   ready = ready;
-  sees = sees;
+  ssts_is_read_present = sees;
   may_start = may_start;
   started = started;
   starts = writes (port_reg Cmd) 0x11 ready;
   found = found;
-  tells = tells;
+  pxis_is_read_clear = tells;
   still_plain = ready_plain;
   still_linked = ready_linked;
   port_runs_well = plainly_well laws (port_at 0) 0x11 0 ready started found refl states.1 states.2 refl ready_linked ready_plain (writes (port_reg Cmd) 0x11 ready) tells no_trouble;
@@ -238,17 +238,17 @@ recovery_is_found laws = record {
 pub fault_is_seen : FaultIsSeen first_read_device 0 HaltedPlain
 unfolding changed
 fault_is_seen = record {
-  seen = noted (port_reg Ssts) 3 failed;
-  sees = record { mid = failed; steps = fails; shows = refl; effect = refl };
+  seen = device_after_reading (port_reg Ssts) 3 failed;
+  sees = record { at_access = failed; steps = fails; shows = refl; effect = refl };
   halted = refl;
   fault = record { port = port_at 0; slot = record { 0 = 0 }; status = 0x41; error = 0x40 };
-  here = (0, omega arith, refl);
-  of = (refl, refl);
+  fault_is_on_tape = (0, omega arith, refl);
+  fault_is_of_slot = (refl, refl);
 }
 
 -- of two queued reads that are issued the second may be taken first, and fail
 abbrev second_read : FetchedCommand
-second_read = begun (queued_read 108) (piece_addresses 0x65000 8)
+second_read = newly_fetched (queued_read 108) (piece_addresses 0x65000 8)
 
 abbrev second_taken : Device
 second_taken = device_after (Fetch 0 1 (queued_read 108) (piece_addresses 0x65000 8)) two_issued
@@ -259,15 +259,15 @@ second_failed = device_after (Fault 0 1 0x40 0 second_read) second_taken
 second_fetch : Can (Fetch 0 1 (queued_read 108) (piece_addresses 0x65000 8)) two_issued
 unfolding changed
 second_fetch = record {
-  fetchable = record { st = refl; issued = refl; free = refl };
-  working = record { running = refl; present = refl; fresh = refl; admitted = refl; whole = refl };
+  fetchable = record { st_is_set = refl; issued = refl; free = refl };
+  working = record { cr_is_set = refl; present = refl; fresh = refl; admitted = refl; is_not_broken = refl };
   is_unmixed = λ slot t is. absurd (none-some _ is);
   says = second_told.decodes_to;
 }
 
 second_fault : Can (Fault 0 1 0x40 0 second_read) second_taken
 unfolding changed
-second_fault = record { taken = refl; running = refl; is_byte = omega arith; kept_bits_are_allowed = refl }
+second_fault = record { taken = refl; cr_is_set = refl; is_byte = omega arith; kept_bits_are_allowed = refl }
 
 second_fails : Steps two_issued second_failed
 second_fails = record { steps = Fetch 0 1 (queued_read 108) (piece_addresses 0x65000 8) ∷ Fault 0 1 0x40 0 second_read ∷ []; lead = (second_fetch, (second_fault, refl)) }
@@ -275,10 +275,10 @@ second_fails = record { steps = Fetch 0 1 (queued_read 108) (piece_addresses 0x6
 pub queued_fault_is_seen : FaultIsSeen two_issued 1 HaltedQueued
 unfolding changed
 queued_fault_is_seen = record {
-  seen = noted (port_reg Ssts) 3 second_failed;
-  sees = record { mid = second_failed; steps = second_fails; shows = refl; effect = refl };
+  seen = device_after_reading (port_reg Ssts) 3 second_failed;
+  sees = record { at_access = second_failed; steps = second_fails; shows = refl; effect = refl };
   halted = refl;
   fault = record { port = port_at 0; slot = record { 0 = 1 }; status = 0x41; error = 0x40 };
-  here = (0, omega arith, refl);
-  of = (refl, refl);
+  fault_is_on_tape = (0, omega arith, refl);
+  fault_is_of_slot = (refl, refl);
 }

@@ -4,7 +4,7 @@ use Rattle.std.specs.Prelude.{if◌then◌else◌, nat_eq}
 use Rattle.std.proofs.lemmas.Bool.{and_parts, both_ways}
 use Rattle.byteorder.specs.Endian.{little_from}
 use Rattle.adapter.specs.declared.command.Operation.{Operation}
-use Rattle.adapter.specs.Commands.{Meaning, IsMeaning, is_ranged, command_of, piece_count, reads_memory}
+use Rattle.adapter.specs.Commands.{Meaning, IsValidMeaning, is_ranged, command_of, piece_count, reads_memory}
 use Rattle.adapter.specs.Memory.{bytes_at}
 use Rattle.adapter.specs.Decoding.{DecodesTo, IsWholePieces, piece_addresses}
 use Rattle.adapter.specs.Encoding.{IsAllowedPrd}
@@ -12,7 +12,7 @@ use Rattle.adapter.specs.declared.command.Command.{Command}
 use Rattle.adapter.specs.declared.command.Prd.{Prd}
 use Rattle.adapter.proofs.MemoryLemmas.{bytes_length}
 use Rattle.adapter.proofs.SaysLemmas.{cut_length}
-use Rattle.refinement.specs.MemoryLayout.{scratch_of, table_of}
+use Rattle.refinement.specs.MemoryLayout.{scratch_frame_address, command_table_address}
 use Rattle.refinement.specs.Slots.{SlotDecodesTo}
 
 -- the bytes from a place on are zero, as a test
@@ -47,11 +47,11 @@ IsSpeltPrd bytes e = (little_from 0 4 bytes ≡ e.address) × (little_from 4 8 b
 
 -- the slot says the command, with the PRD
 pub record IsSpelt (memory : ℕ → ℕ) (slot : ℕ) (c : Meaning) (e : Prd) : Type 0 where
-  pub header : IsSpeltHeader (bytes_at memory (0 + 32 * slot) 32) (reads_memory c.operation) (table_of 0 slot)
-  pub aligned : table_of 0 slot % 128 ≡ 0
-  pub fis : IsSpeltCommand (bytes_at memory (table_of 0 slot) 20) (command_of c.operation slot c.first c.count)
-  pub meaning : IsMeaning c
-  pub prd : IsSpeltPrd (bytes_at memory (table_of 0 slot + 128) 16) e
+  pub header : IsSpeltHeader (bytes_at memory (0 + 32 * slot) 32) (reads_memory c.operation) (command_table_address 0 slot)
+  pub aligned : command_table_address 0 slot % 128 ≡ 0
+  pub fis : IsSpeltCommand (bytes_at memory (command_table_address 0 slot) 20) (command_of c.operation slot c.first c.count)
+  pub meaning : IsValidMeaning c
+  pub prd : IsSpeltPrd (bytes_at memory (command_table_address 0 slot + 128) 16) e
   pub allowed : IsAllowedPrd e
   pub whole : e.bytes % 512 ≡ 0
   pub as_many : e.bytes / 512 ≡ piece_count c.operation c.count
@@ -63,7 +63,7 @@ one_whole e whole (suc k) d small = absurd (omega (arith, small))
 module _ (memory : ℕ → ℕ) (slot : ℕ) (c : Meaning) (e : Prd) (s : IsSpelt memory slot c e) where
   says : DecodesTo memory 0 slot c (piece_addresses e.address (e.bytes / 512))
   says = record {
-    table = table_of 0 slot;
+    table = command_table_address 0 slot;
     prds = e ∷ [];
     header = record {
       size = bytes_length memory (0 + 32 * slot) 32;
@@ -73,7 +73,7 @@ module _ (memory : ℕ → ℕ) (slot : ℕ) (c : Meaning) (e : Prd) (s : IsSpel
       zeros = λ i low high. are_zero 12 (bytes_at memory (0 + 32 * slot) 32) i s.header.2 low;
     };
     fis = record {
-      size = bytes_length memory (table_of 0 slot) 20;
+      size = bytes_length memory (command_table_address 0 slot) 20;
       fis_type = s.fis.0;
       c_bit = s.fis.1;
       code = s.fis.2;
@@ -81,11 +81,11 @@ module _ (memory : ℕ → ℕ) (slot : ℕ) (c : Meaning) (e : Prd) (s : IsSpel
       lba = s.fis.4;
       device = s.fis.5;
       count = s.fis.6;
-      zeros = λ i low high. are_zero 14 (bytes_at memory (table_of 0 slot) 20) i s.fis.7 low;
+      zeros = λ i low high. are_zero 14 (bytes_at memory (command_table_address 0 slot) 20) i s.fis.7 low;
     };
     meaning = s.meaning;
-    prds_stand = (
-      record { size = bytes_length memory (table_of 0 slot + 128) 16; allowed = s.allowed; address = s.prd.0; upper_is_zero = s.prd.1; byte_count_is = s.prd.2 },
+    prds_are_encoded = (
+      record { size = bytes_length memory (command_table_address 0 slot + 128) 16; allowed = s.allowed; address = s.prd.0; upper_is_zero = s.prd.1; byte_count_is = s.prd.2 },
       tt,
     );
     prd_count_is_allowed = omega arith;
@@ -100,10 +100,10 @@ module _ (memory : ℕ → ℕ) (slot : ℕ) (c : Meaning) (e : Prd) (s : IsSpel
 
 -- a command of slot 0 that names no sectors and has its page or block in the scratch frame
 abbrev page_prd : Prd
-page_prd = record { address = scratch_of 0; bytes = 512 }
+page_prd = record { address = scratch_frame_address 0; bytes = 512 }
 
 pub page_told : (memory : ℕ → ℕ) (o : Operation) → is_ranged o ≡ false → piece_count o 0 ≡ 1 → IsSpeltHeader (bytes_at memory 0 32) (reads_memory o) 0x1000 →
-    IsSpeltCommand (bytes_at memory 0x1000 20) (command_of o 0 0 0) → IsSpeltPrd (bytes_at memory 0x1080 16) page_prd → SlotDecodesTo memory 0 0 0 (record { operation = o; first = 0; count = 0 }) (scratch_of 0 ∷ [])
+    IsSpeltCommand (bytes_at memory 0x1000 20) (command_of o 0 0 0) → IsSpeltPrd (bytes_at memory 0x1080 16) page_prd → SlotDecodesTo memory 0 0 0 (record { operation = o; first = 0; count = 0 }) (scratch_frame_address 0 ∷ [])
 page_told memory o unranged one header fis prd = spelt_told memory 0 (record { operation = o; first = 0; count = 0 }) page_prd (record {
   header = header;
   aligned = refl;

@@ -6,7 +6,7 @@ use Rattle.std.proofs.lemmas.List.Elements.{All-nil, All-cons}
 use Rattle.adapter.specs.Device.{FetchedCommand, Device}
 use Rattle.adapter.specs.FirstRead.{first_memory}
 use Rattle.adapter.specs.Memory.{patched, bytes_at, changed}
-use Rattle.adapter.specs.Steps.{Can, Steps, device_after, begun}
+use Rattle.adapter.specs.Steps.{Can, Steps, device_after, newly_fetched}
 use Rattle.adapter.specs.Steps.DeviceTransition.{Fetch, Move, Clear, Done}
 use Rattle.adapter.specs.Trim.{trim_sectors, consecutive}
 use Rattle.adapter.specs.declared.command.Operation.TheVariants.{Trim}
@@ -18,10 +18,10 @@ use Rattle.block_machine.proofs.Members.{contains_here, contains_none, into_map}
 use Rattle.refinement.specs.StepLaws.{StepLaws}
 use Rattle.refinement.specs.Relation.{port_at}
 use Rattle.refinement.specs.Driver.{DriverRelation, IsPrepared, idle_driver_state}
-use Rattle.refinement.specs.MemoryLayout.{scratch_of}
+use Rattle.refinement.specs.MemoryLayout.{scratch_frame_address}
 use Rattle.refinement.specs.Slots.{Free, Serves, SlotDecodesTo}
-use Rattle.refinement.specs.TrimWitness.{trim, example_trim_block, trim_memory, prepared_trim, issued_trim, taken_trim, trim_driver_state, TrimAgrees}
-use Rattle.refinement.specs.ReadWitness.{first_id, first_uses}
+use Rattle.refinement.specs.TrimWitness.{example_trim, example_trim_block, trim_memory, prepared_trim, issued_trim, taken_trim, trim_driver_state, TrimAgrees}
+use Rattle.refinement.specs.ReadWitness.{first_id, first_slot_states}
 use Rattle.refinement.proofs.witnesses.AcceptedRequests.{accepted_of, has_its_grant, trim_of, trim_is_new}
 use Rattle.refinement.proofs.driver.OwnSteps.{accept_knows}
 use Rattle.refinement.proofs.witnesses.EndedRead.{done_is_known}
@@ -34,14 +34,14 @@ use Rattle.refinement.proofs.witnesses.FirstRead.{start_with, starts_with, plain
 
 -- ---- what the bytes say
 
-told : SlotDecodesTo trim_memory 0 0 0 trim (scratch_of 0 ∷ [])
+told : SlotDecodesTo trim_memory 0 0 0 example_trim (scratch_frame_address 0 ∷ [])
 unfolding trim_memory first_memory patched bytes_at zeros_from
 told = page_told trim_memory Trim refl refl (refl, refl, refl) (refl, refl, refl, refl, refl, refl, refl, refl) (refl, refl, refl)
 
 -- the block stands in the scratch frame, and names eight sectors
-block_is : bytes_at trim_memory (scratch_of 0) 512 ≡ example_trim_block
+block_is : bytes_at trim_memory (scratch_frame_address 0) 512 ≡ example_trim_block
 unfolding trim_memory
-block_is = patched_bytes _ (scratch_of 0) example_trim_block
+block_is = patched_bytes _ (scratch_frame_address 0) example_trim_block
 
 block_means : trim_sectors example_trim_block ≡ consecutive 100 8
 block_means = refl
@@ -79,52 +79,52 @@ abbrev issued : Machine
 issued = after_step accepted (Issue plain waits)
 
 reached : StepLaws → IsReachable issued
-reached laws = laws.reached accepted (Issue plain waits ∷ []) accepted_reached (tt, may_issue)
+reached laws = laws.reachable_goes_on accepted (Issue plain waits ∷ []) accepted_reached (tt, may_issue)
 
 -- ---- it is issued, and taken
 
 accepted_knows : DriverRelation accepted (idle_driver_state prepared_trim)
 accepted_knows = accept_knows (idle_driver_state prepared_trim) start request (ready_knows trim_memory)
 
-prepared : IsPrepared (idle_driver_state prepared_trim).uses accepted prepared_trim 0 0 plain waits 1
+prepared : IsPrepared (idle_driver_state prepared_trim).slot_states accepted prepared_trim 0 0 plain waits 1
 unfolding changed
 prepared = record {
-  may = may_issue;
+  issue_is_enabled = may_issue;
   port_is = refl;
-  free = refl;
-  usable = omega arith;
+  slot_state_is = refl;
+  slot_is_usable = omega arith;
   plain_is_in_slot_0 = λ _. refl;
   st_is_set = refl;
   list_is_in_place = record { port_below = omega arith; slot_below = omega arith; list = refl };
-  command = trim;
-  places = scratch_of 0 ∷ [];
+  command = example_trim;
+  places = scratch_frame_address 0 ∷ [];
   slot_decodes_to = told;
   means = record { op_is = refl; first_sector_is = λ h. absurd (false≢true h); places_are = refl; trim_is_in_slot_0 = λ _. refl };
-  kind = refl;
-  block = ap trim_sectors block_is ∙ block_means;
+  queued_as_request = refl;
+  has_block_if_trim = ap trim_sectors block_is ∙ block_means;
   bit_is_set = refl;
   no_other_bit_is_set = bit_one_other;
 }
 
 issued_knows : DriverRelation issued trim_driver_state
 issued_knows = record {
-  state_relation = issue_agrees (idle_driver_state prepared_trim).uses accepted prepared_trim accepted_reached accepted_knows.state_relation 0 0 plain waits 1 prepared;
-  have_slots = λ q. issue_have (idle_driver_state prepared_trim).uses accepted prepared_trim accepted_reached accepted_knows.state_relation 0 0 plain waits 1 prepared q [] (accepted_knows.have_slots q);
+  state_relation = issue_agrees (idle_driver_state prepared_trim).slot_states accepted prepared_trim accepted_reached accepted_knows.state_relation 0 0 plain waits 1 prepared;
+  have_slots = λ q. issue_have (idle_driver_state prepared_trim).slot_states accepted prepared_trim accepted_reached accepted_knows.state_relation 0 0 plain waits 1 prepared q [] (accepted_knows.have_slots q);
 }
 
-can_fetch : Can (Fetch 0 0 trim (scratch_of 0 ∷ [])) issued_trim
-can_fetch = can_take trim_memory trim (scratch_of 0 ∷ []) told.decodes_to
+can_fetch : Can (Fetch 0 0 example_trim (scratch_frame_address 0 ∷ [])) issued_trim
+can_fetch = can_take trim_memory example_trim (scratch_frame_address 0 ∷ []) told.decodes_to
 
 -- ---- and done
 
 abbrev brought : FetchedCommand
-brought = record (begun trim (scratch_of 0 ∷ [])) { moved = 1; block = example_trim_block }
+brought = record (newly_fetched example_trim (scratch_frame_address 0 ∷ [])) { moved = 1; block = example_trim_block }
 
 abbrev cleared : FetchedCommand
 cleared = record brought { cleared = 8 }
 
 abbrev moved : Device
-moved = device_after (Move 0 0 (begun trim (scratch_of 0 ∷ [])) example_trim_block) taken_trim
+moved = device_after (Move 0 0 (newly_fetched example_trim (scratch_frame_address 0 ∷ [])) example_trim_block) taken_trim
 
 abbrev zeroed : Device
 zeroed = device_after (Clear 0 0 brought 100 8) moved
@@ -146,10 +146,10 @@ small : All (λ b. b < 256) example_trim_block
 unfolding are_small
 small = all_small example_trim_block refl
 
-can_move : Can (Move 0 0 (begun trim (scratch_of 0 ∷ [])) example_trim_block) taken_trim
+can_move : Can (Move 0 0 (newly_fetched example_trim (scratch_frame_address 0 ∷ [])) example_trim_block) taken_trim
 unfolding changed
 can_move = record {
-  works = record { taken = refl; working = record { running = refl; present = refl; fresh = refl; admitted = refl; whole = refl } };
+  works = record { taken = refl; working = record { cr_is_set = refl; present = refl; fresh = refl; admitted = refl; is_not_broken = refl } };
   piece_is_left = omega arith;
   bytes_are_sector = (refl, small);
   brings = sym block_is;
@@ -158,7 +158,7 @@ can_move = record {
 can_clear : Can (Clear 0 0 brought 100 8) moved
 unfolding changed
 can_clear = record {
-  works = record { taken = refl; working = record { running = refl; present = refl; fresh = refl; admitted = refl; whole = refl } };
+  works = record { taken = refl; working = record { cr_is_set = refl; present = refl; fresh = refl; admitted = refl; is_not_broken = refl } };
   trim = refl;
   block_is_moved = refl;
   first_is_next = refl;
@@ -169,18 +169,18 @@ can_clear = record {
 can_end : Can (Done 0 0 0 cleared) zeroed
 unfolding changed
 can_end = record {
-  works = record { taken = refl; working = record { running = refl; present = refl; fresh = refl; admitted = refl; whole = refl } };
+  works = record { taken = refl; working = record { cr_is_set = refl; present = refl; fresh = refl; admitted = refl; is_not_broken = refl } };
   finished = record { all_is_moved = refl; all_is_cleared = λ _. refl };
   cause_is_allowed = inl refl;
 }
 
 comes : Steps issued_trim ended
 comes = record {
-  steps = Fetch 0 0 trim (scratch_of 0 ∷ []) ∷ Move 0 0 (begun trim (scratch_of 0 ∷ [])) example_trim_block ∷ Clear 0 0 brought 100 8 ∷ Done 0 0 0 cleared ∷ [];
+  steps = Fetch 0 0 example_trim (scratch_frame_address 0 ∷ []) ∷ Move 0 0 (newly_fetched example_trim (scratch_frame_address 0 ∷ [])) example_trim_block ∷ Clear 0 0 brought 100 8 ∷ Done 0 0 0 cleared ∷ [];
   lead = (can_fetch, (can_move, (can_clear, (can_end, refl))));
 }
 
-bits : ((issued_trim.port 0).st ≡ true) × ((ended.port 0).ci 0 ≡ false) × ((ended.port 0).sact 0 ≡ false) × ((taken_trim.port 0).taken 0 ≡ Some (begun trim (scratch_of 0 ∷ [])))
+bits : ((issued_trim.port 0).st ≡ true) × ((ended.port 0).ci 0 ≡ false) × ((ended.port 0).sact 0 ≡ false) × ((taken_trim.port 0).taken 0 ≡ Some (newly_fetched example_trim (scratch_frame_address 0 ∷ [])))
 unfolding changed
 bits = (refl, refl, refl, refl)
 
@@ -192,13 +192,13 @@ trim_is_known laws = record {
   may_still_move = inl (contains_here (newly_issued waits) [] (newly_issued waits) refl, refl);
   id_is = refl;
   op_is = refl;
-  permitted = issue_is_permitted laws (idle_driver_state prepared_trim).uses accepted prepared_trim accepted_reached accepted_knows.state_relation (port_at 0) 0 plain waits 1
-      (record { ae = refl; no_reset = refl }) (omega arith, refl) (omega arith) prepared;
+  permitted = issue_is_permitted laws (idle_driver_state prepared_trim).slot_states accepted prepared_trim accepted_reached accepted_knows.state_relation (port_at 0) 0 plain waits 1
+      (record { ae_is_set = refl; no_reset = refl }) (omega arith, refl) (omega arith) prepared;
   issued = issued_knows;
-  takes = record { steps = (Fetch 0 0 trim (scratch_of 0 ∷ [])) ∷ []; lead = (can_fetch, refl) };
+  takes = record { steps = (Fetch 0 0 example_trim (scratch_frame_address 0 ∷ [])) ∷ []; lead = (can_fetch, refl) };
   taken = bits.3;
   driver_relation = record {
-    state_relation = silent_agrees first_uses issued issued_trim taken_trim (fetch_follows first_uses issued issued_trim issued_knows.state_relation 0 0 trim (scratch_of 0 ∷ []) can_fetch) refl;
+    state_relation = silent_agrees first_slot_states issued issued_trim taken_trim (fetch_follows first_slot_states issued issued_trim issued_knows.state_relation 0 0 example_trim (scratch_frame_address 0 ∷ []) can_fetch) refl;
     have_slots = issued_knows.have_slots;
   };
   done = done_is_known laws trim_driver_state issued (reached laws) issued_knows first_id (put_same (λ _ _. Free) 0 0 (Serves first_id)) refl ended comes refl bits.0 bits.1 bits.2;

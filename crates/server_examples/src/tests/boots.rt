@@ -45,7 +45,7 @@ fn found(alloc: Global, sectors: u32, lies: [Lie; 4]) -> Result<(u8, bool, Probe
     lie(&mut model, third);
     lie(&mut model, last);
     let host = take_over(&mut model, &IMAGE_DISK);
-    Ok((host.slots, host.queued, host.ports[0]))
+    Ok((host.slot_count, host.supports_ncq, host.ports[0]))
 }
 
 /// Compares what port 0 is found to be there.

@@ -1,6 +1,6 @@
 // A disk in memory of which one call fails, as one of a file may.
 ghost use Rattle.std.specs.Prelude.{◌≡◌, Some, true, false};
-ghost use Rattle.sector_store.specs.Stores.{FailsOn};
+ghost use Rattle.sector_store.specs.Stores.{HasOneMoreFailure};
 
 use sector_store::{Failures, MemStore, SectorStore};
 
@@ -19,17 +19,18 @@ impl FailingCall {
         FailingCall {
             before,
             failed: Failures {
-                calls: 0,
-                sector: 0,
-                is_write: false,
+                failed_calls: 0,
+                last_sector: 0,
+                last_is_write: false,
             },
         }
     }
 
     /// Whether this call on a sector that is there fails. It is noted then.
     pub fn fails(&mut self, is_write: bool, sector: u64) -> bool
-        ensures serves { result ≡ false → self.new.failed ≡ self.old.failed }
-        ensures fails { result ≡ true → FailsOn is_write sector (Some self.old.failed) (Some self.new.failed) }
+        ensures none_is_noted { result ≡ false → self.new.failed ≡ self.old.failed }
+        ensures failure_is_noted { result ≡ true
+            → HasOneMoreFailure is_write sector (Some self.old.failed) (Some self.new.failed) }
     {
         let fails = self.before == 0;
         // No other one fails.
@@ -42,12 +43,12 @@ impl FailingCall {
 
     /// Notes that this call on a sector that is there fails.
     pub fn fail(&mut self, is_write: bool, sector: u64)
-        ensures { FailsOn is_write sector (Some self.old.failed) (Some self.new.failed) }
+        ensures { HasOneMoreFailure is_write sector (Some self.old.failed) (Some self.new.failed) }
     {
         self.failed = Failures {
-            calls: self.failed.calls.wrapping_add(1),
-            sector,
-            is_write,
+            failed_calls: self.failed.failed_calls.wrapping_add(1),
+            last_sector: sector,
+            last_is_write: is_write,
         };
     }
 }

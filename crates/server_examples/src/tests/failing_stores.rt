@@ -2,8 +2,8 @@
 // clear sectors.
 use super::failing_store::FailingStore;
 use super::lists::image_of_numbers;
-use super::servers::{CACHED, QUEUED, UNQUEUED};
-use play::{Ended, play};
+use super::servers::{CACHED_CONFIG, QUEUED_CONFIG, UNQUEUED_CONFIG};
+use play::{Ended, PlayInputs, play};
 use sector_store::{MemStore, SectorStore};
 use std::alloc::Global;
 use std::test::Fail;
@@ -22,7 +22,7 @@ pub struct SectorCalls {
 /// A worked case: its configuration, the sectors of its disk, its session, in the form of examples/cases, how many
 /// requests it has, and the calls of the disk in their order.
 #[derive(Clone, Copy)]
-pub struct Case<'a> {
+pub struct FailingPlay<'a> {
     pub text: &'a str,
     pub sectors: u32,
     pub session: &'a str,
@@ -46,8 +46,8 @@ const CLEARS: SectorCalls = SectorCalls {
 };
 
 /// One request, of a disk that queues commands.
-const ONE: Case<'static> = Case {
-    text: QUEUED,
+const ONE: FailingPlay<'static> = FailingPlay {
+    text: QUEUED_CONFIG,
     sectors: 356,
     session: "",
     requests: 1,
@@ -123,17 +123,17 @@ state Ready
     };
 }
 
-const CASES: [Case<'static>; 11] = [
-    Case {
+const FAILING_PLAYS: [FailingPlay<'static>; 11] = [
+    FailingPlay {
         session: session!("> read 1 0 100 8 76\nok 1\n", 0 => 1),
         ..ONE
     },
-    Case {
+    FailingPlay {
         session: session!("> write 1 0 100 8 76\nok 1\n", 0 => 1),
         calls: &[CLEARS],
         ..ONE
     },
-    Case {
+    FailingPlay {
         session: session!(
             "> write 1 0 100 8 76\nok 1\n> write 1 0 120 8 77\nok 2\n",
             1 => 2,
@@ -150,7 +150,7 @@ const CASES: [Case<'static>; 11] = [
         ],
         ..ONE
     },
-    Case {
+    FailingPlay {
         session: session!(
             "> write 1 0 100 1 76\nok 1\n> read 1 0 100 1 77\nok 2\n",
             0 => 1,
@@ -167,7 +167,7 @@ const CASES: [Case<'static>; 11] = [
         ],
         ..ONE
     },
-    Case {
+    FailingPlay {
         session: session!(
             "> trim 1 0 100 8\nok 1\n> read 1 0 104 8 76\nok 2\n",
             0 => 1,
@@ -184,7 +184,7 @@ const CASES: [Case<'static>; 11] = [
         ],
         ..ONE
     },
-    Case {
+    FailingPlay {
         session: session!(
             "> write 1 0 100 8 76\nok 1\n> flush 1 0\nok 2\n> read 1 0 130 2 77\nok 3\n",
             0 => 1,
@@ -203,7 +203,7 @@ const CASES: [Case<'static>; 11] = [
         ],
         ..ONE
     },
-    Case {
+    FailingPlay {
         session: session!(
             "> read 1 0 100 8 76
 ok 1
@@ -220,8 +220,8 @@ state Ready
         ),
         ..ONE
     },
-    Case {
-        text: UNQUEUED,
+    FailingPlay {
+        text: UNQUEUED_CONFIG,
         session: session!(
             "> read 1 0 100 8 76\nok 1\n> write 1 0 110 8 77\nok 2\n",
             0 => 1,
@@ -239,7 +239,7 @@ state Ready
         ..ONE
     },
     // A read fails, and those beside it go again.
-    Case {
+    FailingPlay {
         session: one_of_three_fails!(
             "did
 > service
@@ -279,7 +279,7 @@ reply 3 Ok
         ..ONE
     },
     // A write of which two sectors were moved when its disk went.
-    Case {
+    FailingPlay {
         session: unplugged!("did"),
         calls: &[
             SectorCalls {
@@ -296,7 +296,7 @@ reply 3 Ok
         ..ONE
     },
     // A read that the disk doesn't do for three ticks goes again.
-    Case {
+    FailingPlay {
         session: session!(
             "> read 1 0 100 8 76\nok 1\n> tick\nquiet\n> tick\nquiet\n> tick\nquiet\n",
             0 => 1
@@ -311,7 +311,7 @@ const LOOKED_AT: u64 = 32;
 /// The number of a call that doesn't come.
 pub const NEVER: u64 = u64::MAX;
 
-impl Case<'_> {
+impl FailingPlay<'_> {
     /// How many calls there are.
     pub fn call_count(&self) -> u64 {
         self.calls
@@ -406,22 +406,28 @@ impl Case<'_> {
 /// Whether a case is told as it is to be, over a disk of which a call fails.
 pub fn is_told<S: SectorStore>(
     alloc: Global,
-    case: &Case,
+    case: &FailingPlay,
     failing: u64,
     image: S,
     blank: S,
 ) -> Result<bool, Fail> {
     let script = case.script(alloc)?;
     let wanted = case.printed(alloc, failing)?;
-    let (text, script) = (case.text.as_bytes(), script.as_str().as_bytes());
+    let inputs = PlayInputs {
+        config: case.text.as_bytes(),
+        script: script.as_str().as_bytes(),
+        image,
+        blank,
+        trace: false,
+    };
     let mut printed = Vec::new(alloc);
-    let ended = play(alloc, text, script, image, blank, false, &mut printed).ended;
+    let ended = play(alloc, inputs, &mut printed).ended;
     Ok(ended == Ended::Done && printed.as_slice() == wanted.as_str().as_bytes())
 }
 
 #[test]
 fn a_call_that_fails_is_told_to_its_request(rt: HostRuntime) -> Result<(), Fail> {
-    for case in &CASES {
+    for case in &FAILING_PLAYS {
         for failing in (0..case.call_count()).chain([NEVER]) {
             let image = FailingStore::new(image_of_numbers(rt.alloc(), case.sectors)?, failing);
             let blank = FailingStore::new(MemStore::new(rt.alloc(), 0)?, 0);
@@ -478,11 +484,15 @@ fn a_sector_that_cannot_be_written_back_keeps_what_was_written(
     rt: HostRuntime,
 ) -> Result<(), Fail> {
     for failing in (0..9).chain([NEVER]) {
-        let image = FailingStore::new(image_of_numbers(rt.alloc(), 356)?, failing);
-        let blank = FailingStore::new(MemStore::new(rt.alloc(), 0)?, 0);
+        let inputs = PlayInputs {
+            config: CACHED_CONFIG.as_bytes(),
+            script: LOSING.as_bytes(),
+            image: FailingStore::new(image_of_numbers(rt.alloc(), 356)?, failing),
+            blank: FailingStore::new(MemStore::new(rt.alloc(), 0)?, 0),
+            trace: false,
+        };
         let mut printed = Vec::new(rt.alloc());
-        let (text, script) = (CACHED.as_bytes(), LOSING.as_bytes());
-        let ended = play(rt.alloc(), text, script, image, blank, false, &mut printed).ended;
+        let ended = play(rt.alloc(), inputs, &mut printed).ended;
         let wanted = printed_of_losing(rt.alloc(), failing)?;
         assert_eq!(rt; ended, Ended::Done);
         assert!(rt;

@@ -1,5 +1,5 @@
 // What a list of calls says: a read that is asked for, done by the disk, answered, and looked at by its client.
-use super::servers::{QUEUED, config, request};
+use super::servers::{QUEUED_CONFIG, config, request};
 use adapter::DeviceStep;
 use arrayvec::ArrayVec;
 use ata_types::{Call, CallResult, ClientId, Frame, Op, Outcome, Port, Reply, RequestId, Slot};
@@ -22,7 +22,7 @@ pub fn image_of_numbers(alloc: Global, sectors: u32) -> Result<MemStore, Fail> {
 
 /// A server over such a disk.
 fn server_of_numbers(alloc: Global) -> Result<Server<Model<MemStore>>, Fail> {
-    let config = config(alloc, QUEUED)?;
+    let config = config(alloc, QUEUED_CONFIG)?;
     let image = image_of_numbers(alloc, 356)?;
     let model = new_model(alloc, &config, image, MemStore::new(alloc, 0)?)?;
     match Server::new(alloc, &config, model) {
@@ -59,7 +59,7 @@ fn is_of_a_read(said: &[CallResult]) -> bool {
     let [
         CallResult::Submitted(Ok(id)),
         CallResult::Stepped(true),
-        CallResult::Served(replies),
+        CallResult::Replied(replies),
         CallResult::Loaded(Ok(first)),
         CallResult::Loaded(Ok(second)),
     ] = said

@@ -1,5 +1,5 @@
 // A disk of which one call fails, each in turn, while as many sectors are trimmed as one request may.
-use super::failing_stores::{Case, NEVER, SectorCalls, is_told};
+use super::failing_stores::{FailingPlay, NEVER, SectorCalls, is_told};
 use super::numbered_store::NumberedStore;
 use super::servers::GRANT_OF_ALL_SECTORS;
 use std::alloc::Global;
@@ -41,7 +41,7 @@ bytes ",
 }
 
 /// The longest trim, and what is told where a call fails.
-const LONGEST_TRIM: Case<'static> = Case {
+const LONGEST_TRIM: FailingPlay<'static> = FailingPlay {
     text: GRANT_OF_ALL_SECTORS,
     sectors: 70_000,
     session: trim_and_read!("Ok", "Ok", "00e8"),

@@ -1,5 +1,5 @@
 // Outputs that fail, or are interrupted, while a script is played.
-use play::{Ended, play};
+use play::{Ended, PlayInputs, play};
 use sector_store::MemStore;
 use std::alloc::{AllocError, Global};
 use std::io;
@@ -61,7 +61,14 @@ impl io::Write for InterruptedOutput {
 fn ended<W: io::Write>(alloc: Global, script: &[u8], out: &mut W) -> Result<Ended, AllocError> {
     let image = MemStore::new(alloc, 8)?;
     let blank = MemStore::new(alloc, 0)?;
-    Ok(play(alloc, SETTINGS, script, image, blank, false, out).ended)
+    let inputs = PlayInputs {
+        config: SETTINGS,
+        script,
+        image,
+        blank,
+        trace: false,
+    };
+    Ok(play(alloc, inputs, out).ended)
 }
 
 // Two lines have 12 bytes.

@@ -1,6 +1,6 @@
 // What a configuration asks of a server, and which values break its rules. Texts of configurations stand in the cases
 // of the program.
-use super::servers::{QUEUED, config};
+use super::servers::{QUEUED_CONFIG, config};
 use ata_types::{ClientId, Frame, GrantRow, Port, Rights, Sector};
 use configuration::{ClientConfig, Config, FaultKind, GrantConfig, Plan, PortConfig};
 use identify::Wanted;
@@ -58,7 +58,7 @@ const WANTED: [Wanted; 4] = [
 
 /// The configuration with two ports, a client and a grant for each right more.
 fn enlarged(alloc: Global) -> Result<Config, Fail> {
-    let mut config = config(alloc, QUEUED)?;
+    let mut config = config(alloc, QUEUED_CONFIG)?;
     for (number, serial) in [(3, None), (1, Some("TWENTY CHARACTERS 20"))] {
         let serial = match serial {
             Some(text) => Some(String::from_str(alloc, text)?),
@@ -104,7 +104,7 @@ enum Added {
 // Each is added to the ones before it, and each further fault is of a lesser kind. No text has the last client.
 #[test]
 fn values_that_break_a_rule_are_refused(rt: HostRuntime) -> Result<(), Fail> {
-    let mut config = config(rt.alloc(), QUEUED)?;
+    let mut config = config(rt.alloc(), QUEUED_CONFIG)?;
     for (added, kind) in [
         (Added::Client(8, 511, 1), None),
         (Added::Grant(8, 1, 0), None),

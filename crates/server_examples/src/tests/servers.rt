@@ -1,7 +1,6 @@
 // What a server does to its adapter, seen through one that watches, and calls that no line of a script spells.
 ghost use Rattle.std.specs.Prelude.{◌≡◌, IfOk, true};
-ghost use Rattle.block_server.specs.InitialServer.{IsReadyFor};
-ghost use Rattle.block_server.specs.ServerView.{server_of};
+ghost use Rattle.block_server.specs.{InitialServer.{IsReadyFor}, ServerView.{server_of}};
 ghost use Rattle.server_history.specs.Histories.{StartsHistory};
 ghost use Rattle.configuration.specs.Rules.{LacksEveryFault};
 
@@ -54,7 +53,7 @@ port = 0
 const PLAIN: &str = text_with!("slots = 1\nncq = false\ndepth = 1\n");
 
 /// Commands are queued.
-pub const QUEUED: &str = text_with!("slots = 32\nncq = true\ndepth = 32\n");
+pub const QUEUED_CONFIG: &str = text_with!("slots = 32\nncq = true\ndepth = 32\n");
 
 /// And the client may do all with the disk.
 pub const GRANT_OF_ALL_SECTORS: &str = text_with!(
@@ -63,10 +62,10 @@ pub const GRANT_OF_ALL_SECTORS: &str = text_with!(
 );
 
 /// Neither adapter nor disk queues commands.
-pub const UNQUEUED: &str = text_with!("slots = 32\nncq = false\ndepth = 32\n");
+pub const UNQUEUED_CONFIG: &str = text_with!("slots = 32\nncq = false\ndepth = 32\n");
 
 /// With disks that have a volatile write cache.
-pub const CACHED: &str = text_with!("slots = 32\nncq = true\ndepth = 32\ncache = true\n");
+pub const CACHED_CONFIG: &str = text_with!("slots = 32\nncq = true\ndepth = 32\ncache = true\n");
 
 /// The values of the text.
 pub fn config(alloc: Global, text: &str) -> Result<Config, Fail>
@@ -243,11 +242,11 @@ const LONG_READ: Slot = (READ_HEADER, h2d!(0x25, [0, 0], [0, 1]), LONG_RUN, NO_E
 /// A write of three sectors from frame 77, by WRITE DMA EXT.
 const WRITE: Slot = (WRITE_HEADER, h2d!(0x35, [0, 0], [3, 0]), FRAME_77, NO_ENTRY);
 
-/// The short read by READ FPDMA QUEUED, in slot 0: the sectors stand in the features field, and the tag in bits 7:3 of
-/// the count field (ACS-3).
+/// The short read by READ FPDMA QUEUED_CONFIG, in slot 0: the sectors stand in the features field, and the tag in bits
+/// 7:3 of the count field (ACS-3).
 const QUEUED_SHORT_READ: Slot = (READ_HEADER, h2d!(0x60, [8, 0], [0, 0]), FRAME_76, NO_ENTRY);
 
-/// The long read by READ FPDMA QUEUED, in slot 5.
+/// The long read by READ FPDMA QUEUED_CONFIG, in slot 5.
 const QUEUED_LONG_READ: Slot = (
     HEADER_OF_5,
     h2d!(0x60, [0, 1], [0x28, 0]),
@@ -255,7 +254,7 @@ const QUEUED_LONG_READ: Slot = (
     NO_ENTRY,
 );
 
-/// A read of 1,024 sectors by READ FPDMA QUEUED, in slot 0, into frames 76 to 203: one entry has the 512 KiB.
+/// A read of 1,024 sectors by READ FPDMA QUEUED_CONFIG, in slot 0, into frames 76 to 203: one entry has the 512 KiB.
 const WIDE_READ: Slot = (READ_HEADER, h2d!(0x60, [0, 4], [0, 0]), WIDE_RUN, NO_ENTRY);
 
 /// The same from frame 203 down to 76: of the 128 entries the first is of frame 203, and the last of frame 76.
@@ -269,7 +268,7 @@ const FALLING_READ: Slot = (
 /// The wide read by READ DMA EXT, where commands are plain.
 const PLAIN_WIDE_READ: Slot = (READ_HEADER, h2d!(0x25, [0, 0], [0, 4]), WIDE_RUN, NO_ENTRY);
 
-/// The write by WRITE FPDMA QUEUED, in slot 0.
+/// The write by WRITE FPDMA QUEUED_CONFIG, in slot 0.
 const QUEUED_WRITE: Slot = (WRITE_HEADER, h2d!(0x61, [3, 0], [0, 0]), FRAME_77, NO_ENTRY);
 
 /// A trim, by DATA SET MANAGEMENT with one block, which stands at 12000h, in the port's scratch frame.
@@ -324,7 +323,7 @@ fn queued_commands_stand_in_memory(rt: HostRuntime) -> Result<(), Fail> {
         (falling_read(), FALLING_READ),
         (request(Op::Flush, 0, 0, 0, 0), FLUSH),
     ] {
-        check(&rt, QUEUED, &[asked], 0, wanted, &SERVICE)?;
+        check(&rt, QUEUED_CONFIG, &[asked], 0, wanted, &SERVICE)?;
     }
     let six = [
         request(Op::Read, 100, 1, 76, 1),
@@ -334,15 +333,15 @@ fn queued_commands_stand_in_memory(rt: HostRuntime) -> Result<(), Fail> {
         request(Op::Read, 100, 1, 80, 1),
         request(Op::Read, 100, 256, 81, 32),
     ];
-    check(&rt, QUEUED, &six, 5, QUEUED_LONG_READ, &SERVICE)
+    check(&rt, QUEUED_CONFIG, &six, 5, QUEUED_LONG_READ, &SERVICE)
 }
 
 #[test]
 fn trims_stand_in_memory(rt: HostRuntime) -> Result<(), Fail> {
     let trim = [request(Op::Trim, 120, 200, 0, 0)];
-    check(&rt, QUEUED, &trim, 0, TRIM, &SERVICE)?;
+    check(&rt, QUEUED_CONFIG, &trim, 0, TRIM, &SERVICE)?;
     // One entry of the block names 200 sectors from 120 on; the next one is zero.
-    let (watched, _before) = served(&rt, QUEUED, &trim)?;
+    let (watched, _before) = served(&rt, QUEUED_CONFIG, &trim)?;
     let block: [u8; 16] = piece(watched.adapter.memory(), 0x1_2000);
     let wanted = [0x78, 0, 0, 0, 0, 0, 0xc8, 0, 0, 0, 0, 0, 0, 0, 0, 0];
     assert_eq!(rt; block, wanted);
@@ -388,10 +387,10 @@ const TURNED: Lie = (153, 0x01);
 #[test]
 fn commands_are_queued_where_both_can(rt: HostRuntime) -> Result<(), Fail> {
     for (text, lies, what) in [
-        (QUEUED, [NO_LIE, NO_LIE], (2, 2)),
-        (QUEUED, [UNSIGNED_PAGE, TURNED], (0, 1)),
-        (UNQUEUED, [UNSIGNED_PAGE, TURNED], (0, 1)),
-        (UNQUEUED, [NO_LIE, NO_LIE], (0, 1)),
+        (QUEUED_CONFIG, [NO_LIE, NO_LIE], (2, 2)),
+        (QUEUED_CONFIG, [UNSIGNED_PAGE, TURNED], (0, 1)),
+        (UNQUEUED_CONFIG, [UNSIGNED_PAGE, TURNED], (0, 1)),
+        (UNQUEUED_CONFIG, [NO_LIE, NO_LIE], (0, 1)),
     ] {
         let issues = issues(rt.alloc(), text, lies)?;
         assert_eq!(rt; issues, what, "{lies:?}");
@@ -485,7 +484,7 @@ fn area_after_a_fault(alloc: Global, text: &str) -> Result<[u8; 256], Fail> {
 #[test]
 fn fises_of_faults_stand_in_memory(rt: HostRuntime) -> Result<(), Fail> {
     let plain = area_after_a_fault(rt.alloc(), PLAIN)?;
-    let queued = area_after_a_fault(rt.alloc(), QUEUED)?;
+    let queued = area_after_a_fault(rt.alloc(), QUEUED_CONFIG)?;
     let mut wanted = received(SIGNATURE);
     wanted[0x58..0x60].copy_from_slice(&FAILED_QUEUED);
     assert!(rt; plain == received(FAILED));

@@ -12,7 +12,7 @@ use host_boot::laws::law_what_was_taken_over_may_be_served;
 use host_boot::{ProbeResult, take_over};
 use port_control::{PortFault, receive, stop};
 use refinement::access_kinds::law_followed_fragments_agree;
-use refinement::fragments::law_other_ports_are_left;
+use refinement::fragments::law_other_ports_are_untouched;
 use std::alloc::Global;
 use std::marker::Brand;
 use std::process::Abort;
@@ -49,10 +49,10 @@ const UNDISTURBED: Times = Times {
 /// is dead.
 fn received_anew<A: Adapter>(adapter: &mut A) -> PortState
     requires idle { IsIdle (A.device adapter.old) }
-    requires room { DRIVER_BYTES ≤ (A.device adapter.old).size }
+    requires room { DRIVER_BYTES ≤ (A.device adapter.old).memory_size }
 {
     law_followed_fragments_agree::<Brand>();
-    law_other_ports_are_left();
+    law_other_ports_are_untouched();
     law_what_was_taken_over_may_be_served();
     let host = take_over(adapter, &IMAGE_DISK);
     let ProbeResult::Ready(_) = host.ports[0] else {

@@ -27,7 +27,7 @@ const CONFIG: ModelConfig = ModelConfig {
 pub fn model(alloc: Global, pi: u8, sectors: u32) -> Result<Model<MemStore>, Fail>
     requires { (1 ≤ pi) × (pi ≤ 15) }
     ensures idle { IfOk result (λ m. IsIdle (⟦<Model<MemStore> as Adapter>⟧.device m)) }
-    ensures room { IfOk result (λ m. DRIVER_BYTES ≤ (⟦<Model<MemStore> as Adapter>⟧.device m).size) }
+    ensures room { IfOk result (λ m. DRIVER_BYTES ≤ (⟦<Model<MemStore> as Adapter>⟧.device m).memory_size) }
 {
     Ok(Model::new(
         alloc,

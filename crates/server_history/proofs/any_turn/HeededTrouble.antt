@@ -15,23 +15,23 @@ use Rattle.adapter.specs.Device.{Device}
 use Rattle.adapter.specs.Rules.{IsOn}
 use Rattle.adapter.specs.declared.tape.Entry.{Entry}
 use Rattle.refinement.specs.Fragments.{IsDrivenBy, SparesOtherPorts}
-use Rattle.refinement.specs.Errors.{IsFatalOf}
+use Rattle.refinement.specs.Errors.{IsFatalErrorOf}
 use Rattle.refinement.specs.PortFacts.{IsFaultOf, ShowsNoTrouble}
-use Rattle.refinement.specs.Links.{IsPlugEvent, DoesNotWrite}
+use Rattle.refinement.specs.PreservedParts.{IsPlugEvent, DoesNotWrite}
 use Rattle.server_history.proofs.state.DrivenAccesses.{by_none, by_then, driven_as}
 use Rattle.block_machine.specs.Histories.{JointState}
 use Rattle.block_machine.specs.Ports.{Evidence, Ports}
-use Rattle.driver_history.specs.Evidence.{TapeGainsEntry, ShowsChange, ShowsFailure}
+use Rattle.driver_history.specs.Evidence.{TapeGainsEntry, ShowsLinkChange, ShowsFailure}
 use Rattle.driver_history.specs.Histories.{LosesNoPortError}
 use Rattle.error_recovery.specs.Evidence.{GainsSinceStart, ShowsFatal}
 use Rattle.commands.specs.Masks.{ReadsCiOrSact}
 use Rattle.commands.specs.Batches.{IsBatchAccess}
 use Rattle.port_control.specs.PortEvents.{IsEventAccess}
-use Rattle.port_control.specs.ServiceAccesses.{LeavesPxIs}
+use Rattle.port_control.specs.ServiceAccesses.{IsServiceButPxIs}
 use Rattle.port_control.specs.declared.events.PortEvent.TheVariants.{NoEvent}
 use Rattle.slots.specs.SlotUses.{PortSlots}
 use Rattle.server_history.specs.Prerequisites.{PrerequisiteLaws}
-use Rattle.server_history.specs.IssuingAndAnswering.{PollsUsedSlots, IsEmptyMask, HasTurnWithoutError}
+use Rattle.server_history.specs.IssuingAndAnswering.{PollsUsedSlots, IsEmptyMask, PollsInTurnWithoutEvent}
 use Rattle.server_history.proofs.state.TurnAccesses.{none_or_some}
 use Rattle.server_history.proofs.state.TransferAccesses.{issuing_serves}
 use Rattle.server_history.proofs.any_turn.ShownTrouble.{fatal_unless, set_unless}
@@ -48,7 +48,7 @@ gains_none Such old new gained tape none g =
 pub gained_running : (Such : Entry → Type 0) (port : ℕ) (old new : Device) → GainsSinceStart Such port old new → TapeGainsEntry Such old new
 gained_running Such port old new g = record {
   new_entries = g.before ++ (g.entry ∷ g.later);
-  tape_is = g.tape;
+  tape_is = g.tape_grows;
   entry = g.entry;
   entry_is_new = Contains-append_right g.before (g.entry ∷ g.later) g.entry (0, omega arith, refl);
   entry_is_of_kind = g.is_of_kind;
@@ -56,7 +56,7 @@ gained_running Such port old new g = record {
 
 -- ---- accesses that are ordinary
 
-finding_ordinary : (port : Port) (access : Access) → ReadsCiOrSact port access → LeavesPxIs port access
+finding_ordinary : (port : Port) (access : Access) → ReadsCiOrSact port access → IsServiceButPxIs port access
 finding_ordinary port (Reading r v) here = (tt, tt)
 finding_ordinary port (Writing r v) here = absurd here
 finding_ordinary port (Loading at bytes) here = absurd here
@@ -71,58 +71,58 @@ issuing_spares port (Storing at bytes) here = tt
 issuing_spares port (Loading at bytes) here = tt
 issuing_spares port (Reading r v) here = tt
 
-issuing_ordinary : (port : Port) (access : Access) → IsBatchAccess port access → LeavesPxIs port access
+issuing_ordinary : (port : Port) (access : Access) → IsBatchAccess port access → IsServiceButPxIs port access
 issuing_ordinary port access here = (issuing_serves port access here, issuing_spares port access here)
 
 module _ (laws : PrerequisiteLaws) where
-  module _ (port : Port) (slots : PortSlots) (replies : List Reply) (old : JointState Device) (new : Device) (turn : HasTurnWithoutError port slots replies old.device new) (on : IsOn old.device) where
+  module _ (port : Port) (slots : PortSlots) (replies : List Reply) (old : JointState Device) (new : Device) (turn : PollsInTurnWithoutEvent port slots replies old.device new) (on : IsOn old.device) where
     -- what comes after a look that told nothing
-    pub later_driven : turn.look ≡ NoEvent → IsDrivenBy (LeavesPxIs port) turn.seen new
+    pub later_driven : turn.look ≡ NoEvent → IsDrivenBy (IsServiceButPxIs port) turn.device_after_look new
     later_driven calm = ⊎_elim
-        (λ (none : IsEmptyMask c.mask). subst (IsDrivenBy (LeavesPxIs port) turn.seen) (sym (c.idle none).1) (by_none (LeavesPxIs port) turn.seen))
+        (λ (none : IsEmptyMask c.mask). subst (IsDrivenBy (IsServiceButPxIs port) turn.device_after_look) (sym (c.none_used_reads_nothing none).1) (by_none (IsServiceButPxIs port) turn.device_after_look))
         (λ some.
-        let k = c.checks (λ none. false≢true (sym (none some.0 some.1) ∙ some.2)) in
-        by_then laws (driven_as (ReadsCiOrSact port) (LeavesPxIs port) turn.seen k.read (finding_ordinary port) k.reads.driven)
-        (driven_as (IsBatchAccess port) (LeavesPxIs port) k.read new (issuing_ordinary port) k.over))
+        let k = c.polls_slots (λ none. false≢true (sym (none some.0 some.1) ∙ some.2)) in
+        by_then laws (driven_as (ReadsCiOrSact port) (IsServiceButPxIs port) turn.device_after_look k.device_after_read (finding_ordinary port) k.reads.driven)
+        (driven_as (IsBatchAccess port) (IsServiceButPxIs port) k.device_after_read new (issuing_ordinary port) k.only_issuing_follows))
         (none_or_some 32 c.mask)
       where
-        c : PollsUsedSlots port slots replies turn.seen new
-        c = turn.checked
+        c : PollsUsedSlots port slots replies turn.device_after_look new
+        c = turn.polls_used_slots
 
-    seen_on : IsOn turn.seen
-    seen_on = laws.of_on port old.device turn.seen on (driven_as (IsEventAccess port) (SparesOtherPorts port) old.device turn.seen (laws.looking.looking_of port) (laws.looking.looks_driven port turn.look old.device turn.seen turn.looks))
+    seen_on : IsOn turn.device_after_look
+    seen_on = laws.one_port_keeps_adapter_on port old.device turn.device_after_look on (driven_as (IsEventAccess port) (SparesOtherPorts port) old.device turn.device_after_look (laws.look_laws.look_access_is_of_port port) (laws.look_laws.look_is_driven_by_its_accesses port turn.look old.device turn.device_after_look turn.takes_event))
 
     module _ (calm : turn.look ≡ NoEvent) where
       -- it showed no trouble, then
       pub shown_none : ShowsNoTrouble (old.device.port port.0)
-      shown_none = (laws.looking.looks_calm port turn.look old.device turn.seen on turn.looks calm).0
+      shown_none = (laws.look_laws.no_event_means_undisturbed port turn.look old.device turn.device_after_look on turn.takes_event calm).0
 
       -- what was read told of no error
-      told_none : (place : ℕ) → 27 ≤ place → place ≤ 30 → bit turn.looks.causes place ≡ false
-      told_none = (laws.looking.looks_undisturbed turn.looks.causes turn.looks.status (sym turn.looks.result_is ∙ calm)).0.no_error_bit_is_set
+      told_none : (place : ℕ) → 27 ≤ place → place ≤ 30 → bit turn.takes_event.causes place ≡ false
+      told_none = (laws.look_laws.no_event_bits turn.takes_event.causes turn.takes_event.status (sym turn.takes_event.result_is ∙ calm)).0.no_error_bit_is_set
 
       -- so a fault that came is shown
       fault_shown : TapeGainsEntry (IsFaultOf port.0) old.device new → (new.port port.0).is 30 ≡ true
       fault_shown g = set_unless ((new.port port.0).is 30) (λ clear.
-          let late = laws.looking.ordinary_faults port turn.seen new seen_on (later_driven calm) clear in
-          let early = laws.looking.looks_fault port turn.look old.device turn.seen on turn.looks (told_none 30 (omega arith) (omega arith)) late.0 in
-          let none = laws.looks.tape.fails_more port.0 old.device turn.seen new early.1 late.1 in
+          let late = laws.look_laws.pxis_spared_hides_no_fault port turn.device_after_look new seen_on (later_driven calm) clear in
+          let early = laws.look_laws.look_hides_no_fault port turn.look old.device turn.device_after_look on turn.takes_event (told_none 30 (omega arith) (omega arith)) late.0 in
+          let none = laws.port_event_laws.tape.no_faults_transitive port.0 old.device turn.device_after_look new early.1 late.1 in
           gains_none (IsFaultOf port.0) old.device new none.new_entries none.tape_is none.no_such_entry g)
 
       -- and so is a fatal error
-      fatal_shown : TapeGainsEntry (IsFatalOf port.0) old.device new → ShowsFatal (new.port port.0)
+      fatal_shown : TapeGainsEntry (IsFatalErrorOf port.0) old.device new → ShowsFatal (new.port port.0)
       fatal_shown g = fatal_unless (new.port port.0) (λ clear.
-          let late = laws.looking.ordinary_fatals port turn.seen new seen_on (later_driven calm) clear in
-          let early = laws.looking.looks_fatal port turn.look old.device turn.seen on turn.looks (λ place low high. told_none place low (omega (arith, high))) late.0 in
-          let none = laws.looks.tape.fatal_more port.0 old.device turn.seen new early.1 late.1 in
-          gains_none (IsFatalOf port.0) old.device new none.new_entries none.tape_is none.no_such_entry g)
+          let late = laws.look_laws.pxis_spared_hides_no_fatal port turn.device_after_look new seen_on (later_driven calm) clear in
+          let early = laws.look_laws.look_hides_no_fatal port turn.look old.device turn.device_after_look on turn.takes_event (λ place low high. told_none place low (omega (arith, high))) late.0 in
+          let none = laws.port_event_laws.tape.no_fatal_errors_transitive port.0 old.device turn.device_after_look new early.1 late.1 in
+          gains_none (IsFatalErrorOf port.0) old.device new none.new_entries none.tape_is none.no_such_entry g)
 
       -- and so is a disk that went or came
       disk_shown : TapeGainsEntry (IsPlugEvent port.0) old.device new → (new.port port.0).serr_n ≡ true
       disk_shown g = set_unless (new.port port.0).serr_n (λ clear.
-          let late = laws.looking.ordinary_disks port turn.seen new seen_on (later_driven calm) clear in
-          let early = laws.looking.looks_disk port turn.look old.device turn.seen on turn.looks late.0 in
-          let none = laws.looks.tape.plugs_more port.0 old.device turn.seen new early.1 late.1 in
+          let late = laws.look_laws.pxis_spared_hides_no_plug_event port turn.device_after_look new seen_on (later_driven calm) clear in
+          let early = laws.look_laws.look_hides_no_plug_event port turn.look old.device turn.device_after_look on turn.takes_event late.0 in
+          let none = laws.port_event_laws.tape.no_plug_events_transitive port.0 old.device turn.device_after_look new early.1 late.1 in
           gains_none (IsPlugEvent port.0) old.device new none.new_entries none.tape_is none.no_such_entry g)
 
       -- no failure was shown when it began
@@ -131,15 +131,15 @@ module _ (laws : PrerequisiteLaws) where
       never_failed (inr fault) = false≢true (sym (shown_none.no_error_bit_is_set 30 (omega arith) (omega arith)) ∙ fault)
 
       -- nor a change of its link
-      pub never_changed : ShowsChange (old.device.port port.0) → ⊥
-      never_changed (inl n) = false≢true (sym shown_none.serr_n ∙ n)
-      never_changed (inr x) = false≢true (sym shown_none.serr_x ∙ x)
+      pub never_changed : ShowsLinkChange (old.device.port port.0) → ⊥
+      never_changed (inl n) = false≢true (sym shown_none.serr_n_is_clear ∙ n)
+      never_changed (inr x) = false≢true (sym shown_none.serr_x_is_clear ∙ x)
 
       pub trouble_shown : (evidence : Evidence) (ports : Ports) → LosesNoPortError evidence old ports new port
       trouble_shown evidence ports = record {
-        errors = λ ready port_error. inr (⊎_elim (λ shows. absurd (never_failed shows)) (λ gains. ⊎_elim (λ g. inr (fault_shown g)) (λ g. inl (fatal_shown g)) gains) port_error);
-        changes = λ tended port_error. inr (⊎_elim (λ shows. absurd (never_changed shows)) (λ g. inl (disk_shown g)) port_error);
-        fault = λ ready g. fault_shown (gained_running (IsFaultOf port.0) port.0 old.device new g);
-        fatal = λ ready g. fatal_shown (gained_running (IsFatalOf port.0) port.0 old.device new g);
-        disk = λ ready g. disk_shown (gained_running (IsPlugEvent port.0) port.0 old.device new g);
+        errors_are_handled_or_shown = λ ready port_error. inr (⊎_elim (λ shows. absurd (never_failed shows)) (λ gains. ⊎_elim (λ g. inr (fault_shown g)) (λ g. inl (fatal_shown g)) gains) port_error);
+        changes_are_handled_or_shown = λ tended port_error. inr (⊎_elim (λ shows. absurd (never_changed shows)) (λ g. inl (disk_shown g)) port_error);
+        new_fault_is_shown = λ ready g. fault_shown (gained_running (IsFaultOf port.0) port.0 old.device new g);
+        new_fatal_is_shown = λ ready g. fatal_shown (gained_running (IsFatalErrorOf port.0) port.0 old.device new g);
+        new_plug_event_is_shown = λ ready g. disk_shown (gained_running (IsPlugEvent port.0) port.0 old.device new g);
       }

@@ -14,15 +14,15 @@ use Rattle.ata_types.specs.declared.request.Outcome.{Outcome}
 use Rattle.ata_types.specs.declared.request.Outcome.TheVariants.{Aborted, DeviceError, Ok, PortDead, Revoked, Unplugged}
 use Rattle.ata_types.specs.declared.request.Reply.{Reply}
 use Rattle.refinement.specs.Relation.{port_at}
-use Rattle.block_machine.specs.Events.{IsLawfulAnswer, IsToldBefore, AbstractState, RepliesMatch, WasIssued, answers_of, reply_of}
-use Rattle.block_machine.specs.Ports.{Evidence, RequestFault, IsServiced, Ports, SameDisk, SamePort}
+use Rattle.block_machine.specs.Events.{IsLawfulAnswer, IsToldBefore, AbstractState, RepliesMatch, IsIssuedInBook, answers_of, reply_of}
+use Rattle.block_machine.specs.Ports.{Evidence, RequestFault, IsServiced, Ports, SameSerialAndSize, SamePort}
 use Rattle.block_machine.specs.State.{Pending}
 use Rattle.block_machine.specs.Steps.{Step, Answer}
 use Rattle.host_boot.specs.TakeOver.{probe_result_of}
 use Rattle.host_boot.specs.declared.ProbeResult.{ProbeResult}
 use Rattle.driver_history.specs.PortTurn.{EvidenceAgreesOn}
-use Rattle.server_history.specs.Turns.{NamesOnly}
-use Rattle.server_history.specs.ServerState.{ServerState, last_disk_in, last_disk_of, is_served, mode_in, ports_of, remembered_at, last_sectors_of, last_serial_of, state_of, trims_of}
+use Rattle.server_history.specs.Turns.{PortListsNameOnly}
+use Rattle.server_history.specs.ServerState.{ServerState, last_disk_in, last_disk_of, is_served, mode_in, ports_of, remembered_at, last_sectors_of, last_serial_of, state_of, zeroes_after_trim_of}
 use Rattle.server_history.proofs.state.FirstMembers.{nowhere}
 
 -- ---- answers of lists of steps
@@ -84,7 +84,7 @@ told_then n early late before its p x own = record {
       (All-weaker (λ a. a.0.request.port.0 < n) (λ a. a.0.request.port.0 < n + 1) (λ a lt. omega (arith, lt)) p.answers p.low)
       (All-weaker (Contains x.answers) (λ a. a.0.request.port.0 < n + 1) (λ a here. let is : a.0.request.port.0 ≡ n = ap (λ (q : Port). q.0) (its_port a here) in omega (arith, is)) x.answers
       (All-contains_itself x.answers));
-  told = ap (λ (list : List Reply). list ++ its) p.told ∙ ap (λ (list : List Reply). map reply_of p.answers ++ list) x.replies_are ∙ sym (map-append reply_of p.answers x.answers);
+  told = ap (λ (list : List Reply). list ++ its) p.told ∙ ap (λ (list : List Reply). map reply_of p.answers ++ list) x.replies_are_of_answers ∙ sym (map-append reply_of p.answers x.answers);
 }
   where
     its_port : (a : Pending × Outcome) → Contains x.answers a → a.0.request.port ≡ port_at n
@@ -98,8 +98,8 @@ joined one other = record {
   faults = one.faults ++ other.faults;
   lost = one.lost ++ other.lost;
   link_changed = one.link_changed ++ other.link_changed;
-  failed = one.failed ++ other.failed;
-  fatal = one.fatal ++ other.fatal;
+  showing_error = one.showing_error ++ other.showing_error;
+  showing_fatal_error = one.showing_fatal_error ++ other.showing_fatal_error;
   stopped = one.stopped ++ other.stopped;
   stuck = one.stuck ++ other.stuck;
 }
@@ -108,8 +108,8 @@ joined one other = record {
 pub record NamesSome (Such : Port → Type 0) (evidence : Evidence) : Type 0 where
   pub lost : All Such evidence.lost
   pub gone : All Such evidence.link_changed
-  pub failed : All Such evidence.failed
-  pub fatal : All Such evidence.fatal
+  pub failed : All Such evidence.showing_error
+  pub fatal : All Such evidence.showing_fatal_error
   pub stopped : All Such evidence.stopped
   pub stuck : All Such evidence.stuck
 
@@ -117,21 +117,21 @@ pub names_more : (One Other : Port → Type 0) → ((q : Port) → One q → Oth
 names_more One Other each evidence n = record {
   lost = All-weaker One Other each evidence.lost n.lost;
   gone = All-weaker One Other each evidence.link_changed n.gone;
-  failed = All-weaker One Other each evidence.failed n.failed;
-  fatal = All-weaker One Other each evidence.fatal n.fatal;
+  failed = All-weaker One Other each evidence.showing_error n.failed;
+  fatal = All-weaker One Other each evidence.showing_fatal_error n.fatal;
   stopped = All-weaker One Other each evidence.stopped n.stopped;
   stuck = All-weaker One Other each evidence.stuck n.stuck;
 }
 
-pub names_only : (port : Port) (evidence : Evidence) → NamesOnly port evidence → NamesSome (λ q. q ≡ port) evidence
-names_only port evidence n = record { lost = n.lost; gone = n.link_changed; failed = n.failed; fatal = n.fatal; stopped = n.stopped; stuck = n.stuck }
+pub names_only : (port : Port) (evidence : Evidence) → PortListsNameOnly port evidence → NamesSome (λ q. q ≡ port) evidence
+names_only port evidence n = record { lost = n.lost; gone = n.link_changed; failed = n.showing_error; fatal = n.showing_fatal_error; stopped = n.stopped; stuck = n.stuck }
 
 pub names_joined : (Such : Port → Type 0) (one other : Evidence) → NamesSome Such one → NamesSome Such other → NamesSome Such (joined one other)
 names_joined Such one other a b = record {
   lost = All-append Such one.lost other.lost a.lost b.lost;
   gone = All-append Such one.link_changed other.link_changed a.gone b.gone;
-  failed = All-append Such one.failed other.failed a.failed b.failed;
-  fatal = All-append Such one.fatal other.fatal a.fatal b.fatal;
+  failed = All-append Such one.showing_error other.showing_error a.failed b.failed;
+  fatal = All-append Such one.showing_fatal_error other.showing_fatal_error a.fatal b.fatal;
   stopped = All-append Such one.stopped other.stopped a.stopped b.stopped;
   stuck = All-append Such one.stuck other.stuck a.stuck b.stuck;
 }
@@ -153,8 +153,8 @@ pub alike_first : (Such : Port → Type 0) (port : Port) → (Such port → ⊥)
 alike_first Such port not one other n = record {
   lost = list_alike port one.lost other.lost (λ here. not (All-contains Such other.lost port n.lost here));
   link_changed = list_alike port one.link_changed other.link_changed (λ here. not (All-contains Such other.link_changed port n.gone here));
-  failed = list_alike port one.failed other.failed (λ here. not (All-contains Such other.failed port n.failed here));
-  fatal = list_alike port one.fatal other.fatal (λ here. not (All-contains Such other.fatal port n.fatal here));
+  showing_error = list_alike port one.showing_error other.showing_error (λ here. not (All-contains Such other.showing_error port n.failed here));
+  showing_fatal_error = list_alike port one.showing_fatal_error other.showing_fatal_error (λ here. not (All-contains Such other.showing_fatal_error port n.fatal here));
   stopped = list_alike port one.stopped other.stopped (λ here. not (All-contains Such other.stopped port n.stopped here));
   stuck = list_alike port one.stuck other.stuck (λ here. not (All-contains Such other.stuck port n.stuck here));
 }
@@ -163,17 +163,17 @@ pub alike_then : (Such : Port → Type 0) (port : Port) → (Such port → ⊥) 
 alike_then Such port not one other n = record {
   lost = list_alike_right port one.lost other.lost (λ here. not (All-contains Such one.lost port n.lost here));
   link_changed = list_alike_right port one.link_changed other.link_changed (λ here. not (All-contains Such one.link_changed port n.gone here));
-  failed = list_alike_right port one.failed other.failed (λ here. not (All-contains Such one.failed port n.failed here));
-  fatal = list_alike_right port one.fatal other.fatal (λ here. not (All-contains Such one.fatal port n.fatal here));
+  showing_error = list_alike_right port one.showing_error other.showing_error (λ here. not (All-contains Such one.showing_error port n.failed here));
+  showing_fatal_error = list_alike_right port one.showing_fatal_error other.showing_fatal_error (λ here. not (All-contains Such one.showing_fatal_error port n.fatal here));
   stopped = list_alike_right port one.stopped other.stopped (λ here. not (All-contains Such one.stopped port n.stopped here));
   stuck = list_alike_right port one.stuck other.stuck (λ here. not (All-contains Such one.stuck port n.stuck here));
 }
 
 -- answers are lawful in a call with more evidence, where so much of ports and of the call's beginning is as in the part
 pub lawful_lift : (old new : AbstractState) (evidence other : Evidence) (ports later : Ports) (e : Pending) (o : Outcome)
-    → (WasIssued old.machine e.request.id → WasIssued new.machine e.request.id) → ((told : RequestFault) → Contains evidence.faults told → Contains other.faults told)
+    → (IsIssuedInBook old.machine e.request.id → IsIssuedInBook new.machine e.request.id) → ((told : RequestFault) → Contains evidence.faults told → Contains other.faults told)
     → (Contains evidence.lost e.request.port → Contains other.lost e.request.port) → (Contains evidence.stopped e.request.port → Contains other.stopped e.request.port)
-    → later.state e.request.port ≡ ports.state e.request.port → (SameDisk old.ports ports e.request.port → SameDisk new.ports later e.request.port)
+    → later.state e.request.port ≡ ports.state e.request.port → (SameSerialAndSize old.ports ports e.request.port → SameSerialAndSize new.ports later e.request.port)
     → IsLawfulAnswer old evidence ports e o → IsLawfulAnswer new other later e o
 lawful_lift old new evidence other ports later e Ok was faults lost stopped state disk l = (was l.0, l.1, l.2, l.3)
 lawful_lift old new evidence other ports later e (DeviceError status error) was faults lost stopped state disk l = (was l.0, l.1, faults _ l.2, stopped l.3)
@@ -186,16 +186,16 @@ lawful_lift old new evidence other ports later e Revoked was faults lost stopped
 -- ---- ports that are what they were
 
 -- all that clients see of the port is as it was
-pub same_at : (one other : ServerState) (q : Port) → probe_result_of other.ports q.0 ≡ probe_result_of one.ports q.0 → remembered_at other.remembered q.0 ≡ remembered_at one.remembered q.0 → mode_in other q ≡ mode_in one q
+pub same_at : (one other : ServerState) (q : Port) → probe_result_of other.probe_results q.0 ≡ probe_result_of one.probe_results q.0 → remembered_at other.remembered q.0 ≡ remembered_at one.remembered q.0 → mode_in other q ≡ mode_in one q
     → SamePort (ports_of one) (ports_of other) q
 same_at one other q found remembered mode =
-    let disk : last_disk_in other q ≡ last_disk_in one q = ap (λ (f : ProbeResult). last_disk_of f (remembered_at other.remembered q.0)) found ∙ ap (last_disk_of (probe_result_of one.ports q.0)) remembered in
-    (ap is_served found, ap state_of found, ap last_serial_of disk, ap last_sectors_of disk, ap trims_of found, mode)
+    let disk : last_disk_in other q ≡ last_disk_in one q = ap (λ (f : ProbeResult). last_disk_of f (remembered_at other.remembered q.0)) found ∙ ap (last_disk_of (probe_result_of one.probe_results q.0)) remembered in
+    (ap is_served found, ap state_of found, ap last_serial_of disk, ap last_sectors_of disk, ap zeroes_after_trim_of found, mode)
 
 pub same_then : (a b c : Ports) (q : Port) → SamePort a b q → SamePort b c q → SamePort a c q
 same_then a b c q x y = (y.0 ∙ x.0, y.1 ∙ x.1, y.2 ∙ x.2, y.3 ∙ x.3, y.4 ∙ x.4, y.5 ∙ x.5)
 
-pub same_disk : (a b c d : Ports) (q : Port) → SamePort a b q → SamePort c d q → SameDisk b c q → SameDisk a d q
+pub same_disk : (a b c d : Ports) (q : Port) → SamePort a b q → SamePort c d q → SameSerialAndSize b c q → SameSerialAndSize a d q
 same_disk a b c d q x y z = (y.2 ∙ z.0 ∙ x.2, y.3 ∙ z.1 ∙ x.3)
 
 -- what a service made of the port it made of it too where the port was the same before and is the same after, and the evidence names it alike
@@ -204,9 +204,9 @@ serviced_lift a b c d one other q x y alike i = (
   (λ dead. same_then a c d q (same_then a b c q x (i.0 (x.1 ∙ dead))) y),
   (λ lives. let w = i.1 (λ dead. lives (sym x.1 ∙ dead)) in (
     record {
-      served_is_kept = y.0 ∙ w.0.served_is_kept ∙ x.0;
+      served_is_unchanged = y.0 ∙ w.0.served_is_unchanged ∙ x.0;
       dead_is_stuck = (λ dead. alike.stuck.0 (w.0.dead_is_stuck.0 (sym y.1 ∙ dead)), λ named. y.1 ∙ w.0.dead_is_stuck.1 (alike.stuck.1 named));
-      disk_is_kept = λ unready. same_disk a b c d q x y (w.0.disk_is_kept (λ ready. unready (y.1 ∙ ready)));
+      disk_is_remembered = λ unready. same_disk a b c d q x y (w.0.disk_is_remembered (λ ready. unready (y.1 ∙ ready)));
     },
     ⊎_elim (λ same. inl (same_then a c d q (same_then a b c q x same) y)) (λ int. inr (⊎_elim (λ s. inl (alike.stopped.0 s)) (λ t. inr (alike.stuck.0 t)) int)) w.1,
   )),

@@ -15,9 +15,9 @@ use Rattle.adapter.specs.Rules.{IsOn}
 use Rattle.adapter.specs.declared.tape.Entry.{Entry}
 use Rattle.adapter.specs.declared.tape.Entry.TheVariants as entry
 use Rattle.refinement.specs.Fragments.{TapeGrows}
-use Rattle.refinement.specs.Driver.{IsBacked}
+use Rattle.refinement.specs.Driver.{TapeBacksSteps}
 use Rattle.refinement.specs.Errors.{IsDiskComing, NoDiskComes}
-use Rattle.refinement.specs.Links.{IsPlugEvent, NoPlugEvents, DoesNotWrite}
+use Rattle.refinement.specs.PreservedParts.{IsPlugEvent, NoPlugEvents, DoesNotWrite}
 use Rattle.block_machine.specs.Events.{changes_disk}
 use Rattle.block_machine.specs.State.{Machine}
 use Rattle.block_machine.specs.Steps.{Step}
@@ -64,18 +64,18 @@ StaysSo P port old new = TapeGrows old new × (NoDiskComes port.0 old new → P 
 module _ (laws : PrerequisiteLaws) (port : Port) (P : DevicePort → Type 0) (one : (access : Access) (old new : Device) → NoDiskComes port.0 old new → Does access old new → P (old.port port.0) → P (new.port port.0)) where
   so_over : (access : Access) (old new : Device) → Does access old new → StaysSo P port old new
   unfolding StaysSo
-  so_over access old new does = (laws.looks.tape.access_grows access old new does, λ none so. one access old new none does so)
+  so_over access old new does = (laws.port_event_laws.tape.access_grows access old new does, λ none so. one access old new none does so)
 
   so_more : (a b c : Device) → StaysSo P port a b → StaysSo P port b c → StaysSo P port a c
   unfolding StaysSo
   so_more a b c p q = (
-    laws.looks.tape.grows_more a b c p.0 q.0,
-    λ none so. let parts = laws.looks.tape.comes_parts port.0 a b c p.0.0 q.0.0 p.0.1 q.0.1 none in q.1 parts.1 (p.1 parts.0 so),
+    laws.port_event_laws.tape.growth_is_transitive a b c p.0 q.0,
+    λ none so. let parts = laws.port_event_laws.tape.no_disk_comes_in_parts port.0 a b c p.0.0 q.0.0 p.0.1 q.0.1 none in q.1 parts.1 (p.1 parts.0 so),
   )
 
   so_all : (accesses : List Access) (old new : Device) → DoesAll accesses old new → StaysSo P port old new
   unfolding StaysSo
-  so_all [] old new is = subst (StaysSo P port old) (sym is) (laws.looks.tape.grows_none old, λ none so. so)
+  so_all [] old new is = subst (StaysSo P port old) (sym is) (laws.port_event_laws.tape.growth_is_reflexive old, λ none so. so)
   so_all (access ∷ accesses) old new (mid, does, rest) = so_more old mid new (so_over access old mid does) (so_all accesses mid new rest)
 
   pub stays_so : (accesses : List Access) (old new : Device) → DoesAll accesses old new → NoDiskComes port.0 old new → P (old.port port.0) → P (new.port port.0)
@@ -85,15 +85,15 @@ module _ (laws : PrerequisiteLaws) (port : Port) (P : DevicePort → Type 0) (on
 module _ (laws : PrerequisiteLaws) (port : Port) where
   module _ (old seen : Device) (look : PortEvent) (l : TakesEvent port look old seen) (on : IsOn old) (not_lost : look ≢ LinkChanged) where
     on_over : (access : Access) (a b : Device) → DoesNotWrite Ghc access → Does access a b → IsOn a → IsOn b
-    on_over access a b spares does here = laws.looks.access_on access a b here (λ v is. absurd (subst (DoesNotWrite Ghc) is spares refl)) does
+    on_over access a b spares does here = laws.port_event_laws.access_keeps_on access a b here (λ v is. absurd (subst (DoesNotWrite Ghc) is spares refl)) does
 
     -- a device shows at its end
     pub shows_device : (seen.port port.0).ssts_det ≡ 3
     shows_device =
-        let read = on_over (Reading (Px port Is) l.causes) old l.seen tt l.reads on in
-        let cleared = on_over (Writing (Px port Is) l.causes) l.seen l.cleared (λ e. absurd (let z : Px port Is ≡ Ghc = e in cc)) l.clears read in
+        let read = on_over (Reading (Px port Is) l.causes) old l.after_is_read tt l.reads on in
+        let cleared = on_over (Writing (Px port Is) l.causes) l.after_is_read l.cleared (λ e. absurd (let z : Px port Is ≡ Ghc = e in cc)) l.clears read in
         let acknowledged = on_over (Writing reg.Is l.port_mask) l.cleared l.acknowledged (λ e. absurd (let z : reg.Is ≡ Ghc = e in cc)) l.acknowledges cleared in
-        sym (laws.looks.shown_after port Ssts l.status l.acknowledged seen acknowledged.no_reset l.reads_status) ∙ shows_link laws port look old seen l on not_lost
+        sym (laws.port_event_laws.shown_after port Ssts l.status l.acknowledged seen acknowledged.no_reset l.reads_status) ∙ shows_link laws port look old seen l on not_lost
 
   -- where a disk is in at a moment, one was in before, or the tape tells that one came
   was_in : (accesses : List Access) (old seen : Device) → DoesAll accesses old seen → (seen.port port.0).present ≡ true → ((old.port port.0).present ≡ true) ⊎ ((gained : List Entry) × (seen.tape ≡ old.tape ++ gained) × ((e : Entry) × Contains gained e × IsDiskComing port.0 e))
@@ -104,7 +104,7 @@ module _ (laws : PrerequisiteLaws) (port : Port) where
         grows.1,
         ⊎_elim
             (λ found. found)
-            (λ none. absurd (false≢true (sym (stays_so laws port (λ p. p.present ≡ false) (laws.out_on port) accesses old seen does (record { new_entries = grows.0; tape_is = grows.1; no_such_entry = none }) out) ∙ own)))
+            (λ none. absurd (false≢true (sym (stays_so laws port (λ p. p.present ≡ false) (laws.absent_disk_stays_out port) accesses old seen does (record { new_entries = grows.0; tape_is = grows.1; no_such_entry = none }) out) ∙ own)))
             (one_or_none (IsDiskComing port.0) (is_coming port.0) grows.0),
       ))
       (cases_Bool ((old.port port.0).present))
@@ -112,10 +112,10 @@ module _ (laws : PrerequisiteLaws) (port : Port) where
 -- Steps that the device backs, from the beginning of the turn to any moment after one at which a disk is in: the machine had a disk in the port before them, or one of them takes
 -- its disk out or puts one in.
 pub had_disk : (laws : PrerequisiteLaws) (port : Port) (s : ServerState) (seen new : Device) (m : Machine) (accesses : List Access) → DoesAll accesses s.device seen → (seen.port port.0).present ≡ true
-    → MachineRelation s m → TapeGrows seen new → (steps : List Step) → IsBacked s.device new m steps → (m.present port ≡ true) ⊎ (list_any (changes_disk port) steps ≡ true)
+    → MachineRelation s m → TapeGrows seen new → (steps : List Step) → TapeBacksSteps s.device new m steps → (m.present port ≡ true) ⊎ (list_any (changes_disk port) steps ≡ true)
 had_disk laws port s seen new m accesses does own is later steps backed = ⊎_elim
     (λ was. inl ((is.driver_relation.state_relation.disks_are_same port.0).present ∙ was))
     (λ came. inr (
     let whole : backed.new_entries ≡ came.0 ++ later.0 = append_cancel_left s.device.tape backed.new_entries (came.0 ++ later.0) (sym backed.tape_is ∙ later.1 ∙ ap (λ (tape : List Entry). tape ++ later.0) came.1 ∙ append_assoc s.device.tape came.0 later.0) in
-    laws.disks_told port m backed.new_entries steps backed.tells_device_steps came.2.0 (subst (λ (list : List Entry). Contains list came.2.0) (sym whole) (Contains-append_left came.0 later.0 came.2.0 came.2.1)) (coming_plugs port.0 came.2.0 came.2.2)))
+    laws.plug_events_are_told port m backed.new_entries steps backed.tells_device_steps came.2.0 (subst (λ (list : List Entry). Contains list came.2.0) (sym whole) (Contains-append_left came.0 later.0 came.2.0 came.2.1)) (coming_plugs port.0 came.2.0 came.2.2)))
     (was_in laws port accesses s.device seen does own)

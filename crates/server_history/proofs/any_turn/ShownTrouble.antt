@@ -15,9 +15,9 @@ use Rattle.adapter.specs.Device.{Device, DevicePort}
 use Rattle.adapter.specs.Rules.{IsOn}
 use Rattle.adapter.specs.declared.tape.Entry.{Entry}
 use Rattle.refinement.specs.Fragments.{TapeGrows}
-use Rattle.refinement.specs.Errors.{IsFatalOf, NoneFails, NoneFatal}
+use Rattle.refinement.specs.Errors.{IsFatalErrorOf, NoFaults, NoFatalErrors}
 use Rattle.refinement.specs.PortFacts.{IsFaultOf}
-use Rattle.refinement.specs.Links.{IsPlugEvent, NoPlugEvents, DoesNotWrite}
+use Rattle.refinement.specs.PreservedParts.{IsPlugEvent, NoPlugEvents, DoesNotWrite}
 use Rattle.error_recovery.specs.Evidence.{GainsSinceStart, ShowsFatal, HidesNoTrouble}
 use Rattle.server_history.specs.Prerequisites.{PrerequisiteLaws}
 
@@ -50,8 +50,8 @@ split (b ∷ before) e later (f ∷ first) rest is =
 
 -- the tape grows over them
 pub grows_over : PrerequisiteLaws → (accesses : List Access) (old new : Device) → DoesAll accesses old new → TapeGrows old new
-grows_over laws [] old new is = subst (TapeGrows old) (sym is) (laws.looks.tape.grows_none old)
-grows_over laws (access ∷ accesses) old new (mid, does, rest) = laws.looks.tape.grows_more old mid new (laws.looks.tape.access_grows access old mid does) (grows_over laws accesses mid new rest)
+grows_over laws [] old new is = subst (TapeGrows old) (sym is) (laws.port_event_laws.tape.growth_is_reflexive old)
+grows_over laws (access ∷ accesses) old new (mid, does, rest) = laws.port_event_laws.tape.growth_is_transitive old mid new (laws.port_event_laws.tape.access_grows access old mid does) (grows_over laws accesses mid new rest)
 
 -- ---- what came since ST was set
 
@@ -59,21 +59,21 @@ module _ (Such : Entry → Type 0) (port : ℕ) where
   -- it came after a moment that wasn't later
   pub since_then : (old start new : Device) → TapeGrows start new → length start.tape ≤ (new.port port).notes.st_set_at → GainsSinceStart Such port old new → GainsSinceStart Such port start new
   since_then old start new grows set g =
-      let at : (old.tape ++ g.before) ++ (g.entry ∷ g.later) ≡ start.tape ++ grows.0 = append_assoc old.tape g.before (g.entry ∷ g.later) ∙ sym g.tape ∙ grows.1 in
+      let at : (old.tape ++ g.before) ++ (g.entry ∷ g.later) ≡ start.tape ++ grows.0 = append_assoc old.tape g.before (g.entry ∷ g.later) ∙ sym g.tape_grows ∙ grows.1 in
       let long = length-append old.tape g.before in
       let since = g.came_since_start in
       let m = behind start.tape grows.0 (old.tape ++ g.before) (g.entry ∷ g.later) at (omega (arith, set, long, since)) in
       let same = m.2 in
-      record { before = m.0; entry = g.entry; later = g.later; tape = grows.1 ∙ ap (λ (list : List Entry). start.tape ++ list) m.1; is_of_kind = g.is_of_kind; came_since_start = omega (arith, since, long, same) }
+      record { before = m.0; entry = g.entry; later = g.later; tape_grows = grows.1 ∙ ap (λ (list : List Entry). start.tape ++ list) m.1; is_of_kind = g.is_of_kind; came_since_start = omega (arith, since, long, same) }
 
   -- and by a moment after which none came
   pub until_then : (start mid new : Device) → TapeGrows start mid → (later : List Entry) → new.tape ≡ mid.tape ++ later → All (λ e. Such e → ⊥) later → (new.port port).notes.st_set_at ≡ (mid.port port).notes.st_set_at
       → GainsSinceStart Such port start new → GainsSinceStart Such port start mid
   until_then start mid new grows later is none same g =
-      let at : g.before ++ (g.entry ∷ g.later) ≡ grows.0 ++ later = cancel start.tape (sym g.tape ∙ is ∙ ap (λ (list : List Entry). list ++ later) grows.1 ∙ append_assoc start.tape grows.0 later) in
+      let at : g.before ++ (g.entry ∷ g.later) ≡ grows.0 ++ later = cancel start.tape (sym g.tape_grows ∙ is ∙ ap (λ (list : List Entry). list ++ later) grows.1 ∙ append_assoc start.tape grows.0 later) in
       let since = g.came_since_start in
       ⊎_elim
-      (λ early. record { before = g.before; entry = g.entry; later = early.0; tape = grows.1 ∙ ap (λ (list : List Entry). start.tape ++ list) early.1; is_of_kind = g.is_of_kind; came_since_start = omega (arith, since, same) })
+      (λ early. record { before = g.before; entry = g.entry; later = early.0; tape_grows = grows.1 ∙ ap (λ (list : List Entry). start.tape ++ list) early.1; is_of_kind = g.is_of_kind; came_since_start = omega (arith, since, same) })
       (λ late. absurd (All-contains (λ e. Such e → ⊥) later g.entry none late g.is_of_kind))
       (split g.before g.entry g.later grows.0 later at)
     where
@@ -85,7 +85,7 @@ module _ (Such : Entry → Type 0) (port : ℕ) where
   pub none_came : (start new : Device) (later : List Entry) → new.tape ≡ start.tape ++ later → All (λ e. Such e → ⊥) later → GainsSinceStart Such port start new → ⊥
   none_came start new later is none g =
       let here = split [] g.entry g.later [] (g.entry ∷ g.later) refl in
-      let m = behind start.tape later (start.tape ++ g.before) (g.entry ∷ g.later) (append_assoc start.tape g.before (g.entry ∷ g.later) ∙ sym g.tape ∙ is) (let long = length-append start.tape g.before in omega (arith, long)) in
+      let m = behind start.tape later (start.tape ++ g.before) (g.entry ∷ g.later) (append_assoc start.tape g.before (g.entry ∷ g.later) ∙ sym g.tape_grows ∙ is) (let long = length-append start.tape g.before in omega (arith, long)) in
       All-contains (λ e. Such e → ⊥) later g.entry none (subst (λ (list : List Entry). Contains list g.entry) (sym m.1) (Contains-append_right m.0 (g.entry ∷ g.later) g.entry ((0, omega arith, refl)))) g.is_of_kind
 
 -- ---- stretches that clear nothing
@@ -107,8 +107,8 @@ ShowsNoFatal p = (place : ℕ) → 27 ≤ place → place ≤ 29 → p.is place 
 -- what isn't shown hasn't come
 pub record ShowsAll (port : ℕ) (old new : Device) : Type 0 where
   pub grows : TapeGrows old new
-  pub fault : (new.port port).is 30 ≡ false → ((old.port port).is 30 ≡ false) × NoneFails port old new
-  pub fatal : ShowsNoFatal (new.port port) → ShowsNoFatal (old.port port) × NoneFatal port old new
+  pub fault : (new.port port).is 30 ≡ false → ((old.port port).is 30 ≡ false) × NoFaults port old new
+  pub fatal : ShowsNoFatal (new.port port) → ShowsNoFatal (old.port port) × NoFatalErrors port old new
   pub disk : (new.port port).serr_n ≡ false → ((old.port port).serr_n ≡ false) × NoPlugEvents port old new
   pub same : (new.port port).notes.st_set_at ≡ (old.port port).notes.st_set_at
 
@@ -136,42 +136,42 @@ fatal_unless p not = by (p.is 27) (p.is 28) (p.is 29) refl refl refl
 pub on_over : PrerequisiteLaws → (accesses : List Access) (old new : Device) → IsOn old → All StaysOn accesses → DoesAll accesses old new → IsOn new
 on_over laws [] old new on all is = subst IsOn (sym is) on
 on_over laws (access ∷ accesses) old new on all (mid, does, rest) =
-    on_over laws accesses mid new (laws.looks.access_on access old mid on (All-head StaysOn access accesses all) does) (All-tail StaysOn access accesses all) rest
+    on_over laws accesses mid new (laws.port_event_laws.access_keeps_on access old mid on (All-head StaysOn access accesses all) does) (All-tail StaysOn access accesses all) rest
 
 module _ (laws : PrerequisiteLaws) (port : Port) where
   pub on_one : (access : Access) (old new : Device) → IsOn old → DoesNotWrite Ghc access → Does access old new → IsOn new
-  on_one access old new on spares does = laws.looks.access_on access old new on (stays_on access spares) does
+  on_one access old new on spares does = laws.port_event_laws.access_keeps_on access old new on (stays_on access spares) does
 
   pub shows_over : (accesses : List Access) (old new : Device) → IsOn old → All (LeavesTrouble port) accesses → DoesAll accesses old new → ShowsAll port.0 old new
   shows_over [] old new on all is = subst (ShowsAll port.0 old) (sym is) (record {
-    grows = laws.looks.tape.grows_none old;
-    fault = λ clear. (clear, laws.looks.tape.fails_none port.0 old);
-    fatal = λ clear. (clear, laws.looks.tape.fatal_none port.0 old);
-    disk = λ clear. (clear, laws.looks.tape.plugs_none port.0 old);
+    grows = laws.port_event_laws.tape.growth_is_reflexive old;
+    fault = λ clear. (clear, laws.port_event_laws.tape.no_faults_reflexive port.0 old);
+    fatal = λ clear. (clear, laws.port_event_laws.tape.no_fatal_errors_reflexive port.0 old);
+    disk = λ clear. (clear, laws.port_event_laws.tape.no_plug_events_reflexive port.0 old);
     same = refl;
   })
   shows_over (access ∷ accesses) old new on all (mid, does, rest) =
       let kind = All-head (LeavesTrouble port) access accesses all in
-      let later = shows_over accesses mid new (laws.looks.access_on access old mid on kind.4 does) (All-tail (LeavesTrouble port) access accesses all) rest in
+      let later = shows_over accesses mid new (laws.port_event_laws.access_keeps_on access old mid on kind.4 does) (All-tail (LeavesTrouble port) access accesses all) rest in
       record {
-        grows = laws.looks.tape.grows_more old mid new (laws.looks.tape.access_grows access old mid does) later.grows;
+        grows = laws.port_event_laws.tape.growth_is_transitive old mid new (laws.port_event_laws.tape.access_grows access old mid does) later.grows;
         fault = λ clear.
             let l = later.fault clear in
-            let e = laws.looks.access_unfailed port access old mid on.no_reset kind.0 does l.0 in (e.0, laws.looks.tape.fails_more port.0 old mid new e.1 l.1);
+            let e = laws.port_event_laws.access_hides_no_fault port access old mid on.no_reset kind.0 does l.0 in (e.0, laws.port_event_laws.tape.no_faults_transitive port.0 old mid new e.1 l.1);
         fatal = λ clear.
             let l = later.fatal clear in
-            let e = laws.port_error.shows_fatal port access old mid on.no_reset kind.0 does l.0 in (e.0, laws.looks.tape.fatal_more port.0 old mid new e.1 l.1);
+            let e = laws.port_error.pxis_shows_fatal_errors port access old mid on.no_reset kind.0 does l.0 in (e.0, laws.port_event_laws.tape.no_fatal_errors_transitive port.0 old mid new e.1 l.1);
         disk = λ clear.
             let l = later.disk clear in
-            let e = laws.port_error.shows_disk port access old mid on.no_reset kind.1 does l.0 in (e.0, laws.looks.tape.plugs_more port.0 old mid new e.1 l.1);
-        same = later.same ∙ ((laws.looks.access_controls port access old mid on.no_reset does).command kind.2).2;
+            let e = laws.port_error.serr_n_shows_plug_events port access old mid on.no_reset kind.1 does l.0 in (e.0, laws.port_event_laws.tape.no_plug_events_transitive port.0 old mid new e.1 l.1);
+        same = later.same ∙ ((laws.port_event_laws.access_controls port access old mid on.no_reset does).command kind.2).2;
       }
 
 -- where ST was set before the stretch, at its beginning
 pub shown_since : (port : ℕ) (old start new : Device) → ShowsAll port start new → (start.port port).notes.st_set_at ≡ length start.tape → HidesNoTrouble port old new
 shown_since port old start new a set = record {
   fault_is_shown = λ g. set_unless ((new.port port).is 30) (λ clear. let n = (a.fault clear).1 in none_came (IsFaultOf port) port start new n.new_entries n.tape_is n.no_such_entry (since_then (IsFaultOf port) port old start new a.grows early g));
-  fatal_is_shown = λ g. fatal_unless (new.port port) (λ clear. let n = (a.fatal clear).1 in none_came (IsFatalOf port) port start new n.new_entries n.tape_is n.no_such_entry (since_then (IsFatalOf port) port old start new a.grows early g));
+  fatal_is_shown = λ g. fatal_unless (new.port port) (λ clear. let n = (a.fatal clear).1 in none_came (IsFatalErrorOf port) port start new n.new_entries n.tape_is n.no_such_entry (since_then (IsFatalErrorOf port) port old start new a.grows early g));
   plug_is_shown = λ g. set_unless (new.port port).serr_n (λ clear. let n = (a.disk clear).1 in none_came (IsPlugEvent port) port start new n.new_entries n.tape_is n.no_such_entry (since_then (IsPlugEvent port) port old start new a.grows early g));
 }
   where
@@ -187,7 +187,7 @@ shown_more port old start mid new shown grows set a = record {
       let z : false ≡ true = sym n.0 ∙ shown.fault_is_shown before in absurd cc);
   fatal_is_shown = λ g. fatal_unless (new.port port) (λ clear.
       let n = a.fatal clear in
-      let before = until_then (IsFatalOf port) port start mid new grows n.1.new_entries n.1.tape_is n.1.no_such_entry a.same (since_then (IsFatalOf port) port old start new whole early g) in
+      let before = until_then (IsFatalErrorOf port) port start mid new grows n.1.new_entries n.1.tape_is n.1.no_such_entry a.same (since_then (IsFatalErrorOf port) port old start new whole early g) in
       let f = shown.fatal_is_shown before in
       let z : false ≡ true = sym (n.0 f.place f.from f.to) ∙ f.cause_is_set in absurd cc);
   plug_is_shown = λ g. set_unless (new.port port).serr_n (λ clear.

@@ -8,18 +8,18 @@ use Rattle.hba_regs.specs.Bits.{bit}
 use Rattle.hba_regs.specs.declared.reg.PortReg.TheVariants.{Cmd, Is, Sctl, Ssts}
 use Rattle.hba_regs.specs.declared.reg.Reg.TheVariants as reg
 use Rattle.hba_regs.specs.declared.reg.Reg.TheVariants.{Ghc, Px}
-use Rattle.adapter.specs.Access.{Access, is_cause, shown_interrupt}
+use Rattle.adapter.specs.Access.{Access, is_named_cause, shown_interrupt}
 use Rattle.adapter.specs.Access.Access.{Reading, Writing}
 use Rattle.adapter.specs.Device.{Device}
 use Rattle.adapter.specs.Rules.{IsOn}
 use Rattle.adapter.specs.declared.tape.Entry.{Entry}
 use Rattle.adapter.specs.declared.tape.Entry.TheVariants as entry
 use Rattle.refinement.specs.Fragments.{TapeGrows}
-use Rattle.refinement.specs.Errors.{IsFatalOf, NoDiskComes}
+use Rattle.refinement.specs.Errors.{IsFatalErrorOf, NoDiskComes}
 use Rattle.refinement.specs.PortFacts.{IsFaultOf}
-use Rattle.refinement.specs.Links.{IsPlugEvent, DoesNotWrite}
+use Rattle.refinement.specs.PreservedParts.{IsPlugEvent, DoesNotWrite}
 use Rattle.server_history.proofs.state.ListMembers.{contains_there}
-use Rattle.driver_history.specs.Evidence.{TapeGainsEntry, ShowsChange, ShowsFailure}
+use Rattle.driver_history.specs.Evidence.{TapeGainsEntry, ShowsLinkChange, ShowsFailure}
 use Rattle.error_recovery.specs.Evidence.{ShowsFatal}
 use Rattle.error_recovery.specs.declared.Recovered.{Recovered}
 use Rattle.port_boot.specs.States.{StaysRunning}
@@ -27,7 +27,7 @@ use Rattle.port_control.specs.PortEvents.{TakesEvent, port_event_of}
 use Rattle.port_control.specs.declared.events.PortEvent.{PortEvent}
 use Rattle.port_control.specs.declared.events.PortEvent.TheVariants.{FatalError, TaskFileError, LinkChanged, NoEvent}
 use Rattle.server_history.specs.Prerequisites.{PrerequisiteLaws}
-use Rattle.server_history.specs.ErrorHandling.{EndsStopped, TellsErrorHandling}
+use Rattle.server_history.specs.ErrorHandling.{NamesNoneAndIsNotRunning, ErrorHandlingIsBacked}
 use Rattle.port_control.specs.declared.events.PortError.{PortError}
 use Rattle.port_control.specs.declared.events.PortError.TheVariants as kinds
 use Rattle.server_history.proofs.state.CallEvidence.{fatal_shows}
@@ -44,7 +44,7 @@ is_fault port (entry.Clear x) = inr (λ is. is)
 is_fault port (entry.Done x) = inr (λ is. is)
 is_fault port (entry.Fatal x) = inr (λ is. is)
 
-is_fatal : (port : ℕ) (e : Entry) → IsFatalOf port e ⊎ (IsFatalOf port e → ⊥)
+is_fatal : (port : ℕ) (e : Entry) → IsFatalErrorOf port e ⊎ (IsFatalErrorOf port e → ⊥)
 is_fatal port (entry.Fatal at) = cases_eq at.0 port
 is_fatal port (entry.Fault x) = inr (λ is. is)
 is_fatal port (entry.Unplug at) = inr (λ is. is)
@@ -87,7 +87,7 @@ gains_more Such old mid new grows g = record {
 
 -- no command is named, and the port doesn't run, unless a command had failed
 pub given_up : (port_error : PortError) (port : Port) (outstanding : ℕ) (queued : Bool) (result : Recovered) (accesses : List Access) (old new : Device)
-    → TellsErrorHandling port_error port outstanding queued result accesses old new → port_error ≢ kinds.TaskFileError → EndsStopped result
+    → ErrorHandlingIsBacked port_error port outstanding queued result accesses old new → port_error ≢ kinds.TaskFileError → NamesNoneAndIsNotRunning result
 given_up kinds.TaskFileError port outstanding queued result accesses old new t other = absurd (other refl)
 given_up kinds.FatalError port outstanding queued result accesses old new t other = t
 given_up kinds.LinkChanged port outstanding queued result accesses old new t other = t
@@ -106,24 +106,24 @@ module _ (laws : PrerequisiteLaws) (port : Port) (look : PortEvent) (old seen : 
   its told is = sym l.result_is ∙ is
 
   -- a bit that was set when the turn began
-  set_then : (place : ℕ) → (old.port port.0).is place ≡ true → (l.seen.port port.0).is place ≡ true
-  set_then place = laws.looks.access_causes port (Reading (Px port Is) l.causes) old l.seen on.no_reset tt l.reads place
+  set_then : (place : ℕ) → (old.port port.0).is place ≡ true → (l.after_is_read.port port.0).is place ≡ true
+  set_then place = laws.port_event_laws.access_keeps_causes port (Reading (Px port Is) l.causes) old l.after_is_read on.no_reset tt l.reads place
 
-  shown_at : (place : ℕ) → is_cause place ≡ true → bit l.causes place ≡ shown_interrupt (l.seen.port port.0) place
-  shown_at = laws.looks.shown_after port Is l.causes old l.seen on.no_reset l.reads
+  shown_at : (place : ℕ) → is_named_cause place ≡ true → bit l.causes place ≡ shown_interrupt (l.after_is_read.port port.0) place
+  shown_at = laws.port_event_laws.shown_after port Is l.causes old l.after_is_read on.no_reset l.reads
 
   looked : TapeGrows old seen
   looked =
-      laws.looks.tape.grows_more old l.seen seen (laws.looks.tape.access_grows (Reading (Px port Is) l.causes) old l.seen l.reads)
-      (laws.looks.tape.grows_more l.seen l.cleared seen (laws.looks.tape.access_grows (Writing (Px port Is) l.causes) l.seen l.cleared l.clears)
-      (laws.looks.tape.grows_more l.cleared l.acknowledged seen (laws.looks.tape.access_grows (Writing reg.Is l.port_mask) l.cleared l.acknowledged l.acknowledges)
-      (laws.looks.tape.access_grows (Reading (Px port Ssts) l.status) l.acknowledged seen l.reads_status)))
+      laws.port_event_laws.tape.growth_is_transitive old l.after_is_read seen (laws.port_event_laws.tape.access_grows (Reading (Px port Is) l.causes) old l.after_is_read l.reads)
+      (laws.port_event_laws.tape.growth_is_transitive l.after_is_read l.cleared seen (laws.port_event_laws.tape.access_grows (Writing (Px port Is) l.causes) l.after_is_read l.cleared l.clears)
+      (laws.port_event_laws.tape.growth_is_transitive l.cleared l.acknowledged seen (laws.port_event_laws.tape.access_grows (Writing reg.Is l.port_mask) l.cleared l.acknowledged l.acknowledges)
+      (laws.port_event_laws.tape.access_grows (Reading (Px port Ssts) l.status) l.acknowledged seen l.reads_status)))
 
-  grows : TapeGrows old l.seen
-  grows = laws.looks.tape.access_grows (Reading (Px port Is) l.causes) old l.seen l.reads
+  grows : TapeGrows old l.after_is_read
+  grows = laws.port_event_laws.tape.access_grows (Reading (Px port Is) l.causes) old l.after_is_read l.reads
 
-  goes : StaysRunning port.0 old l.seen
-  goes = laws.runs_on port (Reading (Px port Is) l.causes ∷ []) old l.seen on (l.seen, l.reads, refl) (All-cons (DoesNotWrite Ghc) (Reading (Px port Is) l.causes) [] tt (All-nil (DoesNotWrite Ghc)))
+  goes : StaysRunning port.0 old l.after_is_read
+  goes = laws.runs_on_after_accesses port (Reading (Px port Is) l.causes ∷ []) old l.after_is_read on (l.after_is_read, l.reads, refl) (All-cons (DoesNotWrite Ghc) (Reading (Px port Is) l.causes) [] tt (All-nil (DoesNotWrite Ghc)))
       (All-cons (DoesNotWrite (Px port Sctl)) (Reading (Px port Is) l.causes) [] tt (All-nil (DoesNotWrite (Px port Sctl)))) (All-cons (DoesNotWrite (Px port Cmd)) (Reading (Px port Is) l.causes) [] tt (All-nil (DoesNotWrite (Px port Cmd))))
 
   -- ---- a command had failed
@@ -131,7 +131,7 @@ module _ (laws : PrerequisiteLaws) (port : Port) (look : PortEvent) (old seen : 
   module _ (failed : look ≡ TaskFileError) where
     -- TFES, and no fatal error
     told : (bit l.causes 30 ≡ true) × ((place : ℕ) → 27 ≤ place → place ≤ 29 → bit l.causes place ≡ false)
-    told = let t = laws.looking.looks_failed l.causes l.status (its TaskFileError failed) in (t.0, t.3)
+    told = let t = laws.look_laws.tfes_event_bits l.causes l.status (its TaskFileError failed) in (t.0, t.3)
 
     -- no fatal error was shown when the turn began
     pub no_fatal : ShowsFatal (old.port port.0) → ⊥
@@ -144,11 +144,11 @@ module _ (laws : PrerequisiteLaws) (port : Port) (look : PortEvent) (old seen : 
         (or_cases (p.is 27) (p.is 28 || p.is 29) (fatal_shows p f))
 
     -- TFES was shown then, or a fault came before PxIS was read
-    pub fault_shown : (new : Device) → TapeGrows l.seen new → ((old.port port.0).is 30 ≡ true) ⊎ TapeGainsEntry (IsFaultOf port.0) old new
+    pub fault_shown : (new : Device) → TapeGrows l.after_is_read new → ((old.port port.0).is 30 ≡ true) ⊎ TapeGainsEntry (IsFaultOf port.0) old new
     fault_shown new later = ⊎_elim
         (λ (is : (old.port port.0).is 30 ≡ true). inl is)
         (λ (clear : (old.port port.0).is 30 ≡ false). inr (⊎_elim
-        (λ found. gains_more (IsFaultOf port.0) old l.seen new later (record { new_entries = grows.0; tape_is = grows.1; entry = found.0; entry_is_new = found.1; entry_is_of_kind = found.2 }))
+        (λ found. gains_more (IsFaultOf port.0) old l.after_is_read new later (record { new_entries = grows.0; tape_is = grows.1; entry = found.0; entry_is_new = found.1; entry_is_of_kind = found.2 }))
         (λ none. absurd (false≢true (sym (goes.bits_rise_with_cause.changes_by_errors.fault (record { new_entries = grows.0; tape_is = grows.1; no_such_entry = none }) clear) ∙ sym (shown_at 30 refl) ∙ told.0)))
         (one_or_none (IsFaultOf port.0) (is_fault port.0) grows.0)))
         (cases_Bool ((old.port port.0).is 30))
@@ -157,44 +157,44 @@ module _ (laws : PrerequisiteLaws) (port : Port) (look : PortEvent) (old seen : 
 
   module _ (broken : look ≡ FatalError) where
     -- one of those three was shown then, or a fatal error came before PxIS was read
-    pub fatal_shown : (new : Device) → TapeGrows l.seen new → ShowsFatal (old.port port.0) ⊎ TapeGainsEntry (IsFatalOf port.0) old new
+    pub fatal_shown : (new : Device) → TapeGrows l.after_is_read new → ShowsFatal (old.port port.0) ⊎ TapeGainsEntry (IsFatalErrorOf port.0) old new
     fatal_shown new later = ⊎_elim (at 28 (omega arith) (omega arith) refl refl) (λ more. ⊎_elim (at 29 (omega arith) (omega arith) refl refl) (at 27 (omega arith) (omega arith) refl refl) more)
-        (laws.looking.looks_broken l.causes l.status (its FatalError broken)).0
+        (laws.look_laws.fatal_event_bits l.causes l.status (its FatalError broken)).0
       where
-        at : (place : ℕ) → 27 ≤ place → place ≤ 29 → is_cause place ≡ true → shown_interrupt (l.seen.port port.0) place ≡ (l.seen.port port.0).is place → bit l.causes place ≡ true
-            → ShowsFatal (old.port port.0) ⊎ TapeGainsEntry (IsFatalOf port.0) old new
+        at : (place : ℕ) → 27 ≤ place → place ≤ 29 → is_named_cause place ≡ true → shown_interrupt (l.after_is_read.port port.0) place ≡ (l.after_is_read.port port.0).is place → bit l.causes place ≡ true
+            → ShowsFatal (old.port port.0) ⊎ TapeGainsEntry (IsFatalErrorOf port.0) old new
         at place from to cause plain set = ⊎_elim
             (λ (is : (old.port port.0).is place ≡ true). inl (record { place = place; from = from; to = to; cause_is_set = is }))
             (λ (clear : (old.port port.0).is place ≡ false). inr (⊎_elim
-            (λ found. gains_more (IsFatalOf port.0) old l.seen new later (record { new_entries = grows.0; tape_is = grows.1; entry = found.0; entry_is_new = found.1; entry_is_of_kind = found.2 }))
+            (λ found. gains_more (IsFatalErrorOf port.0) old l.after_is_read new later (record { new_entries = grows.0; tape_is = grows.1; entry = found.0; entry_is_new = found.1; entry_is_of_kind = found.2 }))
             (λ none. absurd (false≢true (sym (goes.bits_rise_with_cause.changes_by_errors.fatal (record { new_entries = grows.0; tape_is = grows.1; no_such_entry = none }) place from to clear) ∙ sym plain ∙ sym (shown_at place cause) ∙ set)))
-            (one_or_none (IsFatalOf port.0) (is_fatal port.0) grows.0)))
+            (one_or_none (IsFatalErrorOf port.0) (is_fatal port.0) grows.0)))
             (cases_Bool ((old.port port.0).is place))
 
   -- ---- no loss
 
   module _ (not_lost : look ≢ LinkChanged) where
     -- the link told of no change when the turn began
-    pub no_change : ShowsChange (old.port port.0) → ⊥
-    no_change change = not_lost (laws.looking.looks_changed port look old seen on l change)
+    pub no_change : ShowsLinkChange (old.port port.0) → ⊥
+    no_change change = not_lost (laws.look_laws.look_tells_shown_change port look old seen on l change)
 
     -- nor was a device missing, unless a disk came
     pub not_missing : (new : Device) → TapeGrows seen new → (old.port port.0).link_due ≡ false → (old.port port.0).ssts_det ≢ 3 → NoDiskComes port.0 old new → ⊥
     not_missing new later undue missing none =
-        not_lost (laws.looking.looks_unlinked port look old seen on l missing undue (laws.looks.tape.comes_parts port.0 old seen new looked.0 later.0 looked.1 later.1 none).0)
+        not_lost (laws.look_laws.look_tells_missing_device port look old seen on l missing undue (laws.port_event_laws.tape.no_disk_comes_in_parts port.0 old seen new looked.0 later.0 looked.1 later.1 none).0)
 
   -- where it told of no loss, a device showed
   pub shows_link : look ≢ LinkChanged → l.status % 16 ≡ 3
   shows_link not_lost = by look refl
     where
       by : (told : PortEvent) → look ≡ told → l.status % 16 ≡ 3
-      by TaskFileError is = (laws.looking.looks_failed l.causes l.status (its TaskFileError is)).4
-      by FatalError is = (laws.looking.looks_broken l.causes l.status (its FatalError is)).3
-      by NoEvent is = (laws.looking.looks_undisturbed l.causes l.status (its NoEvent is)).1
+      by TaskFileError is = (laws.look_laws.tfes_event_bits l.causes l.status (its TaskFileError is)).4
+      by FatalError is = (laws.look_laws.fatal_event_bits l.causes l.status (its FatalError is)).3
+      by NoEvent is = (laws.look_laws.no_event_bits l.causes l.status (its NoEvent is)).1
       by LinkChanged is = absurd (not_lost is)
 
   -- and a failure was shown when the turn began, or came
-  pub errors_shown : (look ≡ TaskFileError) ⊎ (look ≡ FatalError) → (new : Device) → TapeGrows l.seen new → ShowsFailure (old.port port.0) ⊎ (TapeGainsEntry (IsFaultOf port.0) old new ⊎ TapeGainsEntry (IsFatalOf port.0) old new)
+  pub errors_shown : (look ≡ TaskFileError) ⊎ (look ≡ FatalError) → (new : Device) → TapeGrows l.after_is_read new → ShowsFailure (old.port port.0) ⊎ (TapeGainsEntry (IsFaultOf port.0) old new ⊎ TapeGainsEntry (IsFatalErrorOf port.0) old new)
   errors_shown error new later = ⊎_elim
       (λ failed. ⊎_elim (λ is. inl (inr is)) (λ came. inr (inl came)) (fault_shown failed new later))
       (λ broken. ⊎_elim (λ is. inl (inl is)) (λ came. inr (inr came)) (fatal_shown broken new later))
@@ -203,11 +203,11 @@ module _ (laws : PrerequisiteLaws) (port : Port) (look : PortEvent) (old seen : 
   -- ---- a loss
 
   -- it was there to tell when the turn began, or a disk went or came
-  pub loss_shown : look ≡ LinkChanged → (old.port port.0).link_due ≡ false → (new : Device) → TapeGrows seen new → ShowsChange (old.port port.0) ⊎ (((old.port port.0).ssts_det ≢ 3) ⊎ TapeGainsEntry (IsPlugEvent port.0) old new)
+  pub loss_shown : look ≡ LinkChanged → (old.port port.0).link_due ≡ false → (new : Device) → TapeGrows seen new → ShowsLinkChange (old.port port.0) ⊎ (((old.port port.0).ssts_det ≢ 3) ⊎ TapeGainsEntry (IsPlugEvent port.0) old new)
   loss_shown lost undue new later = ⊎_elim
       (λ change. inl change)
       (λ more. inr (⊎_elim (λ out. inl out) (λ some. inr (⊎_elim
       (λ found. gains_more (IsPlugEvent port.0) old seen new later (record { new_entries = looked.0; tape_is = looked.1; entry = found.0; entry_is_new = found.1; entry_is_of_kind = found.2 }))
       (λ none. absurd (some (record { new_entries = looked.0; tape_is = looked.1; no_such_entry = none })))
       (one_or_none (IsPlugEvent port.0) (is_plugging port.0) looked.0))) more))
-      (laws.looking.looks_loss port old seen on (subst (λ (told : PortEvent). TakesEvent port told old seen) lost l) undue)
+      (laws.look_laws.link_changed_means_loss port old seen on (subst (λ (told : PortEvent). TakesEvent port told old seen) lost l) undue)

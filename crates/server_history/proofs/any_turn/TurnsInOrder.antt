@@ -9,14 +9,14 @@ use Rattle.ata_types.specs.declared.request.Outcome.TheVariants.{Ok, DeviceError
 use Rattle.ata_types.specs.declared.request.RequestId.{RequestId}
 use Rattle.adapter.specs.declared.access.DeviceStep.{DeviceStep}
 use Rattle.refinement.specs.Relation.{port_at}
-use Rattle.block_machine.specs.Events.{AbstractCall, AbstractState, AllAnswersLawful, AllEnabled, AreStepsOfCall, IsIssuedIn, IsLawfulAnswer, IssuesLast, AnswersAllUnplugged, changes_disk}
+use Rattle.block_machine.specs.Events.{AbstractCall, AbstractState, AnswersAndWaitsLawful, AllEnabled, AreStepsOfCall, IsIssuedIn, IsLawfulAnswer, IssueIsLastOfRequest, UnpluggedEmptiesPort, changes_disk}
 use Rattle.block_machine.specs.Histories.{IsReachable}
 use Rattle.block_machine.specs.Expected.{after}
 use Rattle.block_machine.specs.Ports.{Evidence, Ports}
 use Rattle.block_machine.specs.State.{Machine, Pending}
 use Rattle.block_machine.specs.Steps.{Step, WaitAgain, Answer, Issue, Replace, Unplug}
-use Rattle.driver_history.specs.EvidenceHandling.{OnlyFailedPortsRequeue}
-use Rattle.server_history.specs.Turns.{IsOfTurn, IsStepOf}
+use Rattle.driver_history.specs.EvidenceHandling.{OnlyFailedPortsRequeueOrFault}
+use Rattle.server_history.specs.Turns.{IsTurnOrDeviceStep, IsByDeviceOrOnSuchPort}
 use Rattle.server_history.proofs.any_turn.TurnSteps.{IsSame, StandsIn, handled_own, issued_before, others_left, others_were, same_as, same_more, stood}
 use Rattle.server_history.proofs.plain_calls.IssueRounds.{issued_parts}
 use Rattle.server_history.specs.Prerequisites.{PrerequisiteLaws}
@@ -24,28 +24,28 @@ use Rattle.server_history.specs.Prerequisites.{PrerequisiteLaws}
 -- ---- lists of steps
 
 -- steps of ports of one kind are of ports of another
-of_ports : (One Other : Port → Type 0) → ((q : Port) → One q → Other q) → (step : Step) → IsStepOf One step → IsStepOf Other step
+of_ports : (One Other : Port → Type 0) → ((q : Port) → One q → Other q) → (step : Step) → IsByDeviceOrOnSuchPort One step → IsByDeviceOrOnSuchPort Other step
 of_ports One Other each (Issue mode e) is = each e.request.port is
 of_ports One Other each (WaitAgain e) is = each e.request.port is
 of_ports One Other each (Answer e o) is = each e.request.port is
 of_ports One Other each step is = is
 
-pub all_of_ports : (One Other : Port → Type 0) → ((q : Port) → One q → Other q) → (steps : List Step) → All (IsStepOf One) steps → All (IsStepOf Other) steps
-all_of_ports One Other each steps all = All-weaker (IsStepOf One) (IsStepOf Other) (λ step is. of_ports One Other each step is) steps all
+pub all_of_ports : (One Other : Port → Type 0) → ((q : Port) → One q → Other q) → (steps : List Step) → All (IsByDeviceOrOnSuchPort One) steps → All (IsByDeviceOrOnSuchPort Other) steps
+all_of_ports One Other each steps all = All-weaker (IsByDeviceOrOnSuchPort One) (IsByDeviceOrOnSuchPort Other) (λ step is. of_ports One Other each step is) steps all
 
 -- who is answered in them is of such a port
-pub answered_of : (Such : Port → Type 0) (steps : List Step) → All (IsStepOf Such) steps → (e : Pending) (o : Outcome) → Contains steps (Answer e o) → Such e.request.port
-answered_of Such steps all e o here = All-contains (IsStepOf Such) steps (Answer e o) all here
+pub answered_of : (Such : Port → Type 0) (steps : List Step) → All (IsByDeviceOrOnSuchPort Such) steps → (e : Pending) (o : Outcome) → Contains steps (Answer e o) → Such e.request.port
+answered_of Such steps all e o here = All-contains (IsByDeviceOrOnSuchPort Such) steps (Answer e o) all here
 
 -- and so is who waits again in them
-pub again_of : (Such : Port → Type 0) (steps : List Step) → All (IsStepOf Such) steps → (e : Pending) → Contains steps (WaitAgain e) → Such e.request.port
-again_of Such steps all e here = All-contains (IsStepOf Such) steps (WaitAgain e) all here
+pub again_of : (Such : Port → Type 0) (steps : List Step) → All (IsByDeviceOrOnSuchPort Such) steps → (e : Pending) → Contains steps (WaitAgain e) → Such e.request.port
+again_of Such steps all e here = All-contains (IsByDeviceOrOnSuchPort Such) steps (WaitAgain e) all here
 
 pub belong_join : (ask : AbstractCall DeviceStep) (ports : Ports) (late early : List Step) → AreStepsOfCall ask ports late → AreStepsOfCall ask ports early → AreStepsOfCall ask ports (late ++ early)
 belong_join ask ports [] early a b = b
 belong_join ask ports (step ∷ late) early a b = (belong_join ask ports late early a.0 b, a.1)
 
-pub lawful_join : (old : AbstractState) (evidence : Evidence) (ports : Ports) (late early : List Step) → AllAnswersLawful old evidence ports late → AllAnswersLawful old evidence ports early → AllAnswersLawful old evidence ports (late ++ early)
+pub lawful_join : (old : AbstractState) (evidence : Evidence) (ports : Ports) (late early : List Step) → AnswersAndWaitsLawful old evidence ports late → AnswersAndWaitsLawful old evidence ports early → AnswersAndWaitsLawful old evidence ports (late ++ early)
 lawful_join old evidence ports [] early a b = b
 lawful_join old evidence ports (Answer e o ∷ late) early a b = (lawful_join old evidence ports late early a.0 b, a.1)
 lawful_join old evidence ports (WaitAgain e ∷ late) early a b = (lawful_join old evidence ports late early a.0 b, a.1)
@@ -55,7 +55,7 @@ lawful_join old evidence ports (step ∷ late) early a b = lawful_join old evide
 pub lawful_on : (old new : AbstractState) (evidence other : Evidence) (ports later : Ports) (steps : List Step)
     → ((e : Pending) (o : Outcome) → Contains steps (Answer e o) → IsLawfulAnswer old evidence ports e o → IsLawfulAnswer new other later e o)
     → ((e : Pending) → Contains steps (WaitAgain e) → Contains evidence.stopped e.request.port → Contains other.stopped e.request.port)
-    → AllAnswersLawful old evidence ports steps → AllAnswersLawful new other later steps
+    → AnswersAndWaitsLawful old evidence ports steps → AnswersAndWaitsLawful new other later steps
 lawful_on old new evidence other ports later [] each again a = tt
 lawful_on old new evidence other ports later (Answer e o ∷ steps) each again a = (
   lawful_on old new evidence other ports later steps (λ x y h. each x y (Contains-append_right ((Answer e o) ∷ []) steps (Answer x y) h)) (λ x h. again x (Contains-append_right ((Answer e o) ∷ []) steps (WaitAgain x) h)) a.0,
@@ -68,7 +68,7 @@ lawful_on old new evidence other ports later (WaitAgain e ∷ steps) each again 
 lawful_on old new evidence other ports later (step ∷ steps) each again a =
     lawful_on old new evidence other ports later steps (λ x y h. each x y (Contains-append_right (step ∷ []) steps (Answer x y) h)) (λ x h. again x (Contains-append_right (step ∷ []) steps (WaitAgain x) h)) a
 
-pub grounded_join : (evidence : Evidence) (late early : List Step) → OnlyFailedPortsRequeue evidence late → OnlyFailedPortsRequeue evidence early → OnlyFailedPortsRequeue evidence (late ++ early)
+pub grounded_join : (evidence : Evidence) (late early : List Step) → OnlyFailedPortsRequeueOrFault evidence late → OnlyFailedPortsRequeueOrFault evidence early → OnlyFailedPortsRequeueOrFault evidence (late ++ early)
 grounded_join evidence [] early a b = b
 grounded_join evidence (WaitAgain e ∷ late) early a b = (grounded_join evidence late early a.0 b, a.1)
 grounded_join evidence (Answer e Aborted ∷ late) early a b = (grounded_join evidence late early a.0 b, a.1)
@@ -79,7 +79,7 @@ grounded_join evidence (Answer e Unplugged ∷ late) early a b = grounded_join e
 grounded_join evidence (Answer e PortDead ∷ late) early a b = grounded_join evidence late early a b
 grounded_join evidence (step ∷ late) early a b = grounded_join evidence late early a b
 
-pub grounded_on : (evidence other : Evidence) → ((q : Port) → Contains evidence.failed q → Contains other.failed q) → (steps : List Step) → OnlyFailedPortsRequeue evidence steps → OnlyFailedPortsRequeue other steps
+pub grounded_on : (evidence other : Evidence) → ((q : Port) → Contains evidence.showing_error q → Contains other.showing_error q) → (steps : List Step) → OnlyFailedPortsRequeueOrFault evidence steps → OnlyFailedPortsRequeueOrFault other steps
 grounded_on evidence other more [] a = tt
 grounded_on evidence other more (WaitAgain e ∷ steps) a = (grounded_on evidence other more steps a.0, more e.request.port a.1)
 grounded_on evidence other more (Answer e Aborted ∷ steps) a = (grounded_on evidence other more steps a.0, more e.request.port a.1)
@@ -121,8 +121,8 @@ present_before m q (step ∷ steps) is = present_before m q steps is
 -- it was when the call began; and each that is unanswered was so then.
 pub record AreTurns (old : AbstractState) (n : ℕ) (steps : List Step) : Type 0 where
   pub may : AllEnabled old.machine steps
-  pub last : IssuesLast steps
-  pub below : All (IsStepOf (λ q. q.0 < n)) steps
+  pub last : IssueIsLastOfRequest steps
+  pub below : All (IsByDeviceOrOnSuchPort (λ q. q.0 < n)) steps
   pub issued : (id : RequestId) → IsIssuedIn id steps → (e : Pending) × Contains old.machine.book e × (e.request.id.0 ≡ id.0) × (e.request.port.0 < n)
   pub from : (z : Pending) → Contains (after old.machine steps).book z → StandsIn old.machine.book z
   pub further : (e : Pending) → Contains old.machine.book e → n ≤ e.request.port.0 → (x : Pending) × Contains (after old.machine steps).book x × IsSame e x
@@ -133,7 +133,7 @@ module _ (laws : PrerequisiteLaws) (old : AbstractState) (reached : IsReachable 
   no_turns = record {
     may = tt;
     last = tt;
-    below = All-nil (IsStepOf (λ q. q.0 < 0));
+    below = All-nil (IsByDeviceOrOnSuchPort (λ q. q.0 < 0));
     issued = λ id h. absurd (false≢true h);
     from = λ z here. record { was = z; here = here; request = refl };
     further = λ e h low. (e, h, same_as e);
@@ -152,12 +152,12 @@ module _ (laws : PrerequisiteLaws) (old : AbstractState) (reached : IsReachable 
     origin = λ e h far. x.origin e h (omega (arith, le, far));
   }
 
-  module _ (n : ℕ) (base late : List Step) (x : AreTurns old n base) (own : All (IsOfTurn (port_at n)) late) (may : AllEnabled (after old.machine base) late) (last : IssuesLast late) where
+  module _ (n : ℕ) (base late : List Step) (x : AreTurns old n base) (own : All (IsTurnOrDeviceStep (port_at n)) late) (may : AllEnabled (after old.machine base) late) (last : IssueIsLastOfRequest late) where
     m_reached : IsReachable (after old.machine base)
-    m_reached = laws.basic.reached old.machine base reached x.may
+    m_reached = laws.steps_and_accesses.reachable_stays_reachable old.machine base reached x.may
 
     one_of : (e y : Pending) → Contains old.machine.book e → Contains old.machine.book y → e.request.id.0 ≡ y.request.id.0 → e ≡ y
-    one_of e y here there same = laws.basic.one old.machine reached e y here there same
+    one_of e y here there same = laws.steps_and_accesses.an_id_is_one_request old.machine reached e y here there same
 
     -- what the turn handles wasn't issued before
     fresh : (e : Pending) → Contains (after old.machine base).book e → e.request.port ≡ port_at n → (id : RequestId) → e.request.id.0 ≡ id.0 → IsIssuedIn id base → ⊥
@@ -169,10 +169,10 @@ module _ (laws : PrerequisiteLaws) (old : AbstractState) (reached : IsReachable 
         let is : w.0.request.port.0 ≡ n = ap (λ (y : Pending). y.request.port.0) it ∙ ap (λ r. r.port.0) b.request ∙ ap (λ (q : Port). q.0) its in
         absurd (omega (arith, small, is))
 
-    last_join : (steps : List Step) → All (IsOfTurn (port_at n)) steps → AllEnabled (after old.machine base) steps → IssuesLast steps → IssuesLast (steps ++ base)
+    last_join : (steps : List Step) → All (IsTurnOrDeviceStep (port_at n)) steps → AllEnabled (after old.machine base) steps → IssueIsLastOfRequest steps → IssueIsLastOfRequest (steps ++ base)
     last_join [] all its_may l = x.last
     last_join (step ∷ steps) all its_may l = (
-      last_join steps (All-tail (IsOfTurn (port_at n)) step steps all) its_may.0 l.0,
+      last_join steps (All-tail (IsTurnOrDeviceStep (port_at n)) step steps all) its_may.0 l.0,
       λ id h i. ⊎_elim
           (λ late_one. l.1 id h late_one)
           (λ early. let o = handled_own laws (port_at n) (after old.machine base) step steps all its_may id h in fresh o.pending o.here o.port_is id o.id_is early)
@@ -180,7 +180,7 @@ module _ (laws : PrerequisiteLaws) (old : AbstractState) (reached : IsReachable 
     )
 
     whole_is : after old.machine (late ++ base) ≡ after (after old.machine base) late
-    whole_is = laws.basic.joined old.machine late base
+    whole_is = laws.steps_and_accesses.after_joins old.machine late base
 
     in_whole : (z : Pending) → Contains (after old.machine (late ++ base)).book z → Contains (after (after old.machine base) late).book z
     in_whole z here = subst (λ (k : Machine). Contains k.book z) whole_is here
@@ -190,9 +190,9 @@ module _ (laws : PrerequisiteLaws) (old : AbstractState) (reached : IsReachable 
 
     pub turn_on : AreTurns old (n + 1) (late ++ base)
     turn_on = record {
-      may = laws.basic.may old.machine late base x.may may;
+      may = laws.steps_and_accesses.enabled_lists_join old.machine late base x.may may;
       last = last_join late own may last;
-      below = All-append (IsStepOf (λ q. q.0 < n + 1)) late base
+      below = All-append (IsByDeviceOrOnSuchPort (λ q. q.0 < n + 1)) late base
           (all_of_ports (λ q. q ≡ port_at n) (λ q. q.0 < n + 1) (λ q is. let same : q.0 ≡ n = ap (λ (r : Port). r.0) is in omega (arith, same)) late own)
           (all_of_ports (λ q. q.0 < n) (λ q. q.0 < n + 1) (λ q small. omega (arith, small)) base x.below);
       issued = λ id i. ⊎_elim
@@ -218,7 +218,7 @@ module _ (laws : PrerequisiteLaws) (old : AbstractState) (reached : IsReachable 
     }
 
     -- who is left of what was answered before, or stays, stays answered so
-    pub unplugs_join : AnswersAllUnplugged base (after old.machine base) → AnswersAllUnplugged late (after (after old.machine base) late) → AnswersAllUnplugged (late ++ base) (after old.machine (late ++ base))
+    pub unplugs_join : UnpluggedEmptiesPort base (after old.machine base) → UnpluggedEmptiesPort late (after (after old.machine base) late) → UnpluggedEmptiesPort (late ++ base) (after old.machine (late ++ base))
     unplugs_join early its = record {
       none_is_left = λ e other here there. ⊎_elim
           (λ i. its.none_is_left e other i (in_whole other there))

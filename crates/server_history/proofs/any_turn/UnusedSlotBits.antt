@@ -17,10 +17,10 @@ use Rattle.server_history.proofs.state.TransferAccesses.{both_read}
 use Rattle.server_history.proofs.state.PortSlots.{free_unused}
 
 -- the port was looked at, and then the masks were read
-pub unused_clear : PrerequisiteLaws → (c : ServerState) (m : Machine) (n : ℕ) → MachineRelation c m → state_of (probe_result_of c.ports n) ≡ ReadyState → (seen read : Device) → IsDrivenBy (IsEventAccess (port_at n)) c.device seen
+pub unused_clear : PrerequisiteLaws → (c : ServerState) (m : Machine) (n : ℕ) → MachineRelation c m → state_of (probe_result_of c.probe_results n) ≡ ReadyState → (seen read : Device) → IsDrivenBy (IsEventAccess (port_at n)) c.device seen
     → (mask done : ℕ) → (k : ReadsDone (port_at n) mask done seen read) → (slot : ℕ) → slot < 32 → used_for c.slots n slot ≡ None → (bit k.issued slot ≡ false) × (bit k.active slot ≡ false)
 unused_clear laws c m n stands ready seen read looks mask done k slot small unused =
     let masks = both_read (port_at n) mask done seen read k in
     let free : IsEmptySlot (c.device.port n) slot =
     subst (λ (u : SlotState). RelatesSlot m c.device.memory c.device.tape (c.device.port n) n slot u) (free_unused c m n stands ready slot unused) (stands.driver_relation.state_relation.relates_slots n slot) in
-    both_clear laws (port_at n) slot k.issued k.active c.device seen masks.0 read small looks masks.1 masks.2 (record { issued = free.issued; free = free.free }) free.unarmed
+    both_clear laws (port_at n) slot k.issued k.active c.device seen masks.0 read small looks masks.1 masks.2 (record { is_not_issued = free.is_not_issued; is_not_taken = free.is_not_taken }) free.unarmed

@@ -10,12 +10,12 @@ use Rattle.ata_types.specs.declared.request.Outcome.TheVariants as outcome
 use Rattle.ata_types.specs.declared.request.Reply.{Reply}
 use Rattle.ata_types.specs.declared.request.RequestId.{RequestId}
 use Rattle.adapter.specs.declared.access.DeviceStep.{DeviceStep}
-use Rattle.block_machine.specs.Events.{AllAnswersLawful, AreStepsOfCall, EndsUndone, IsByDevice, IsIssuedIn, IsLawfulAnswer, IsByServer, AbstractState, Service, Tick, issues_id}
+use Rattle.block_machine.specs.Events.{AnswersAndWaitsLawful, AreStepsOfCall, IsOfUndoneRequest, IsByDevice, IsIssuedIn, IsLawfulAnswer, IsByServer, AbstractState, Service, Tick, issues_id}
 use Rattle.block_machine.specs.Ports.{Evidence, Ports}
 use Rattle.block_machine.specs.State.{Pending}
 use Rattle.block_machine.specs.Steps.{Step, WaitAgain, Answer, Issue}
 use Rattle.block_machine.specs.declared.due.QueueMode.{QueueMode}
-use Rattle.driver_history.specs.EvidenceHandling.{OnlyFailedPortsRequeue}
+use Rattle.driver_history.specs.EvidenceHandling.{OnlyFailedPortsRequeueOrFault}
 use Rattle.server_history.proofs.state.ListMembers.{contains_cases, contains_there}
 use Rattle.request_queue.specs.BookEntries.{BookEntry}
 use Rattle.request_queue.specs.Dispositions.{BookAndLoans, AreResolved, IsResolved, disposition_of, disposition_of_unfailed}
@@ -29,7 +29,7 @@ use Rattle.server_history.specs.Prerequisites.{PrerequisiteLaws}
 use Rattle.server_history.specs.ResolvedRequests.{IsResolveStep}
 use Rattle.server_history.specs.IssuingAndAnswering.{AnswersEach, AllByDeviceOrIssue}
 use Rattle.server_history.specs.ServerState.{ServerState}
-use Rattle.server_history.specs.Turns.{IsOfTurn}
+use Rattle.server_history.specs.Turns.{IsTurnOrDeviceStep}
 use Rattle.server_history.proofs.state.FirstMembers.{nowhere, first_here}
 
 -- ---- why
@@ -38,18 +38,18 @@ use Rattle.server_history.proofs.state.FirstMembers.{nowhere, first_here}
 abbrev pub Why : Option FailedRequest → Revalidation → PendingRequest → Outcome → Type 0
 Why failed revalidation e o =
     ((its : FailedRequest) × (failed ≡ Some its) × (its.id.0 ≡ e.id.0) × (o ≡ outcome.DeviceError its.status its.error))
-    ⊎ (((revalidation ≡ SameDisk) × (e.issued ≡ true) × (e.issues ≡ 4) × (o ≡ outcome.Aborted))
+    ⊎ (((revalidation ≡ SameDisk) × (e.issued ≡ true) × (e.issue_count ≡ 4) × (o ≡ outcome.Aborted))
     ⊎ (((revalidation ≡ DiskLost) × (o ≡ outcome.Unplugged))
     ⊎ (((revalidation ≡ NoEnd) × (o ≡ outcome.PortDead))
     ⊎ ((revalidation ≡ SameDisk) × (e.issued ≡ true) × (e.revoked ≡ true) × (o ≡ outcome.Revoked)))))
 
 why_on : (failed : Option FailedRequest) (revalidation : Revalidation) (e : PendingRequest) (o : Outcome) → disposition_of_unfailed revalidation e ≡ Complete o → Why failed revalidation e o
-why_on failed SameDisk e o is = by e.issued e.revoked (e.issues == 4) refl refl refl is
+why_on failed SameDisk e o is = by e.issued e.revoked (e.issue_count == 4) refl refl refl is
   where
-    by : (a b c : Bool) → e.issued ≡ a → e.revoked ≡ b → (e.issues == 4) ≡ c
+    by : (a b c : Bool) → e.issued ≡ a → e.revoked ≡ b → (e.issue_count == 4) ≡ c
         → (if a then (if b then Complete outcome.Revoked else (if c then Complete outcome.Aborted else Requeue)) else Wait) ≡ Complete o → Why failed SameDisk e o
     by true true c x y z told = let is : o ≡ outcome.Revoked = cc in inr (inr (inr (inr (refl, x, y, is))))
-    by true false true x y z told = let is : o ≡ outcome.Aborted = cc in inr (inl (refl, x, eqb-true e.issues 4 z, is))
+    by true false true x y z told = let is : o ≡ outcome.Aborted = cc in inr (inl (refl, x, eqb-true e.issue_count 4 z, is))
     by true false false x y z told = absurd cc
     by false b c x y z told = absurd cc
 why_on failed DiskLost e o is = let w : Complete outcome.Unplugged ≡ Complete o = is in let told : o ≡ outcome.Unplugged = cc in inr (inr (inl (refl, told)))
@@ -110,20 +110,20 @@ pub none_left : PrerequisiteLaws → (disposition : PendingRequest → Dispositi
     → (x : BookEntry) → Contains new.book x → Contains old.book x × (Contains requests x → ⊥)
 none_left laws disposition ends [] replies old new (none, is) x here = (subst (λ (h : BookAndLoans). Contains h.book x) is here, λ there. absurd (nowhere x there))
 none_left laws disposition ends (request ∷ requests) replies old new (mid, its, later, split, meets, more) x here =
-    let w = ends request.entry in
+    let w = ends request.request in
     let m : IsResolved request (Complete w.0) its old mid = subst (λ (f : Disposition). IsResolved request f its old mid) w.1 meets in
     let rest = none_left laws disposition ends requests later mid new more x here in
-    let left = (laws.left old.book request.entry.id x).0 (subst (λ (book : List BookEntry). Contains book x) m.1 rest.0) in
-    (left.0, λ there. ⊎_elim (λ (same : x ≡ request). left.1 (ap (λ (y : BookEntry). y.entry.id) same)) (λ late. rest.1 late) (contains_cases request requests x there))
+    let left = (laws.removal_keeps_other_entries old.book request.request.id x).0 (subst (λ (book : List BookEntry). Contains book x) m.1 rest.0) in
+    (left.0, λ there. ⊎_elim (λ (same : x ≡ request). left.1 (ap (λ (y : BookEntry). y.request.id) same)) (λ late. rest.1 late) (contains_cases request requests x there))
 
 -- who was answered has left it
 pub answered_left : PrerequisiteLaws → (port : Port) (done : ℕ) (requests : List BookEntry) (old new : ServerState) → AnswersEach port done requests old new → (x : BookEntry) → Contains new.book x
-    → Contains old.book x × ((e : BookEntry) → Contains requests e → x.entry.id ≢ e.entry.id)
+    → Contains old.book x × ((e : BookEntry) → Contains requests e → x.request.id ≢ e.request.id)
 answered_left laws port done [] old new none x here = (subst (λ (s : ServerState). Contains s.book x) none here, λ e there. absurd (nowhere e there))
 answered_left laws port done (request ∷ requests) old new (mid, one, its, more) x here =
     let rest = answered_left laws port done requests mid new more x here in
-    let left = (laws.left old.book request.entry.id x).0 (subst (λ (s : ServerState). Contains s.book x) one.server_is rest.0) in
-    (left.0, λ e there. ⊎_elim (λ (same : e ≡ request). λ is. left.1 (is ∙ ap (λ (y : BookEntry). y.entry.id) same)) (λ late. rest.1 e late) (contains_cases request requests e there))
+    let left = (laws.removal_keeps_other_entries old.book request.request.id x).0 (subst (λ (s : ServerState). Contains s.book x) one.server_is rest.0) in
+    (left.0, λ e there. ⊎_elim (λ (same : e ≡ request). λ is. left.1 (is ∙ ap (λ (y : BookEntry). y.request.id) same)) (λ late. rest.1 e late) (contains_cases request requests e there))
 
 -- ---- steps that decide
 
@@ -135,10 +135,10 @@ RestsOnFailure (outcome.DeviceError status error) = Unit {0}
 RestsOnFailure o = ⊥
 
 module _ (port : Port) where
-  pub deciding_own : (steps : List Step) → All (IsResolveStep port) steps → All (IsOfTurn port) steps
-  deciding_own steps all = All-weaker (IsResolveStep port) (IsOfTurn port) own steps all
+  pub deciding_own : (steps : List Step) → All (IsResolveStep port) steps → All (IsTurnOrDeviceStep port) steps
+  deciding_own steps all = All-weaker (IsResolveStep port) (IsTurnOrDeviceStep port) own steps all
     where
-      own : (step : Step) → IsResolveStep port step → IsOfTurn port step
+      own : (step : Step) → IsResolveStep port step → IsTurnOrDeviceStep port step
       own (WaitAgain e) is = is
       own (Answer e o) is = is
       own step is = absurd is
@@ -154,7 +154,7 @@ module _ (port : Port) where
   deciding_belong ports (step ∷ steps) all again = absurd (All-head (IsResolveStep port) step steps all)
 
   pub deciding_lawful : (old : AbstractState) (evidence : Evidence) (ports : Ports) (steps : List Step) → All (IsResolveStep port) steps → ((e : Pending) (o : Outcome) → Contains steps (Answer e o) → IsLawfulAnswer old evidence ports e o)
-      → ((e : Pending) → Contains steps (WaitAgain e) → Contains evidence.stopped e.request.port) → AllAnswersLawful old evidence ports steps
+      → ((e : Pending) → Contains steps (WaitAgain e) → Contains evidence.stopped e.request.port) → AnswersAndWaitsLawful old evidence ports steps
   deciding_lawful old evidence ports [] all answer again = tt
   deciding_lawful old evidence ports (WaitAgain e ∷ steps) all answer again = (
     deciding_lawful old evidence ports steps (All-tail (IsResolveStep port) (WaitAgain e) steps all) (λ x o there. answer x o (contains_there (WaitAgain e) steps (Answer x o) there)) (λ x there. again x (contains_there (WaitAgain e) steps (WaitAgain x) there)),
@@ -167,24 +167,24 @@ module _ (port : Port) where
   deciding_lawful old evidence ports (step ∷ steps) all answer again = absurd (All-head (IsResolveStep port) step steps all)
 
   -- a request that goes again, or is aborted, told Revoked or told a fault in its place, is of a port that failed
-  pub deciding_grounded : (evidence : Evidence) (steps : List Step) → All (IsResolveStep port) steps → ((e : Pending) → Contains steps (WaitAgain e) → Contains evidence.failed port)
-      → ((e : Pending) (o : Outcome) → Contains steps (Answer e o) → RestsOnFailure o → Contains evidence.failed port) → OnlyFailedPortsRequeue evidence steps
+  pub deciding_grounded : (evidence : Evidence) (steps : List Step) → All (IsResolveStep port) steps → ((e : Pending) → Contains steps (WaitAgain e) → Contains evidence.showing_error port)
+      → ((e : Pending) (o : Outcome) → Contains steps (Answer e o) → RestsOnFailure o → Contains evidence.showing_error port) → OnlyFailedPortsRequeueOrFault evidence steps
   deciding_grounded evidence [] all again answer = tt
   deciding_grounded evidence (WaitAgain e ∷ steps) all again answer = (
     deciding_grounded evidence steps (All-tail (IsResolveStep port) (WaitAgain e) steps all) (λ x there. again x (contains_there (WaitAgain e) steps (WaitAgain x) there)) (λ x o there. answer x o (contains_there (WaitAgain e) steps (Answer x o) there)),
-    subst (Contains evidence.failed) (sym (All-head (IsResolveStep port) (WaitAgain e) steps all)) (again e (first_here (WaitAgain e) steps)),
+    subst (Contains evidence.showing_error) (sym (All-head (IsResolveStep port) (WaitAgain e) steps all)) (again e (first_here (WaitAgain e) steps)),
   )
   deciding_grounded evidence (Answer e outcome.Aborted ∷ steps) all again answer = (
     deciding_grounded evidence steps (All-tail (IsResolveStep port) (Answer e outcome.Aborted) steps all) (λ x there. again x (contains_there (Answer e outcome.Aborted) steps (WaitAgain x) there)) (λ x o there. answer x o (contains_there (Answer e outcome.Aborted) steps (Answer x o) there)),
-    subst (Contains evidence.failed) (sym (All-head (IsResolveStep port) (Answer e outcome.Aborted) steps all)) (answer e outcome.Aborted (first_here (Answer e outcome.Aborted) steps) tt),
+    subst (Contains evidence.showing_error) (sym (All-head (IsResolveStep port) (Answer e outcome.Aborted) steps all)) (answer e outcome.Aborted (first_here (Answer e outcome.Aborted) steps) tt),
   )
   deciding_grounded evidence (Answer e outcome.Revoked ∷ steps) all again answer = (
     deciding_grounded evidence steps (All-tail (IsResolveStep port) (Answer e outcome.Revoked) steps all) (λ x there. again x (contains_there (Answer e outcome.Revoked) steps (WaitAgain x) there)) (λ x o there. answer x o (contains_there (Answer e outcome.Revoked) steps (Answer x o) there)),
-    subst (Contains evidence.failed) (sym (All-head (IsResolveStep port) (Answer e outcome.Revoked) steps all)) (answer e outcome.Revoked (first_here (Answer e outcome.Revoked) steps) tt),
+    subst (Contains evidence.showing_error) (sym (All-head (IsResolveStep port) (Answer e outcome.Revoked) steps all)) (answer e outcome.Revoked (first_here (Answer e outcome.Revoked) steps) tt),
   )
   deciding_grounded evidence (Answer e (outcome.DeviceError status error) ∷ steps) all again answer = (
     deciding_grounded evidence steps (All-tail (IsResolveStep port) (Answer e (outcome.DeviceError status error)) steps all) (λ x there. again x (contains_there (Answer e (outcome.DeviceError status error)) steps (WaitAgain x) there)) (λ x o there. answer x o (contains_there (Answer e (outcome.DeviceError status error)) steps (Answer x o) there)),
-    subst (Contains evidence.failed) (sym (All-head (IsResolveStep port) (Answer e (outcome.DeviceError status error)) steps all)) (answer e (outcome.DeviceError status error) (first_here (Answer e (outcome.DeviceError status error)) steps) tt),
+    subst (Contains evidence.showing_error) (sym (All-head (IsResolveStep port) (Answer e (outcome.DeviceError status error)) steps all)) (answer e (outcome.DeviceError status error) (first_here (Answer e (outcome.DeviceError status error)) steps) tt),
   )
   deciding_grounded evidence (Answer e outcome.Ok ∷ steps) all again answer =
       deciding_grounded evidence steps (All-tail (IsResolveStep port) (Answer e outcome.Ok) steps all) (λ x there. again x (contains_there (Answer e outcome.Ok) steps (WaitAgain x) there)) (λ x o there. answer x o (contains_there (Answer e outcome.Ok) steps (Answer x o) there))
@@ -216,7 +216,7 @@ module _ (port : Port) where
 -- ---- a tick
 
 -- steps that belong to a service belong to a tick, where no fault is told
-pub belong_tick : (ports : Ports) (steps : List Step) → ((e : Pending) (o : Outcome) → Contains steps (Answer e o) → EndsUndone o ⊎ (o ≡ outcome.Ok))
+pub belong_tick : (ports : Ports) (steps : List Step) → ((e : Pending) (o : Outcome) → Contains steps (Answer e o) → IsOfUndoneRequest o ⊎ (o ≡ outcome.Ok))
     → AreStepsOfCall {D = DeviceStep} Service ports steps → AreStepsOfCall {D = DeviceStep} Tick ports steps
 belong_tick ports [] gives b = tt
 belong_tick ports (step ∷ steps) gives b = (
@@ -224,7 +224,7 @@ belong_tick ports (step ∷ steps) gives b = (
   ⊎_elim (λ device. inl device) (λ its. one step (λ e o is. gives e o (subst (λ (s : Step). Contains (step ∷ steps) s) (sym is) (first_here step steps))) its) b.1,
 )
   where
-    one : (step : Step) → ((e : Pending) (o : Outcome) → Answer e o ≡ step → EndsUndone o ⊎ (o ≡ outcome.Ok)) → IsByServer {D = DeviceStep} Service ports step
+    one : (step : Step) → ((e : Pending) (o : Outcome) → Answer e o ≡ step → IsOfUndoneRequest o ⊎ (o ≡ outcome.Ok)) → IsByServer {D = DeviceStep} Service ports step
         → IsByDevice step ⊎ IsByServer {D = DeviceStep} Tick ports step
     one (Issue mode e) gives its = inr its
     one (WaitAgain e) gives its = inr its

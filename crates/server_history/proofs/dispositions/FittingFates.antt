@@ -17,13 +17,13 @@ use Rattle.server_history.specs.ResolvedRequests.{keeps_frames_lent}
 -- aborted; and one that is told Revoked is marked.
 pub record FitsEntry (disposition : Disposition) (e : PendingRequest) : Type 0 where
   pub waits : disposition ≡ Wait → e.issued ≡ false
-  pub again : disposition ≡ Requeue → (e.issued ≡ true) × ((e.issues == 4) ≡ false) × (e.revoked ≡ false)
+  pub again : disposition ≡ Requeue → (e.issued ≡ true) × ((e.issue_count == 4) ≡ false) × (e.revoked ≡ false)
   pub aborted : disposition ≡ Complete Aborted → e.revoked ≡ false
   pub revoked : disposition ≡ Complete Revoked → e.revoked ≡ true
 
 -- so it is of what becomes of each of these
 abbrev pub AllFit : (PendingRequest → Disposition) → List BookEntry → Type 0
-AllFit disposition requests = (e : BookEntry) → Contains requests e → FitsEntry (disposition e.entry) e.entry
+AllFit disposition requests = (e : BookEntry) → Contains requests e → FitsEntry (disposition e.request) e.request
 
 -- so it is of one that ends
 pub ends_fits : (e : PendingRequest) (o : Outcome) → (o ≡ Aborted → e.revoked ≡ false) → (o ≡ Revoked → e.revoked ≡ true) → FitsEntry (Complete o) e
@@ -40,9 +40,9 @@ record Fits (revalidation : Revalidation) (disposition : Disposition) (e : Pendi
   alive : revalidation ≢ Dead → keeps_frames_lent disposition e ≡ false
 
 fits_on : (revalidation : Revalidation) (e : PendingRequest) → Fits revalidation (disposition_of_unfailed revalidation e) e
-fits_on SameDisk e = by e.issued e.revoked (e.issues == 4) refl refl refl
+fits_on SameDisk e = by e.issued e.revoked (e.issue_count == 4) refl refl refl
   where
-    by : (a b c : Bool) → e.issued ≡ a → e.revoked ≡ b → (e.issues == 4) ≡ c
+    by : (a b c : Bool) → e.issued ≡ a → e.revoked ≡ b → (e.issue_count == 4) ≡ c
         → Fits SameDisk (if a then (if b then Complete Revoked else (if c then Complete Aborted else Requeue)) else Wait) e
     by true true c x y z = record { entry = ends_fits e Revoked (λ is. let w : Revoked ≡ Aborted = is in absurd cc) (λ is. y); alive = λ lives. refl }
     by true false true x y z = record { entry = ends_fits e Aborted (λ is. y) (λ is. let w : Aborted ≡ Revoked = is in absurd cc); alive = λ lives. refl }
@@ -81,7 +81,7 @@ fits (Some failed) revalidation e = by (failed.id.0 == e.id.0)
 
 -- so it is of what becomes of requests after a recovery or a reset
 pub fits_each : (failed : Option FailedRequest) (revalidation : Revalidation) (requests : List BookEntry) → AllFit (disposition_of failed revalidation) requests
-fits_each failed revalidation requests e here = (fits failed revalidation e.entry).entry
+fits_each failed revalidation requests e here = (fits failed revalidation e.request).entry
 
 pub kept_dead_alone : (failed : Option FailedRequest) (revalidation : Revalidation) (e : PendingRequest) → revalidation ≢ Dead → keeps_frames_lent (disposition_of failed revalidation e) e ≡ false
 kept_dead_alone failed revalidation e = (fits failed revalidation e).alive

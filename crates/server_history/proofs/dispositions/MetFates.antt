@@ -19,15 +19,15 @@ use Rattle.block_machine.specs.Expected.{after}
 use Rattle.block_machine.specs.State.{Machine, Pending}
 use Rattle.block_machine.specs.Steps.{Step, WaitAgain, Answer, IsEnabled, after_step, is_kept_at_answer, unlend}
 use Rattle.dma_frames.specs.Loan.{Lending}
-use Rattle.dma_frames.specs.FrameTables.{FrameOwnership, lent_to}
-use Rattle.request_queue.specs.BookEntries.{HasFewIssues, BookEntry, IsAccepted, IsEarlier, BookIsInOrder, update_if_id, requeued_entry, without_entry}
+use Rattle.dma_frames.specs.FrameTables.{OwnersAndLoans, lent_to}
+use Rattle.request_queue.specs.BookEntries.{IssuesAreWithinLimit, BookEntry, IsWellFormedEntry, IsEarlier, BookIsWellFormed, update_if_id, requeued_request, without_entry}
 use Rattle.request_queue.specs.Dispositions.{KeepsOrEndsLoan, BookAndLoans, AreResolved, IsResolved, keeps_loan, reply_to}
 use Rattle.request_queue.specs.BookRelation.{BookRelation, EntryRelation}
 use Rattle.request_queue.specs.declared.PendingRequest.{PendingRequest}
 use Rattle.request_queue.specs.declared.disposition.Disposition.{Disposition}
 use Rattle.request_queue.specs.declared.disposition.Disposition.TheVariants.{Complete, Requeue, Wait}
 use Rattle.server_history.specs.Prerequisites.{PrerequisiteLaws}
-use Rattle.server_history.specs.ResolvedRequests.{IsResolveStep, IsDecidedAndReleased, AreResolvable, AreResolvedInMachine, keeps_frames_lent, loan_of, loans_of}
+use Rattle.server_history.specs.ResolvedRequests.{IsResolveStep, IsResolvedAndReleased, AreResolvable, AreResolvedInMachine, keeps_frames_lent, loan_of, loans_of}
 use Rattle.server_history.specs.ServerState.{DifferInRequest, RevokedMarkAgrees}
 use Rattle.server_history.proofs.dispositions.FittingFates.{AllFit, FitsEntry}
 use Rattle.server_history.proofs.healthy_turn.OneAnswer.{given_back}
@@ -133,102 +133,102 @@ decided_elsewhere parked port id q ne = rw (ne_eqb q port ne) refl
 module _ (laws : PrerequisiteLaws) (port : Port) (disposition : PendingRequest → Disposition) where
   module _ (request : BookEntry) (rest : List BookEntry) (now mid : BookAndLoans) (k : DriverState) (m : Machine) (may : AreResolvable port disposition (request ∷ rest) now k m) where
     pub here : Contains now.book request
-    here = (may.here request (Contains-get_or (request ∷ rest) 0 request (omega arith))).0
+    here = (may.are_in_book_of_port request (Contains-get_or (request ∷ rest) 0 request (omega arith))).0
 
-    its_port : request.entry.port ≡ port
-    its_port = (may.here request (Contains-get_or (request ∷ rest) 0 request (omega arith))).1
+    its_port : request.request.port ≡ port
+    its_port = (may.are_in_book_of_port request (Contains-get_or (request ∷ rest) 0 request (omega arith))).1
 
     in_rest : (e : BookEntry) → Contains rest e → Contains (request ∷ rest) e
     in_rest e there = Contains-append_right (request ∷ []) rest e there
 
-    pub later_id : (e : BookEntry) → Contains rest e → request.entry.id.0 < e.entry.id.0
-    later_id e there = All-contains (IsEarlier request) rest e (λ i d small. may.earlier 0 (suc i) d (omega arith) (omega (arith, small))) there
+    pub later_id : (e : BookEntry) → Contains rest e → request.request.id.0 < e.request.id.0
+    later_id e there = All-contains (IsEarlier request) rest e (λ i d small. may.are_in_order 0 (suc i) d (omega arith) (omega (arith, small))) there
 
-    differs : (e : BookEntry) → Contains rest e → e.entry.id ≢ request.entry.id
+    differs : (e : BookEntry) → Contains rest e → e.request.id ≢ request.request.id
     differs e there same = let lt = later_id e there in let id = ap (λ (i : RequestId). i.0) same in omega (arith, lt, id)
 
     earlier : AllPairs IsEarlier rest
-    earlier i j d lt below = may.earlier (suc i) (suc j) d (omega (arith, lt)) (omega (arith, below))
+    earlier i j d lt below = may.are_in_order (suc i) (suc j) d (omega (arith, lt)) (omega (arith, below))
 
     abbrev pub entry : (p : Pending) × Contains m.book p × EntryRelation request p
-    entry = at_left EntryRelation now.book m.book may.book request here
+    entry = at_left EntryRelation now.book m.book may.book_relation request here
 
     abbrev pub p : Pending
     p = entry.0
 
-    id_is : p.request.id ≡ request.entry.id
+    id_is : p.request.id ≡ request.request.id
     id_is = entry.2.id
 
-    its_mark : RevokedMarkAgrees m.rows request.entry
-    its_mark = may.marked request (Contains-get_or (request ∷ rest) 0 request (omega arith))
+    its_mark : RevokedMarkAgrees m.rows request.request
+    its_mark = may.revoked_marks_agree request (Contains-get_or (request ∷ rest) 0 request (omega arith))
 
-    unserved : keeps_frames_lent (disposition request.entry) request.entry ≡ false → HasNoSlot k.uses p.request.id
-    unserved never = subst (HasNoSlot k.uses) (sym id_is) (may.unserved request (Contains-get_or (request ∷ rest) 0 request (omega arith)) never)
+    unserved : keeps_frames_lent (disposition request.request) request.request ≡ false → HasNoSlot k.slot_states p.request.id
+    unserved never = subst (HasNoSlot k.slot_states) (sym id_is) (may.released_have_no_slot request (Contains-get_or (request ∷ rest) 0 request (omega arith)) never)
 
     abbrev pub left_known : DriverState
-    left_known = record k { parked = decided k.parked port.0 request.entry.id }
+    left_known = record k { awaiting_disposition = decided k.awaiting_disposition port.0 request.request.id }
 
-    forgets : ForgetsAtMost p.request.id k.parked (decided k.parked port.0 request.entry.id)
-    forgets = subst (λ (id : RequestId). ForgetsAtMost id k.parked (decided k.parked port.0 request.entry.id)) (sym id_is) (forgets_it k.parked port.0 request.entry.id)
+    forgets : ForgetsAtMost p.request.id k.awaiting_disposition (decided k.awaiting_disposition port.0 request.request.id)
+    forgets = subst (λ (id : RequestId). ForgetsAtMost id k.awaiting_disposition (decided k.awaiting_disposition port.0 request.request.id)) (sym id_is) (forgets_it k.awaiting_disposition port.0 request.request.id)
 
     -- what is parked then was before, and isn't this one
-    left_parked : (id : RequestId) → Contains (decided k.parked port.0 request.entry.id port.0) id → Contains (k.parked port.0) id × (request.entry.id ≢ id)
+    left_parked : (id : RequestId) → Contains (decided k.awaiting_disposition port.0 request.request.id port.0) id → Contains (k.awaiting_disposition port.0) id × (request.request.id ≢ id)
     left_parked id there =
-        let b = but_in request.entry.id (k.parked port.0) id (subst (λ (list : List RequestId). Contains list id) (decided_here k.parked port.0 request.entry.id) there) in
+        let b = but_in request.request.id (k.awaiting_disposition port.0) id (subst (λ (list : List RequestId). Contains list id) (decided_here k.awaiting_disposition port.0 request.request.id) there) in
         (b.0, λ same. b.1 (sym same))
 
     -- ---- with those that come after it
 
     -- this step decides it, by which these are kept
     module _ (step : Step) (its later replies : List Reply) (new : BookAndLoans) (split : replies ≡ its ++ later) (comes : IsEnabled m step) (of_port : IsResolveStep port step) (own : IsByDevice step → ⊥)
-        (parked : ℕ → List RequestId) (elsewhere : (q : ℕ) → q ≢ port.0 → parked q ≡ k.parked q)
-        (its_still : (id : RequestId) → Contains (parked port.0) id → Contains (k.parked port.0) id × (IsDecidedAndReleased disposition request → request.entry.id ≢ id))
+        (parked : ℕ → List RequestId) (elsewhere : (q : ℕ) → q ≢ port.0 → parked q ≡ k.awaiting_disposition q)
+        (its_still : (id : RequestId) → Contains (parked port.0) id → Contains (k.awaiting_disposition port.0) id × (IsResolvedAndReleased disposition request → request.request.id ≢ id))
         (gone : List Pending) (keeps : (after_step m step).kept ≡ gone ++ m.kept) (lends : mid.kept ≡ now.kept ++ loans_of gone) (alone : AllPairs DifferInRequest (loans_of gone))
-        (its_own : (e : Pending) → Contains gone e → EntryRelation request e × (keeps_frames_lent (disposition request.entry) request.entry ≡ true))
-        (told : (e : Pending) (o : Outcome) → Answer e o ≡ step → EntryRelation request e × (disposition request.entry ≡ Complete o))
-        (waits : (e : Pending) → WaitAgain e ≡ step → EntryRelation request e × (disposition request.entry ≡ Requeue))
-        (r : AreResolvedInMachine port disposition rest later mid new (record k { parked = parked }) (after_step m step)) where
+        (its_own : (e : Pending) → Contains gone e → EntryRelation request e × (keeps_frames_lent (disposition request.request) request.request ≡ true))
+        (told : (e : Pending) (o : Outcome) → Answer e o ≡ step → EntryRelation request e × (disposition request.request ≡ Complete o))
+        (waits : (e : Pending) → WaitAgain e ≡ step → EntryRelation request e × (disposition request.request ≡ Requeue))
+        (r : AreResolvedInMachine port disposition rest later mid new (record k { awaiting_disposition = parked }) (after_step m step)) where
       whole_is : after m (r.steps ++ step ∷ []) ≡ after (after_step m step) r.steps
-      whole_is = laws.basic.joined m r.steps (step ∷ [])
+      whole_is = laws.steps_and_accesses.after_joins m r.steps (step ∷ [])
 
-      answered_by : (e : Pending) (o : Outcome) → Contains (r.steps ++ step ∷ []) (Answer e o) → (y : BookEntry) × Contains (request ∷ rest) y × EntryRelation y e × (disposition y.entry ≡ Complete o)
+      answered_by : (e : Pending) (o : Outcome) → Contains (r.steps ++ step ∷ []) (Answer e o) → (y : BookEntry) × Contains (request ∷ rest) y × EntryRelation y e × (disposition y.request ≡ Complete o)
       answered_by e o there = ⊎_elim
-          (λ early. let w = r.answered e o early in (w.0, in_rest w.0 w.1, w.2, w.3))
+          (λ early. let w = r.answers_are_as_decided e o early in (w.0, in_rest w.0 w.1, w.2, w.3))
           (λ last. ⊎_elim
           (λ (is : Answer e o ≡ step). let w = told e o is in (request, Contains-get_or (request ∷ rest) 0 request (omega arith), w.0, w.1))
           (λ none. absurd (nowhere (Answer e o) none))
           (first_or_later step [] (Answer e o) last))
           (Contains-append_cases r.steps (step ∷ []) (Answer e o) there)
 
-      again_by : (e : Pending) → Contains (r.steps ++ step ∷ []) (WaitAgain e) → (y : BookEntry) × Contains (request ∷ rest) y × EntryRelation y e × (disposition y.entry ≡ Requeue)
+      again_by : (e : Pending) → Contains (r.steps ++ step ∷ []) (WaitAgain e) → (y : BookEntry) × Contains (request ∷ rest) y × EntryRelation y e × (disposition y.request ≡ Requeue)
       again_by e there = ⊎_elim
-          (λ early. let w = r.again e early in (w.0, in_rest w.0 w.1, w.2, w.3))
+          (λ early. let w = r.requeues_are_as_decided e early in (w.0, in_rest w.0 w.1, w.2, w.3))
           (λ last. ⊎_elim
           (λ (is : WaitAgain e ≡ step). let w = waits e is in (request, Contains-get_or (request ∷ rest) 0 request (omega arith), w.0, w.1))
           (λ none. absurd (nowhere (WaitAgain e) none))
           (first_or_later step [] (WaitAgain e) last))
           (Contains-append_cases r.steps (step ∷ []) (WaitAgain e) there)
 
-      kept_by : (e : Pending) → Contains (r.held ++ gone) e → (y : BookEntry) × Contains (request ∷ rest) y × EntryRelation y e × (keeps_frames_lent (disposition y.entry) y.entry ≡ true)
+      kept_by : (e : Pending) → Contains (r.newly_kept ++ gone) e → (y : BookEntry) × Contains (request ∷ rest) y × EntryRelation y e × (keeps_frames_lent (disposition y.request) y.request ≡ true)
       kept_by e there = ⊎_elim
-          (λ late. let w = r.whose e late in (w.0, in_rest w.0 w.1, w.2, w.3))
+          (λ late. let w = r.newly_kept_are_of_requests e late in (w.0, in_rest w.0 w.1, w.2, w.3))
           (λ first. let w = its_own e first in (request, Contains-get_or (request ∷ rest) 0 request (omega arith), w.0, w.1))
-          (Contains-append_cases r.held gone e there)
+          (Contains-append_cases r.newly_kept gone e there)
 
-      two : AllPairs DifferInRequest (loans_of (r.held ++ gone))
-      two = subst (AllPairs DifferInRequest) (sym (loans_append r.held gone)) (all_pairs_append DifferInRequest (loans_of gone) (loans_of r.held) alone r.two (λ a b first late same.
+      two : AllPairs DifferInRequest (loans_of (r.newly_kept ++ gone))
+      two = subst (AllPairs DifferInRequest) (sym (loans_append r.newly_kept gone)) (all_pairs_append DifferInRequest (loans_of gone) (loans_of r.newly_kept) alone r.loans_differ_in_request (λ a b first late same.
           let x = loans_in gone a first in
-          let y = loans_in r.held b late in
-          let w = r.whose y.0 y.1 in
+          let y = loans_in r.newly_kept b late in
+          let w = r.newly_kept_are_of_requests y.0 y.1 in
           differs w.0 w.1 (sym w.2.id ∙ sym (ap (λ (l : Lending). l.request) y.2) ∙ sym same ∙ ap (λ (l : Lending). l.request) x.2 ∙ (its_own x.0 x.1).0.id)))
 
-      still_by : (id : RequestId) → Contains (r.parked port.0) id → Contains (k.parked port.0) id × ((e : BookEntry) → Contains (request ∷ rest) e → IsDecidedAndReleased disposition e → e.entry.id ≢ id)
+      still_by : (id : RequestId) → Contains (r.parked port.0) id → Contains (k.awaiting_disposition port.0) id × ((e : BookEntry) → Contains (request ∷ rest) e → IsResolvedAndReleased disposition e → e.request.id ≢ id)
       still_by id there =
-          let late = r.still id there in
+          let late = r.parked_was_parked_and_not_freed id there in
           let first = its_still id late.0 in (
             first.0,
             λ e here goes. ⊎_elim
-                (λ (same : e ≡ request). subst (λ (y : BookEntry). y.entry.id ≢ id) (sym same) (first.1 (subst (IsDecidedAndReleased disposition) same goes)))
+                (λ (same : e ≡ request). subst (λ (y : BookEntry). y.request.id ≢ id) (sym same) (first.1 (subst (IsResolvedAndReleased disposition) same goes)))
                 (λ (later_on : Contains rest e). late.1 e later_on goes)
                 (first_or_later request rest e here),
           )
@@ -237,28 +237,28 @@ module _ (laws : PrerequisiteLaws) (port : Port) (disposition : PendingRequest �
       decides tells = record {
         steps = r.steps ++ step ∷ [];
         parked = r.parked;
-        steps_are_enabled = laws.basic.may m r.steps (step ∷ []) (tt, comes) r.steps_are_enabled;
-        own = All-append (IsResolveStep port) r.steps (step ∷ []) r.own (All-cons (IsResolveStep port) step [] of_port (All-nil (IsResolveStep port)));
+        steps_are_enabled = laws.steps_and_accesses.enabled_lists_join m r.steps (step ∷ []) (tt, comes) r.steps_are_enabled;
+        steps_are_of_port = All-append (IsResolveStep port) r.steps (step ∷ []) r.steps_are_of_port (All-cons (IsResolveStep port) step [] of_port (All-nil (IsResolveStep port)));
         backed = λ d. laws.backed_parts d d d m (step ∷ []) r.steps (laws.backed_own d m step own) (r.backed d);
-        driver_relation = subst (λ (n : Machine). DriverRelation n (record k { parked = r.parked })) (sym whole_is) r.driver_relation;
-        others = λ q ne. r.others q ne ∙ elsewhere q ne;
-        still = still_by;
+        driver_relation = subst (λ (n : Machine). DriverRelation n (record k { awaiting_disposition = r.parked })) (sym whole_is) r.driver_relation;
+        parked_of_others_is_kept = λ q ne. r.parked_of_others_is_kept q ne ∙ elsewhere q ne;
+        parked_was_parked_and_not_freed = still_by;
         book = subst (λ (n : Machine). BookRelation new.book n.book) (sym whole_is) r.book;
-        lent = λ frame. ap (λ (n : Machine). n.lent frame) whole_is ∙ r.lent frame;
-        held = r.held ++ gone;
-        kept = ap (λ (n : Machine). n.kept) whole_is ∙ r.kept ∙ ap (λ (kept : List Pending). r.held ++ kept) keeps ∙ sym (append_assoc r.held gone m.kept);
-        loans = r.loans ∙ ap (λ (loans : List Lending). loans ++ loans_of r.held) lends ∙ append_assoc now.kept (loans_of gone) (loans_of r.held) ∙ ap (λ (loans : List Lending). now.kept ++ loans) (sym (loans_append r.held gone));
-        two = two;
-        whose = kept_by;
-        answered = answered_by;
-        again = again_by;
+        loans_agree = λ frame. ap (λ (n : Machine). n.lent frame) whole_is ∙ r.loans_agree frame;
+        newly_kept = r.newly_kept ++ gone;
+        newly_kept_are_kept = ap (λ (n : Machine). n.kept) whole_is ∙ r.newly_kept_are_kept ∙ ap (λ (kept : List Pending). r.newly_kept ++ kept) keeps ∙ sym (append_assoc r.newly_kept gone m.kept);
+        loans_of_newly_kept = r.loans_of_newly_kept ∙ ap (λ (loans : List Lending). loans ++ loans_of r.newly_kept) lends ∙ append_assoc now.kept (loans_of gone) (loans_of r.newly_kept) ∙ ap (λ (loans : List Lending). now.kept ++ loans) (sym (loans_append r.newly_kept gone));
+        loans_differ_in_request = two;
+        newly_kept_are_of_requests = kept_by;
+        answers_are_as_decided = answered_by;
+        requeues_are_as_decided = again_by;
         replies_match = tells;
       }
 
   -- ---- one that ends
 
   module _ (request : BookEntry) (rest : List BookEntry) (now mid new : BookAndLoans) (its later replies : List Reply) (k : DriverState) (m : Machine) (may : AreResolvable port disposition (request ∷ rest) now k m) (split : replies ≡ its ++ later)
-      (more : (k : DriverState) (m : Machine) → AreResolvable port disposition rest mid k m → AreResolvedInMachine port disposition rest later mid new k m) (fit : FitsEntry (disposition request.entry) request.entry) (o : Outcome) (is : disposition request.entry ≡ Complete o) (meets : IsResolved request (Complete o) its now mid) where
+      (more : (k : DriverState) (m : Machine) → AreResolvable port disposition rest mid k m → AreResolvedInMachine port disposition rest later mid new k m) (fit : FitsEntry (disposition request.request) request.request) (o : Outcome) (is : disposition request.request ≡ Complete o) (meets : IsResolved request (Complete o) its now mid) where
     abbrev x : Pending
     x = p request rest now mid k m may
 
@@ -274,46 +274,46 @@ module _ (laws : PrerequisiteLaws) (port : Port) (disposition : PendingRequest �
     of_port : x.request.port ≡ port
     of_port = its_entry.port ∙ its_port request rest now mid k m may
 
-    fate_is : keeps_frames_lent (disposition request.entry) request.entry ≡ keeps_loan o request.entry
-    fate_is = ap (λ (f : Disposition). keeps_frames_lent f request.entry) is
+    fate_is : keeps_frames_lent (disposition request.request) request.request ≡ keeps_loan o request.request
+    fate_is = ap (λ (f : Disposition). keeps_frames_lent f request.request) is
 
-    stay : is_kept_at_answer x o ≡ keeps_loan o request.entry
-    stay = stays_is o request.entry x its_entry.issued
+    stay : is_kept_at_answer x o ≡ keeps_loan o request.request
+    stay = stays_is o request.request x its_entry.issued
 
     reply_is : reply_to request o ≡ reply_of (x, o)
     reply_is = λ i. record { id = sym its_entry.id i; client = sym its_entry.client i; outcome = o }
 
     reached : IsReachable (after_step m (Answer x o))
-    reached = laws.basic.reached m (Answer x o ∷ []) may.reached (tt, comes)
+    reached = laws.steps_and_accesses.reachable_stays_reachable m (Answer x o ∷ []) may.reached (tt, comes)
 
     book : BookRelation mid.book (after_step m (Answer x o)).book
     book = subst (λ (book : List BookEntry). BookRelation book (after_step m (Answer x o)).book) (sym meets.1)
-        (subst (λ (id : RequestId). BookRelation (without_entry id now.book) (after_step m (Answer x o)).book) (id_is request rest now mid k m may) (laws.answers now.book m x o may.book))
+        (subst (λ (id : RequestId). BookRelation (without_entry id now.book) (after_step m (Answer x o)).book) (id_is request rest now mid k m may) (laws.answer_keeps_book_relation now.book m x o may.book_relation))
 
-    ordered : BookIsInOrder mid.book
-    ordered = subst BookIsInOrder (sym meets.1) (laws.fewer now.book request.entry.id may.book_is_in_order)
+    ordered : BookIsWellFormed mid.book
+    ordered = subst BookIsWellFormed (sym meets.1) (laws.removing_keeps_book_well_formed now.book request.request.id may.book_is_well_formed)
 
-    still : (e : BookEntry) → Contains rest e → Contains mid.book e × (e.entry.port ≡ port)
+    still : (e : BookEntry) → Contains rest e → Contains mid.book e × (e.request.port ≡ port)
     still e there =
-        let w = may.here e (in_rest request rest now mid k m may e there) in
-        (subst (λ (book : List BookEntry). Contains book e) (sym meets.1) ((laws.left now.book request.entry.id e).1 (w.0, differs request rest now mid k m may e there)), w.1)
+        let w = may.are_in_book_of_port e (in_rest request rest now mid k m may e there) in
+        (subst (λ (book : List BookEntry). Contains book e) (sym meets.1) ((laws.removal_keeps_other_entries now.book request.request.id e).1 (w.0, differs request rest now mid k m may e there)), w.1)
 
     -- what comes of it, once the rest met their fates
-    module _ (parked : ℕ → List RequestId) (elsewhere : (q : ℕ) → q ≢ port.0 → parked q ≡ k.parked q)
-        (its_still : (id : RequestId) → Contains (parked port.0) id → Contains (k.parked port.0) id × (IsDecidedAndReleased disposition request → request.entry.id ≢ id)) (gone : List Pending) (keeps : (after_step m (Answer x o)).kept ≡ gone ++ m.kept)
-        (lends : mid.kept ≡ now.kept ++ loans_of gone) (alone : AllPairs DifferInRequest (loans_of gone)) (its_own : (e : Pending) → Contains gone e → EntryRelation request e × (keeps_frames_lent (disposition request.entry) request.entry ≡ true))
-        (goes : AreResolvable port disposition rest mid (record k { parked = parked }) (after_step m (Answer x o))) where
-      r : AreResolvedInMachine port disposition rest later mid new (record k { parked = parked }) (after_step m (Answer x o))
-      r = more (record k { parked = parked }) (after_step m (Answer x o)) goes
+    module _ (parked : ℕ → List RequestId) (elsewhere : (q : ℕ) → q ≢ port.0 → parked q ≡ k.awaiting_disposition q)
+        (its_still : (id : RequestId) → Contains (parked port.0) id → Contains (k.awaiting_disposition port.0) id × (IsResolvedAndReleased disposition request → request.request.id ≢ id)) (gone : List Pending) (keeps : (after_step m (Answer x o)).kept ≡ gone ++ m.kept)
+        (lends : mid.kept ≡ now.kept ++ loans_of gone) (alone : AllPairs DifferInRequest (loans_of gone)) (its_own : (e : Pending) → Contains gone e → EntryRelation request e × (keeps_frames_lent (disposition request.request) request.request ≡ true))
+        (goes : AreResolvable port disposition rest mid (record k { awaiting_disposition = parked }) (after_step m (Answer x o))) where
+      r : AreResolvedInMachine port disposition rest later mid new (record k { awaiting_disposition = parked }) (after_step m (Answer x o))
+      r = more (record k { awaiting_disposition = parked }) (after_step m (Answer x o)) goes
 
       -- it is told first
       first : All (IsToldBefore (x, o)) r.replies_match.answers
       first = All-weaker (Contains r.replies_match.answers) (IsToldBefore (x, o)) (λ a there.
-          let w = r.answered a.0 a.1 (answers_there r.steps a (Contains-permutation r.replies_match.answers (answers_of r.steps) a r.replies_match.is_permutation there)) in
+          let w = r.answers_are_as_decided a.0 a.1 (answers_there r.steps a (Contains-permutation r.replies_match.answers (answers_of r.steps) a r.replies_match.is_permutation there)) in
           let lt = later_id request rest now mid k m may w.0 w.1 in
           let mine = ap (λ (i : RequestId). i.0) its_entry.id in
           let other = ap (λ (i : RequestId). i.0) w.2.id in
-          inr (of_port ∙ sym (w.2.port ∙ (may.here w.0 (in_rest request rest now mid k m may w.0 w.1)).1), omega (arith, lt, mine, other))) r.replies_match.answers (All-contains_itself r.replies_match.answers)
+          inr (of_port ∙ sym (w.2.port ∙ (may.are_in_book_of_port w.0 (in_rest request rest now mid k m may w.0 w.1)).1), omega (arith, lt, mine, other))) r.replies_match.answers (All-contains_itself r.replies_match.answers)
 
       answers : AreResolvedInMachine port disposition (request ∷ rest) replies now new k m
       answers =
@@ -329,87 +329,87 @@ module _ (laws : PrerequisiteLaws) (port : Port) (disposition : PendingRequest �
             is_permutation = subst (IsPermutation ((x, o) ∷ r.replies_match.answers)) (sym (answers_append r.steps (Answer x o ∷ [])))
                 (IsPermutation-trans _ _ _ (IsPermutation-append_comm ((x, o) ∷ []) r.replies_match.answers) (IsPermutation-append _ _ _ _ r.replies_match.is_permutation (IsPermutation-refl ((x, o) ∷ []))));
             ordered = AllPairs-cons IsToldBefore (x, o) r.replies_match.answers first r.replies_match.ordered;
-            replies_are = split ∙ ap (λ (y : List Reply). y ++ later) meets.0 ∙ (λ i. reply_is i ∷ r.replies_match.replies_are i);
+            replies_are_of_answers = split ∙ ap (λ (y : List Reply). y ++ later) meets.0 ∙ (λ i. reply_is i ∷ r.replies_match.replies_are_of_answers i);
           })
 
-    by : (b : Bool) → keeps_loan o request.entry ≡ b → AreResolvedInMachine port disposition (request ∷ rest) replies now new k m
+    by : (b : Bool) → keeps_loan o request.request ≡ b → AreResolvedInMachine port disposition (request ∷ rest) replies now new k m
     by false never =
-        answers (decided k.parked port.0 request.entry.id) (decided_elsewhere k.parked port.0 request.entry.id)
+        answers (decided k.awaiting_disposition port.0 request.request.id) (decided_elsewhere k.awaiting_disposition port.0 request.request.id)
         (λ id there. let w = left_parked request rest now mid k m may id there in (w.0, λ goes. w.1)) []
         (ap (λ (b : Bool). if b then x ∷ m.kept else m.kept) (stay ∙ never)) (loan.0 ∙ sym (append-nil now.kept)) (λ i j d lt below. absurd (omega (arith, lt, below))) (λ e there. absurd (nowhere e there))
         (record {
           reached = reached;
-          driver_relation = laws.slots.answered_agrees k m x o (decided k.parked port.0 request.entry.id) may.reached may.driver_relation comes.0 (stay ∙ never) (unserved request rest now mid k m may (fate_is ∙ never)) (forgets request rest now mid k m may);
-          book = book;
-          lent = λ frame. ap (λ (b : Bool). (if b then m.lent else unlend x.request.id m.lent) frame) (stay ∙ never)
-              ∙ given_back laws m request x now.table mid.table may.reached (inl comes.0) its_entry may.lent (All-contains (IsAccepted now.table) now.book request may.requests_are_accepted (here request rest now mid k m may)).frames_are_lent loan.1 frame;
-          book_is_in_order = ordered;
-          requests_are_accepted = subst (All (IsAccepted mid.table)) (sym meets.1) (laws.still_answered now.table mid.table now.book request (here request rest now mid k m may) loan.1 may.requests_are_accepted);
-          here = still;
-          marked = λ e there. may.marked e (in_rest request rest now mid k m may e there);
-          earlier = earlier request rest now mid k m may;
-          unserved = λ e there none. may.unserved e (in_rest request rest now mid k m may e there) none;
+          driver_relation = laws.slots.answered_agrees k m x o (decided k.awaiting_disposition port.0 request.request.id) may.reached may.driver_relation comes.0 (stay ∙ never) (unserved request rest now mid k m may (fate_is ∙ never)) (forgets request rest now mid k m may);
+          book_relation = book;
+          loans_agree = λ frame. ap (λ (b : Bool). (if b then m.lent else unlend x.request.id m.lent) frame) (stay ∙ never)
+              ∙ given_back laws m request x now.table mid.table may.reached (inl comes.0) its_entry may.loans_agree (All-contains (IsWellFormedEntry now.table) now.book request may.entries_are_well_formed (here request rest now mid k m may)).frames_are_lent loan.1 frame;
+          book_is_well_formed = ordered;
+          entries_are_well_formed = subst (All (IsWellFormedEntry mid.table)) (sym meets.1) (laws.answering_keeps_well_formed now.table mid.table now.book request (here request rest now mid k m may) loan.1 may.entries_are_well_formed);
+          are_in_book_of_port = still;
+          revoked_marks_agree = λ e there. may.revoked_marks_agree e (in_rest request rest now mid k m may e there);
+          are_in_order = earlier request rest now mid k m may;
+          released_have_no_slot = λ e there none. may.released_have_no_slot e (in_rest request rest now mid k m may e there) none;
         })
       where
         loan : KeepsOrEndsLoan false request now mid
         loan = subst (λ (b : Bool). KeepsOrEndsLoan b request now mid) never meets.2
     by true keeps =
-        answers k.parked (λ q ne. refl) (λ id there. (there, λ goes. absurd (false≢true (sym goes.1 ∙ fate_is ∙ keeps)))) (x ∷ [])
+        answers k.awaiting_disposition (λ q ne. refl) (λ id there. (there, λ goes. absurd (false≢true (sym goes.1 ∙ fate_is ∙ keeps)))) (x ∷ [])
         (ap (λ (b : Bool). if b then x ∷ m.kept else m.kept) (stay ∙ keeps)) (loan.0 ∙ ap (λ (l : Lending). now.kept ++ l ∷ []) loan_is) (λ i j d lt below. absurd (omega (arith, lt, below)))
         (λ e there. ⊎_elim (λ (same : e ≡ x). (subst (EntryRelation request) (sym same) its_entry, fate_is ∙ keeps)) (λ none. absurd (nowhere e none)) (first_or_later x [] e there))
         (record {
           reached = reached;
           driver_relation = laws.slots.kept_agrees k m x o may.reached may.driver_relation comes.0 (stay ∙ keeps);
-          book = book;
-          lent = λ frame. ap (λ (b : Bool). (if b then m.lent else unlend x.request.id m.lent) frame) (stay ∙ keeps) ∙ may.lent frame ∙ ap (λ (t : FrameOwnership). lent_to t frame) (sym loan.1);
-          book_is_in_order = ordered;
-          requests_are_accepted = subst (All (IsAccepted mid.table)) (sym meets.1) (subst (λ (t : FrameOwnership). All (IsAccepted t) (without_entry request.entry.id now.book)) (sym loan.1)
-              (All-weaker (Contains (without_entry request.entry.id now.book)) (IsAccepted now.table) (λ e there. All-contains (IsAccepted now.table) now.book e may.requests_are_accepted ((laws.left now.book request.entry.id e).0 there).0)
-              (without_entry request.entry.id now.book) (All-contains_itself (without_entry request.entry.id now.book))));
-          here = still;
-          marked = λ e there. may.marked e (in_rest request rest now mid k m may e there);
-          earlier = earlier request rest now mid k m may;
-          unserved = λ e there none. may.unserved e (in_rest request rest now mid k m may e there) none;
+          book_relation = book;
+          loans_agree = λ frame. ap (λ (b : Bool). (if b then m.lent else unlend x.request.id m.lent) frame) (stay ∙ keeps) ∙ may.loans_agree frame ∙ ap (λ (t : OwnersAndLoans). lent_to t frame) (sym loan.1);
+          book_is_well_formed = ordered;
+          entries_are_well_formed = subst (All (IsWellFormedEntry mid.table)) (sym meets.1) (subst (λ (t : OwnersAndLoans). All (IsWellFormedEntry t) (without_entry request.request.id now.book)) (sym loan.1)
+              (All-weaker (Contains (without_entry request.request.id now.book)) (IsWellFormedEntry now.table) (λ e there. All-contains (IsWellFormedEntry now.table) now.book e may.entries_are_well_formed ((laws.removal_keeps_other_entries now.book request.request.id e).0 there).0)
+              (without_entry request.request.id now.book) (All-contains_itself (without_entry request.request.id now.book))));
+          are_in_book_of_port = still;
+          revoked_marks_agree = λ e there. may.revoked_marks_agree e (in_rest request rest now mid k m may e there);
+          are_in_order = earlier request rest now mid k m may;
+          released_have_no_slot = λ e there none. may.released_have_no_slot e (in_rest request rest now mid k m may e there) none;
         })
       where
         loan : KeepsOrEndsLoan true request now mid
         loan = subst (λ (b : Bool). KeepsOrEndsLoan b request now mid) keeps meets.2
 
-        loan_is : record { frames = request.frames; request = request.entry.id } ≡ loan_of x
+        loan_is : record { frames = request.frames; request = request.request.id } ≡ loan_of x
         loan_is = λ i. record { frames = sym its_entry.frames i; request = sym its_entry.id i }
 
     pub meet_end : AreResolvedInMachine port disposition (request ∷ rest) replies now new k m
-    meet_end = by (keeps_loan o request.entry) refl
+    meet_end = by (keeps_loan o request.request) refl
 
   -- ---- each fate
 
   meet_one : (request : BookEntry) (rest : List BookEntry) (now mid new : BookAndLoans) (its later replies : List Reply) (k : DriverState) (m : Machine) → AreResolvable port disposition (request ∷ rest) now k m → replies ≡ its ++ later
-      → ((k : DriverState) (m : Machine) → AreResolvable port disposition rest mid k m → AreResolvedInMachine port disposition rest later mid new k m) → FitsEntry (disposition request.entry) request.entry → (f : Disposition) → disposition request.entry ≡ f → IsResolved request f its now mid
+      → ((k : DriverState) (m : Machine) → AreResolvable port disposition rest mid k m → AreResolvedInMachine port disposition rest later mid new k m) → FitsEntry (disposition request.request) request.request → (f : Disposition) → disposition request.request ≡ f → IsResolved request f its now mid
       → AreResolvedInMachine port disposition (request ∷ rest) replies now new k m
   meet_one request rest now mid new its later replies k m may split more fit Wait is meets = record {
     steps = r.steps;
     parked = r.parked;
     steps_are_enabled = r.steps_are_enabled;
-    own = r.own;
+    steps_are_of_port = r.steps_are_of_port;
     backed = r.backed;
     driver_relation = r.driver_relation;
-    others = r.others;
-    still = λ id there. let w = r.still id there in (
+    parked_of_others_is_kept = r.parked_of_others_is_kept;
+    parked_was_parked_and_not_freed = λ id there. let w = r.parked_was_parked_and_not_freed id there in (
       w.0,
       λ e here goes. ⊎_elim
-          (λ (same : e ≡ request). absurd (goes.0 (ap (λ (y : BookEntry). disposition y.entry) same ∙ is)))
+          (λ (same : e ≡ request). absurd (goes.0 (ap (λ (y : BookEntry). disposition y.request) same ∙ is)))
           (λ (later_on : Contains rest e). w.1 e later_on goes)
           (first_or_later request rest e here),
     );
     book = r.book;
-    lent = r.lent;
-    held = r.held;
-    kept = r.kept;
-    loans = r.loans ∙ ap (λ (h : BookAndLoans). h.kept ++ loans_of r.held) meets.1;
-    two = r.two;
-    whose = λ e here. let w = r.whose e here in (w.0, in_rest request rest now mid k m may w.0 w.1, w.2, w.3);
-    answered = λ e o here. let w = r.answered e o here in (w.0, in_rest request rest now mid k m may w.0 w.1, w.2, w.3);
-    again = λ e here. let w = r.again e here in (w.0, in_rest request rest now mid k m may w.0 w.1, w.2, w.3);
+    loans_agree = r.loans_agree;
+    newly_kept = r.newly_kept;
+    newly_kept_are_kept = r.newly_kept_are_kept;
+    loans_of_newly_kept = r.loans_of_newly_kept ∙ ap (λ (h : BookAndLoans). h.kept ++ loans_of r.newly_kept) meets.1;
+    loans_differ_in_request = r.loans_differ_in_request;
+    newly_kept_are_of_requests = λ e here. let w = r.newly_kept_are_of_requests e here in (w.0, in_rest request rest now mid k m may w.0 w.1, w.2, w.3);
+    answers_are_as_decided = λ e o here. let w = r.answers_are_as_decided e o here in (w.0, in_rest request rest now mid k m may w.0 w.1, w.2, w.3);
+    requeues_are_as_decided = λ e here. let w = r.requeues_are_as_decided e here in (w.0, in_rest request rest now mid k m may w.0 w.1, w.2, w.3);
     replies_match = subst (RepliesMatch r.steps) (sym (split ∙ ap (λ (x : List Reply). x ++ later) meets.0)) r.replies_match;
   }
     where
@@ -417,21 +417,21 @@ module _ (laws : PrerequisiteLaws) (port : Port) (disposition : PendingRequest �
       goes = record {
         reached = may.reached;
         driver_relation = may.driver_relation;
-        book = may.book;
-        lent = may.lent;
-        book_is_in_order = may.book_is_in_order;
-        requests_are_accepted = may.requests_are_accepted;
-        here = λ e there. may.here e (in_rest request rest now mid k m may e there);
-        marked = λ e there. may.marked e (in_rest request rest now mid k m may e there);
-        earlier = earlier request rest now mid k m may;
-        unserved = λ e there never. may.unserved e (in_rest request rest now mid k m may e there) never;
+        book_relation = may.book_relation;
+        loans_agree = may.loans_agree;
+        book_is_well_formed = may.book_is_well_formed;
+        entries_are_well_formed = may.entries_are_well_formed;
+        are_in_book_of_port = λ e there. may.are_in_book_of_port e (in_rest request rest now mid k m may e there);
+        revoked_marks_agree = λ e there. may.revoked_marks_agree e (in_rest request rest now mid k m may e there);
+        are_in_order = earlier request rest now mid k m may;
+        released_have_no_slot = λ e there never. may.released_have_no_slot e (in_rest request rest now mid k m may e there) never;
       }
 
       r : AreResolvedInMachine port disposition rest later mid new k m
       r = more k m (subst (λ (h : BookAndLoans). AreResolvable port disposition rest h k m) (sym meets.1) goes)
   meet_one request rest now mid new its later replies k m may split more fit Requeue is meets =
-      decides request rest now mid k m may (WaitAgain x) its later replies new split comes of_port (λ none. none) (decided k.parked port.0 request.entry.id)
-      (decided_elsewhere k.parked port.0 request.entry.id)
+      decides request rest now mid k m may (WaitAgain x) its later replies new split comes of_port (λ none. none) (decided k.awaiting_disposition port.0 request.request.id)
+      (decided_elsewhere k.awaiting_disposition port.0 request.request.id)
       (λ id there. let w = left_parked request rest now mid k m may id there in (w.0, λ goes. w.1)) [] refl
       (ap (λ (h : BookAndLoans). h.kept) meets.1 ∙ sym (append-nil now.kept)) (λ i j d lt below. absurd (omega (arith, lt, below))) (λ e there. absurd (nowhere e there))
       (λ e o same. let z : Answer e o ≡ WaitAgain x = same in absurd cc)
@@ -441,19 +441,19 @@ module _ (laws : PrerequisiteLaws) (port : Port) (disposition : PendingRequest �
         answers = r.replies_match.answers;
         is_permutation = subst (IsPermutation r.replies_match.answers) (sym (answers_append r.steps (WaitAgain x ∷ []) ∙ append-nil (answers_of r.steps))) r.replies_match.is_permutation;
         ordered = r.replies_match.ordered;
-        replies_are = split ∙ ap (λ (y : List Reply). y ++ later) meets.0 ∙ r.replies_match.replies_are;
+        replies_are_of_answers = split ∙ ap (λ (y : List Reply). y ++ later) meets.0 ∙ r.replies_match.replies_are_of_answers;
       })
     where
       x : Pending
       x = p request rest now mid k m may
 
-      its_issue : (request.entry.issued ≡ true) × ((request.entry.issues == 4) ≡ false) × (request.entry.revoked ≡ false)
+      its_issue : (request.request.issued ≡ true) × ((request.request.issue_count == 4) ≡ false) × (request.request.revoked ≡ false)
       its_issue = fit.again is
 
-      few : request.entry.issues < 4
+      few : request.request.issue_count < 4
       few =
-          let most = (All-contains (λ (e : BookEntry). HasFewIssues e.entry) now.book request may.book_is_in_order.issues_are_few (here request rest now mid k m may)).0 in
-          let other = eqb-false request.entry.issues 4 its_issue.1 in omega (arith, most, other)
+          let most = (All-contains (λ (e : BookEntry). IssuesAreWithinLimit e.request) now.book request may.book_is_well_formed.issues_are_within_limit (here request rest now mid k m may)).0 in
+          let other = eqb-false request.request.issue_count 4 its_issue.1 in omega (arith, most, other)
 
       comes : IsEnabled m (WaitAgain x)
       comes =
@@ -463,20 +463,20 @@ module _ (laws : PrerequisiteLaws) (port : Port) (disposition : PendingRequest �
       of_port : x.request.port ≡ port
       of_port = (entry request rest now mid k m may).2.port ∙ its_port request rest now mid k m may
 
-      goes : AreResolvable port disposition rest (record now { book = map (update_if_id request.entry.id requeued_entry) now.book }) (left_known request rest now mid k m may) (after_step m (WaitAgain x))
+      goes : AreResolvable port disposition rest (record now { book = map (update_if_id request.request.id requeued_request) now.book }) (left_known request rest now mid k m may) (after_step m (WaitAgain x))
       goes = record {
-        reached = laws.basic.reached m (WaitAgain x ∷ []) may.reached (tt, comes);
-        driver_relation = laws.slots.again_agrees k m x (decided k.parked port.0 request.entry.id) may.reached may.driver_relation comes.0 (unserved request rest now mid k m may (ap (λ (f : Disposition). keeps_frames_lent f request.entry) is)) (forgets request rest now mid k m may);
-        book = subst (λ (id : RequestId). BookRelation (map (update_if_id id requeued_entry) now.book) (after_step m (WaitAgain x)).book) (id_is request rest now mid k m may) (laws.again now.book m x may.book);
-        lent = may.lent;
-        book_is_in_order = laws.requeued now.book request.entry.id may.book_is_in_order (request, here request rest now mid k m may, refl, its_issue.0, few);
-        requests_are_accepted = laws.still_requeued now.table now.book request.entry.id may.requests_are_accepted;
-        here = λ e there.
-            let w = may.here e (in_rest request rest now mid k m may e there) in
-            (laws.others now.book request.entry.id requeued_entry e w.0 (differs request rest now mid k m may e there), w.1);
-        marked = λ e there. may.marked e (in_rest request rest now mid k m may e there);
-        earlier = earlier request rest now mid k m may;
-        unserved = λ e there never. may.unserved e (in_rest request rest now mid k m may e there) never;
+        reached = laws.steps_and_accesses.reachable_stays_reachable m (WaitAgain x ∷ []) may.reached (tt, comes);
+        driver_relation = laws.slots.again_agrees k m x (decided k.awaiting_disposition port.0 request.request.id) may.reached may.driver_relation comes.0 (unserved request rest now mid k m may (ap (λ (f : Disposition). keeps_frames_lent f request.request) is)) (forgets request rest now mid k m may);
+        book_relation = subst (λ (id : RequestId). BookRelation (map (update_if_id id requeued_request) now.book) (after_step m (WaitAgain x)).book) (id_is request rest now mid k m may) (laws.requeue_keeps_book_relation now.book m x may.book_relation);
+        loans_agree = may.loans_agree;
+        book_is_well_formed = laws.requeueing_keeps_book_well_formed now.book request.request.id may.book_is_well_formed (request, here request rest now mid k m may, refl, its_issue.0, few);
+        entries_are_well_formed = laws.requeue_keeps_entries_well_formed now.table now.book request.request.id may.entries_are_well_formed;
+        are_in_book_of_port = λ e there.
+            let w = may.are_in_book_of_port e (in_rest request rest now mid k m may e there) in
+            (laws.update_keeps_other_entries now.book request.request.id requeued_request e w.0 (differs request rest now mid k m may e there), w.1);
+        revoked_marks_agree = λ e there. may.revoked_marks_agree e (in_rest request rest now mid k m may e there);
+        are_in_order = earlier request rest now mid k m may;
+        released_have_no_slot = λ e there never. may.released_have_no_slot e (in_rest request rest now mid k m may e there) never;
       }
 
       r : AreResolvedInMachine port disposition rest later mid new (left_known request rest now mid k m may) (after_step m (WaitAgain x))
@@ -487,34 +487,34 @@ pub meet : PrerequisiteLaws → (port : Port) (disposition : PendingRequest → 
     → AreResolvable port disposition requests old k m → AreResolved disposition requests replies old new → AreResolvedInMachine port disposition requests replies old new k m
 meet laws port disposition [] fit replies old new k m may (none, is) = record {
   steps = [];
-  parked = k.parked;
+  parked = k.awaiting_disposition;
   steps_are_enabled = tt;
-  own = All-nil (IsResolveStep port);
+  steps_are_of_port = All-nil (IsResolveStep port);
   backed = λ d. laws.backed_none d m;
   driver_relation = may.driver_relation;
-  others = λ q ne. refl;
-  still = λ id here. (here, λ e none goes same. nowhere e none);
-  book = subst (λ (h : BookAndLoans). BookRelation h.book m.book) (sym is) may.book;
-  lent = λ frame. may.lent frame ∙ ap (λ (h : BookAndLoans). lent_to h.table frame) (sym is);
-  held = [];
-  kept = refl;
-  loans = ap (λ (h : BookAndLoans). h.kept) is ∙ sym (append-nil old.kept);
-  two = λ i j d lt below. absurd (omega (arith, lt, below));
-  whose = λ e here. absurd (nowhere e here);
-  answered = λ e o here. absurd (nowhere (Answer e o) here);
-  again = λ e here. absurd (nowhere (WaitAgain e) here);
-  replies_match = record { answers = []; is_permutation = IsPermutation-refl []; ordered = λ i j d lt below. absurd (omega (arith, lt, below)); replies_are = none };
+  parked_of_others_is_kept = λ q ne. refl;
+  parked_was_parked_and_not_freed = λ id here. (here, λ e none goes same. nowhere e none);
+  book = subst (λ (h : BookAndLoans). BookRelation h.book m.book) (sym is) may.book_relation;
+  loans_agree = λ frame. may.loans_agree frame ∙ ap (λ (h : BookAndLoans). lent_to h.table frame) (sym is);
+  newly_kept = [];
+  newly_kept_are_kept = refl;
+  loans_of_newly_kept = ap (λ (h : BookAndLoans). h.kept) is ∙ sym (append-nil old.kept);
+  loans_differ_in_request = λ i j d lt below. absurd (omega (arith, lt, below));
+  newly_kept_are_of_requests = λ e here. absurd (nowhere e here);
+  answers_are_as_decided = λ e o here. absurd (nowhere (Answer e o) here);
+  requeues_are_as_decided = λ e here. absurd (nowhere (WaitAgain e) here);
+  replies_match = record { answers = []; is_permutation = IsPermutation-refl []; ordered = λ i j d lt below. absurd (omega (arith, lt, below)); replies_are_of_answers = none };
 }
 meet laws port disposition (request ∷ rest) fit replies old new k m may (mid, its, later, split, meets, more) =
     meet_one laws port disposition request rest old mid new its later replies k m may split
     (λ n machine next. meet laws port disposition rest (λ e there. fit e (contains_there request rest e there)) later mid new n machine next more)
-    (fit request (first_here request rest)) (disposition request.entry) refl meets
+    (fit request (first_here request rest)) (disposition request.request) refl meets
 
 -- Where no loan is kept, and who was parked of the port are issued ones among these, none of the port is.
 pub none_parked : (port : Port) (disposition : PendingRequest → Disposition) (requests : List BookEntry) → AllFit disposition requests → (replies : List Reply) (old new : BookAndLoans) (k : DriverState) (m : Machine)
     (r : AreResolvedInMachine port disposition requests replies old new k m) → ((e : PendingRequest) → keeps_frames_lent (disposition e) e ≡ false)
-    → ((id : RequestId) → Contains (k.parked port.0) id → (e : BookEntry) × Contains requests e × (e.entry.id ≡ id) × (e.entry.issued ≡ true)) → r.parked port.0 ≡ []
+    → ((id : RequestId) → Contains (k.awaiting_disposition port.0) id → (e : BookEntry) × Contains requests e × (e.request.id ≡ id) × (e.request.issued ≡ true)) → r.parked port.0 ≡ []
 none_parked port disposition requests fit replies old new k m r quiet its = nobody (r.parked port.0) (λ id here.
-    let s = r.still id here in
+    let s = r.parked_was_parked_and_not_freed id here in
     let w = its id s.0 in
-    s.1 w.0 w.1 (λ waits. false≢true (sym ((fit w.0 w.1).waits waits) ∙ w.3), quiet w.0.entry) w.2)
+    s.1 w.0 w.1 (λ waits. false≢true (sym ((fit w.0 w.1).waits waits) ∙ w.3), quiet w.0.request) w.2)

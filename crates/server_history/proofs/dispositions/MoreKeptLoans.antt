@@ -22,33 +22,33 @@ pub more_kept : (port : Port) (found then_found : List ProbeResult) (kept then_k
     → AllPairs DifferInRequest (loans_of held) → ((a b : Lending) → Contains (quarantined_at kept port.0) a → Contains (loans_of held) b → DifferInRequest a b)
     → QuarantineRelation then_found then_kept (held ++ was)
 more_kept port found then_found kept then_kept held was are same other still dies two crossed = record {
-  dead = λ e here. ⊎_elim
+  quarantine_ports_are_dead = λ e here. ⊎_elim
       (λ new. let d = dies e new in ap (λ (q : Port). probe_result_of then_found q.0) d.0 ∙ d.1)
       (λ old. still e old)
       (Contains-append_cases held was e here);
-  loan = λ e here. ⊎_elim
+  each_request_has_its_loan = λ e here. ⊎_elim
       (λ new. (
         loan_of e,
         subst (λ (loans : List Lending). Contains loans (loan_of e)) (sym (ap (λ (q : Port). quarantined_at then_kept q.0) (dies e new).0 ∙ same))
             (Contains-append_right (quarantined_at kept port.0) (loans_of held) (loan_of e) (in_loans held e new)),
         (refl, refl),
       ))
-      (λ old. let l = are.loan e old in (l.0, grows e.request.port.0 l.0 l.1, l.2))
+      (λ old. let l = are.each_request_has_its_loan e old in (l.0, grows e.request.port.0 l.0 l.1, l.2))
       (Contains-append_cases held was e here);
-  whose = λ q loan here. ⊎_elim
+  each_loan_has_its_request = λ q loan here. ⊎_elim
       (λ (is : q ≡ port.0). ⊎_elim
-      (λ old. let x = are.whose q loan (subst (λ (n : ℕ). Contains (quarantined_at kept n) loan) (sym is) old) in (x.0, Contains-append_right held was x.0 x.1, x.2, x.3))
+      (λ old. let x = are.each_loan_has_its_request q loan (subst (λ (n : ℕ). Contains (quarantined_at kept n) loan) (sym is) old) in (x.0, Contains-append_right held was x.0 x.1, x.2, x.3))
       (λ new.
       let x = loans_in held loan new in
       (x.0, Contains-append_left held was x.0 x.1, ap (λ (p : Port). p.0) (dies x.0 x.1).0 ∙ sym is, (ap (λ (l : Lending). l.request) x.2, ap (λ (l : Lending). l.frames) x.2)))
       (Contains-append_cases (quarantined_at kept port.0) (loans_of held) loan (subst (λ (loans : List Lending). Contains loans loan) (ap (quarantined_at then_kept) is ∙ same) here)))
       (λ (ne : q ≢ port.0).
-      let x = are.whose q loan (subst (λ (loans : List Lending). Contains loans loan) (other q ne) here) in
+      let x = are.each_loan_has_its_request q loan (subst (λ (loans : List Lending). Contains loans loan) (other q ne) here) in
       (x.0, Contains-append_right held was x.0 x.1, x.2, x.3))
       (cases_eq q port.0);
-  apart = λ q. ⊎_elim
-      (λ (is : q ≡ port.0). subst (AllPairs DifferInRequest) (sym (ap (quarantined_at then_kept) is ∙ same)) (all_pairs_append DifferInRequest (quarantined_at kept port.0) (loans_of held) (are.apart port.0) two crossed))
-      (λ (ne : q ≢ port.0). subst (AllPairs DifferInRequest) (sym (other q ne)) (are.apart q))
+  loans_differ_in_request = λ q. ⊎_elim
+      (λ (is : q ≡ port.0). subst (AllPairs DifferInRequest) (sym (ap (quarantined_at then_kept) is ∙ same)) (all_pairs_append DifferInRequest (quarantined_at kept port.0) (loans_of held) (are.loans_differ_in_request port.0) two crossed))
+      (λ (ne : q ≢ port.0). subst (AllPairs DifferInRequest) (sym (other q ne)) (are.loans_differ_in_request q))
       (cases_eq q port.0);
 }
   where

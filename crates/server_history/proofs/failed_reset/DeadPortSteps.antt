@@ -5,11 +5,11 @@ use Rattle.std.proofs.lemmas.List.Elements.{All-head, All-tail}
 use Rattle.ata_types.specs.declared.PortState.TheVariants.{Dead}
 use Rattle.ata_types.specs.declared.request.Outcome.{Outcome}
 use Rattle.ata_types.specs.declared.request.Outcome.TheVariants as outcome
-use Rattle.block_machine.specs.Events.{IsLawfulAnswer, AbstractState, AnswersAllUnplugged}
+use Rattle.block_machine.specs.Events.{IsLawfulAnswer, AbstractState, UnpluggedEmptiesPort}
 use Rattle.block_machine.specs.Ports.{Evidence, Ports}
 use Rattle.block_machine.specs.State.{Machine, Pending}
 use Rattle.block_machine.specs.Steps.{Step, Answer}
-use Rattle.driver_history.specs.EvidenceHandling.{OnlyFailedPortsRequeue}
+use Rattle.driver_history.specs.EvidenceHandling.{OnlyFailedPortsRequeueOrFault}
 use Rattle.server_history.proofs.state.AnswerSteps.{IsAnswerOf, answer_told}
 
 -- a request of a port that is dead by these is told so
@@ -20,14 +20,14 @@ module _ (ports : Ports) where
   pub death_lawful : (old : AbstractState) (evidence : Evidence) (e : Pending) (o : Outcome) → IsDeath ports e o → IsLawfulAnswer old evidence ports e o
   death_lawful old evidence e o death = subst (IsLawfulAnswer old evidence ports e) (sym death.0) death.1
 
-  pub deaths_grounded : (evidence : Evidence) (steps : List Step) → All (IsAnswerOf (IsDeath ports)) steps → OnlyFailedPortsRequeue evidence steps
+  pub deaths_grounded : (evidence : Evidence) (steps : List Step) → All (IsAnswerOf (IsDeath ports)) steps → OnlyFailedPortsRequeueOrFault evidence steps
   deaths_grounded evidence [] all = tt
   deaths_grounded evidence (Answer e o ∷ steps) all =
-      subst (λ (p : Outcome). OnlyFailedPortsRequeue evidence (Answer e p ∷ steps)) (sym (All-head (IsAnswerOf (IsDeath ports)) (Answer e o) steps all).0)
+      subst (λ (p : Outcome). OnlyFailedPortsRequeueOrFault evidence (Answer e p ∷ steps)) (sym (All-head (IsAnswerOf (IsDeath ports)) (Answer e o) steps all).0)
       (deaths_grounded evidence steps (All-tail (IsAnswerOf (IsDeath ports)) (Answer e o) steps all))
   deaths_grounded evidence (step ∷ steps) all = absurd (All-head (IsAnswerOf (IsDeath ports)) step steps all)
 
-  pub deaths_unplug_none : (steps : List Step) → All (IsAnswerOf (IsDeath ports)) steps → (m : Machine) → AnswersAllUnplugged steps m
+  pub deaths_unplug_none : (steps : List Step) → All (IsAnswerOf (IsDeath ports)) steps → (m : Machine) → UnpluggedEmptiesPort steps m
   deaths_unplug_none steps all m = record { none_is_left = λ e other here. absurd (never e here); none_is_told_dead = λ e other here. absurd (never e here) }
     where
       never : (e : Pending) → Contains steps (Answer e outcome.Unplugged) → ⊥

@@ -16,15 +16,15 @@ use Rattle.ata_types.specs.declared.request.Outcome.{Outcome}
 use Rattle.ata_types.specs.declared.request.Request.{Request}
 use Rattle.adapter.specs.Access.{Loads, Stores}
 use Rattle.adapter.specs.Access.Access.{Storing}
-use Rattle.adapter.specs.ToldSteps.{DoesOrFailsStep}
+use Rattle.adapter.specs.AskedSteps.{DoesOrFailsStep}
 use Rattle.adapter.specs.Device.{Device}
 use Rattle.adapter.specs.Idle.{IsIdlePort}
 use Rattle.adapter.specs.Rules.{IsOn}
 use Rattle.adapter.specs.Steps.{Steps}
 use Rattle.adapter.specs.declared.access.DeviceStep.{DeviceStep}
 use Rattle.refinement.specs.Fragments.{driver_state_of}
-use Rattle.refinement.specs.Links.{SameAdapter}
-use Rattle.block_machine.specs.Events.{AllEnabled, AnswersTick, Device as Told, HasTimedOut, LoadAt, AbstractState, RevokeOf, Served, Shown, State, Stepped, StoreAt, Submit, Submitted, Tick, WasRevoked}
+use Rattle.refinement.specs.PreservedParts.{SameAdapter}
+use Rattle.block_machine.specs.Events.{AllEnabled, AnswersTick, StepDevice as Told, TimesOutAtTick, LoadAt, AbstractState, RevokeOf, Replied, PortStateShown, State, Stepped, StoreAt, Submit, Submitted, Tick, WasRevoked}
 use Rattle.block_machine.specs.Histories.{JointEvent, JointState, joint_state_after}
 use Rattle.block_machine.specs.Expected.{after}
 use Rattle.block_machine.specs.Ports.{Ports}
@@ -34,9 +34,9 @@ use Rattle.block_machine.specs.State.{Pending}
 use Rattle.block_machine.specs.Steps.{Step, Age, WaitAgain, Answer, Load, Store, aged_pending}
 use Rattle.server_history.proofs.state.ListMembers.{contains_cases}
 use Rattle.dma_frames.specs.FrameTables.{lent_to, owner_of}
-use Rattle.driver_history.specs.AccessTrace.{IsAccessForPorts, LeavesEngine}
+use Rattle.driver_history.specs.AccessTrace.{UsesPortsAndNotGhc, LeavesEngine}
 use Rattle.server_history.specs.Prerequisites.{PrerequisiteLaws}
-use Rattle.server_history.specs.Histories.{ExtendsHistory, ExtendsStuck, LeadsToServer, load_said, store_said}
+use Rattle.server_history.specs.Histories.{ExtendsHistory, ExtendsStuck, LeadsToServer, load_result, store_result}
 use Rattle.server_history.specs.ServerState.{ServerState, MachineRelation, ports_of, admission_context}
 use Rattle.server_history.specs.StuckServer.{ServerInvariant, StuckInvariant}
 use Rattle.server_history.proofs.plain_calls.RefusalsAndBytes.{GoesTo, device_event, load_ends, load_event, load_refused_event, revoke_refused_event, state_event, store_ends, store_event, store_refused_event, submit_refused_event, undone_event}
@@ -73,7 +73,7 @@ module _ (laws : PrerequisiteLaws) (s : ServerState) (t : StuckInvariant s) wher
   then_stalled : (new : Device) → SameAdapter s.device new → ((port : ℕ) → IsIdlePort (s.device.port port) → IsIdlePort (new.port port)) → (IsOn new → ⊥)
       → (steps : List Step) → AllEnabled b.machine steps → MachineRelation (record s { device = new }) (after b.machine steps) → StuckInvariant (record s { device = new })
   then_stalled new same idle off steps may is = record {
-    server_invariant = booked_on s new b same idle (after b.machine steps) (laws.basic.reached b.machine steps b.reached may) is;
+    server_invariant = booked_on s new b same idle (after b.machine steps) (laws.steps_and_accesses.reachable_stays_reachable b.machine steps b.reached may) is;
     adapter_is_not_on = off;
     served_ports_are_dead = t.served_ports_are_dead;
   }
@@ -81,12 +81,12 @@ module _ (laws : PrerequisiteLaws) (s : ServerState) (t : StuckInvariant s) wher
   -- ---- the device's steps
 
   never_on : (new : Device) → Steps s.device new → IsOn new → ⊥
-  never_on new moves on = t.adapter_is_not_on (laws.basic.was_on s.device new moves on)
+  never_on new moves on = t.adapter_is_not_on (laws.steps_and_accesses.steps_switch_none_on s.device new moves on)
 
   moved : (new : Device) → Steps s.device new → StuckInvariant (record s { device = new })
   moved new moves =
-      let x = (laws.basic.device_adds (driver_state_of b.machine_relation.uses b.machine_relation.parked s.device) new moves).simulates b.machine b.reached b.machine_relation.driver_relation in
-      then_stalled new (steps_same laws s.device new moves) (steps_idle laws s.device new moves) (never_on new moves) x.0 x.1 (machine_on laws s new b.machine x.0 b.machine_relation x.3.only x.2)
+      let x = (laws.steps_and_accesses.device_steps_are_simulated (driver_state_of b.machine_relation.uses b.machine_relation.awaiting_disposition s.device) new moves).simulates b.machine b.reached b.machine_relation.driver_relation in
+      then_stalled new (steps_same laws s.device new moves) (steps_idle laws s.device new moves) (never_on new moves) x.0 x.1 (machine_on laws s new b.machine x.0 b.machine_relation x.3.all_steps_are_devices x.2)
 
   pub stalled_device : (new : Device) (step : DeviceStep) → DoesOrFailsStep step s.device new → Steps s.device new → ExtendsStuck s (record s { device = new }) (Told step) (Stepped true)
   stalled_device new step asked moves = record { stuck_invariant = moved new moves; extends_history = device_event laws s new (goes new (moved new moves)) step asked moves }
@@ -96,15 +96,15 @@ module _ (laws : PrerequisiteLaws) (s : ServerState) (t : StuckInvariant s) wher
   pub stalled_undone : (step : DeviceStep) → ExtendsHistory s s (Told step) (Stepped false)
   stalled_undone step = undone_event laws s (goes s.device t) step
 
-  pub stalled_state : (port : Port) → ExtendsHistory s s (State port) (Shown ((ports_of s).state port))
+  pub stalled_state : (port : Port) → ExtendsHistory s s (State port) (PortStateShown ((ports_of s).state port))
   stalled_state port = state_event laws s (goes s.device t) port
 
   pub stalled_store_refused : (client : ClientId) (frame : Frame) (offset : ℕ) (bytes : List ℕ) (fault : MemFault)
-      → IsFirstMemFault (owner_of s.table) (lent_to s.table) client frame offset (length bytes) fault → ExtendsHistory s s (StoreAt client frame offset bytes) (store_said (Err fault))
+      → IsFirstMemFault (owner_of s.table) (lent_to s.table) client frame offset (length bytes) fault → ExtendsHistory s s (StoreAt client frame offset bytes) (store_result (Err fault))
   stalled_store_refused = store_refused_event laws s (goes s.device t)
 
   pub stalled_load_refused : (client : ClientId) (frame : Frame) (offset count : ℕ) (bytes : List ℕ) (fault : MemFault)
-      → IsFirstMemFault (owner_of s.table) (lent_to s.table) client frame offset count fault → ExtendsHistory s s (LoadAt client frame offset count) (load_said (Err fault) bytes)
+      → IsFirstMemFault (owner_of s.table) (lent_to s.table) client frame offset count fault → ExtendsHistory s s (LoadAt client frame offset count) (load_result (Err fault) bytes)
   stalled_load_refused = load_refused_event laws s (goes s.device t)
 
   pub stalled_revoke_refused : (client : ClientId) (number : ℕ) → (HasRow client number s.grants → ⊥) → ExtendsHistory s s (RevokeOf client number) (WasRevoked None)
@@ -125,7 +125,7 @@ module _ (laws : PrerequisiteLaws) (s : ServerState) (t : StuckInvariant s) wher
         let x = load_ends laws s new client frame offset bytes opens loads b.machine b.reached b.machine_relation in
         then_stalled new (steps_same laws s.device new loads.steps) (steps_idle laws s.device new loads.steps) (never_on new loads.steps) (Load client frame offset bytes ∷ x.0.steps) x.0.steps_are_enabled x.1
 
-    load_adds : Loads (4096 * frame.0 + offset) bytes s.device new → ExtendsStuck s (record s { device = new }) (LoadAt client frame offset (length bytes)) (load_said (Ok tt) bytes)
+    load_adds : Loads (4096 * frame.0 + offset) bytes s.device new → ExtendsStuck s (record s { device = new }) (LoadAt client frame offset (length bytes)) (load_result (Ok tt) bytes)
     load_adds loads = record { stuck_invariant = loaded loads; extends_history = load_event laws s new (goes new (loaded loads)) client frame offset bytes opens loads }
 
     stored : Stores (4096 * frame.0 + offset) bytes s.device new → StuckInvariant (record s { device = new })
@@ -134,21 +134,21 @@ module _ (laws : PrerequisiteLaws) (s : ServerState) (t : StuckInvariant s) wher
         then_stalled new same (access_idle laws (Storing (4096 * frame.0 + offset) bytes) tt s.device new stores) off (Store client frame offset bytes ∷ x.0.steps) x.0.steps_are_enabled x.1
       where
         same : SameAdapter s.device new
-        same = subst (SameAdapter s.device) (sym stores.effect) (let was = steps_same laws s.device stores.mid stores.steps in record { telling = was.telling; size = was.size; cap = was.cap; pi = was.pi })
+        same = subst (SameAdapter s.device) (sym stores.effect) (let was = steps_same laws s.device stores.at_access stores.steps in record { telling = was.telling; memory_size = was.memory_size; cap = was.cap; pi = was.pi })
 
         off : IsOn new → ⊥
-        off on = let then_on = subst IsOn stores.effect on in never_on stores.mid stores.steps (record { ae = then_on.ae; no_reset = then_on.no_reset })
+        off on = let then_on = subst IsOn stores.effect on in never_on stores.at_access stores.steps (record { ae_is_set = then_on.ae_is_set; no_reset = then_on.no_reset })
 
-    pub stalled_store : Stores (4096 * frame.0 + offset) bytes s.device new → ExtendsStuck s (record s { device = new }) (StoreAt client frame offset bytes) (store_said (Ok tt))
+    pub stalled_store : Stores (4096 * frame.0 + offset) bytes s.device new → ExtendsStuck s (record s { device = new }) (StoreAt client frame offset bytes) (store_result (Ok tt))
     stalled_store stores = record { stuck_invariant = stored stores; extends_history = store_event laws s new (goes new (stored stores)) client frame offset bytes opens stores }
 
   -- of so many bytes
   pub stalled_load : (new : Device) (client : ClientId) (frame : Frame) (offset count : ℕ) (bytes : List ℕ) → length bytes ≡ count
       → MayAccessFrame (owner_of s.table) (lent_to s.table) client frame offset count → Loads (4096 * frame.0 + offset) bytes s.device new
-      → ExtendsStuck s (record s { device = new }) (LoadAt client frame offset count) (load_said (Ok tt) bytes)
+      → ExtendsStuck s (record s { device = new }) (LoadAt client frame offset count) (load_result (Ok tt) bytes)
   stalled_load new client frame offset count bytes long opens loads =
       let here : MayAccessFrame (owner_of s.table) (lent_to s.table) client frame offset (length bytes) = subst (λ (n : ℕ). MayAccessFrame (owner_of s.table) (lent_to s.table) client frame offset n) (sym long) opens in
-      subst (λ (n : ℕ). ExtendsStuck s (record s { device = new }) (LoadAt client frame offset n) (load_said (Ok tt) bytes)) long (load_adds new client frame offset bytes here loads)
+      subst (λ (n : ℕ). ExtendsStuck s (record s { device = new }) (LoadAt client frame offset n) (load_result (Ok tt) bytes)) long (load_adds new client frame offset bytes here loads)
 
   -- ---- a tick
 
@@ -160,9 +160,9 @@ module _ (laws : PrerequisiteLaws) (s : ServerState) (t : StuckInvariant s) wher
     ages = Age (λ port. false) ∷ []
 
     was_never : (port : Port) → old.ports.state port ≢ ReadyState
-    was_never port ready = never_ready s t.served_ports_are_dead port.0 (ap (λ (p : Ports). p.state port) (sym leads.stands.ports_are) ∙ ready)
+    was_never port ready = never_ready s t.served_ports_are_dead port.0 (ap (λ (p : Ports). p.state port) (sym leads.state_is_at_history_end.ports_are) ∙ ready)
 
-    not_hung : (port : Port) → HasTimedOut old port → ⊥
+    not_hung : (port : Port) → TimesOutAtTick old port → ⊥
     not_hung port hung = was_never port hung.ready
 
     none_answered : (e : Pending) (o : Outcome) → Contains ages (Answer e o) → ⊥
@@ -170,29 +170,29 @@ module _ (laws : PrerequisiteLaws) (s : ServerState) (t : StuckInvariant s) wher
 
     answers : AnswersTick old (told_by s.device old.ports) ages [] (record { machine = after old.machine ages; ports = ports_of s })
     answers = record {
-      replies_match = record { answers = []; is_permutation = IsPermutation-refl []; ordered = λ i j d lt below. absurd (omega (arith, lt, below)); replies_are = refl };
+      replies_match = record { answers = []; is_permutation = IsPermutation-refl []; ordered = λ i j d lt below. absurd (omega (arith, lt, below)); replies_are_of_answers = refl };
       ages_once = record { ready_ports = λ port. false; is_ready = λ port. ((λ yes. absurd (false≢true yes)), (λ ready. absurd (was_never port ready))); later = []; age_is_first = refl; no_other_age = refl };
       restarts_timed_out = record {
-        ports = λ port. inl (not_hung port, ports_same old.ports (ports_of s) leads.stands.ports_are port);
+        each_port_is_same_or_restarts = λ port. inl (not_hung port, ports_same old.ports (ports_of s) leads.state_is_at_history_end.ports_are port);
         only_timed_out_wait_again = λ e here. absurd (never_here (WaitAgain e) (λ port. false) (λ is. let z : WaitAgain e ≡ Age (λ port. false) = is in cc) here);
         only_timed_out_are_answered = λ e o here. absurd (none_answered e o here);
         answers_ended = λ port hung. absurd (not_hung port hung);
         none_stays_issued = λ port hung. absurd (not_hung port hung);
-        is_interrupted = λ port. (λ hung. absurd (not_hung port hung), λ i. absurd (uninterrupted s.device old.ports port i));
+        timed_out_iff_interrupted = λ port. (λ hung. absurd (not_hung port hung), λ i. absurd (uninterrupted s.device old.ports port i));
         unplugged_lost_disk = λ e here. absurd (none_answered e _ here);
         shown_disk_was_in_or_came = λ port hung. absurd (not_hung port hung);
       };
-      answers_all_unplugged = record { none_is_left = λ e other here. absurd (none_answered e _ here); none_is_told_dead = λ e other here. absurd (none_answered e _ here) };
+      unplugged_empties_port = record { none_is_left = λ e other here. absurd (none_answered e _ here); none_is_told_dead = λ e other here. absurd (none_answered e _ here) };
       none_is_due = λ port ready. absurd (never_ready s t.served_ports_are_dead port.0 ready);
-      empty_unless_ready = λ port ready. absurd (was_never port ready);
+      was_ready_empty_unless_ready = λ port ready. absurd (was_never port ready);
     }
 
-    ticked : (h : JointEvent Device DeviceStep) × (h.event.ask ≡ Tick) × (h.event.said ≡ Served []) × LeadsToServer first (h ∷ past) s
-    ticked = lead_by laws first past s s Tick (Served []) ages refl refl leads (holds_off s b t.served_ports_are_dead t.adapter_is_not_on) (tt, tt) (tt, inr tt) (tt, λ id h i. false≢true h) tt
+    ticked : (h : JointEvent Device DeviceStep) × (h.event.call ≡ Tick) × (h.event.result ≡ Replied []) × LeadsToServer first (h ∷ past) s
+    ticked = lead_by laws first past s s Tick (Replied []) ages refl refl leads (holds_off s b t.served_ports_are_dead t.adapter_is_not_on) (tt, tt) (tt, inr tt) (tt, λ id h i. false≢true h) tt
         answers
         tt
         []
-        (refl, All-nil (IsAccessForPorts (HasTimedOut old)))
+        (refl, All-nil (UsesPortsAndNotGhc (TimesOutAtTick old)))
         (λ port. All-nil (LeavesEngine port))
         (λ port ready. absurd (never_ready s t.served_ports_are_dead port.0 ready))
         (λ port. record {
@@ -200,12 +200,12 @@ module _ (laws : PrerequisiteLaws) (s : ServerState) (t : StuckInvariant s) wher
           plain_faults_are_told = tt;
           probes_disk = tt;
           boots_anew = λ hung. absurd (not_hung port hung);
-          loses_no_error = never_troubled s t.served_ports_are_dead (told_by s.device old.ports) (record { device = s.device; abstract = old }) (ports_of s) s.device port leads.stands.ports_are (never_ready s t.served_ports_are_dead port.0);
+          loses_no_error = never_troubled s t.served_ports_are_dead (told_by s.device old.ports) (record { device = s.device; abstract = old }) (ports_of s) s.device port leads.state_is_at_history_end.ports_are (never_ready s t.served_ports_are_dead port.0);
           runs_well_anew = λ i. absurd (uninterrupted s.device old.ports port i);
           handles_evidence = tt;
         })
         (laws.backed_own s.device old.machine (Age (λ port. false)) (λ none. none))
-        (subst (λ (book : List Pending). MachineRelation s (record (old.machine) { book = book })) (sym (none_older old.machine.book)) leads.stands.machine_stands_for_it)
+        (subst (λ (book : List Pending). MachineRelation s (record (old.machine) { book = book })) (sym (none_older old.machine.book)) leads.state_is_at_history_end.machine_stands_for_it)
 
-  pub stalled_tick : ExtendsStuck s s Tick (Served [])
+  pub stalled_tick : ExtendsStuck s s Tick (Replied [])
   stalled_tick = record { stuck_invariant = t; extends_history = ticked }

@@ -17,25 +17,25 @@ use Rattle.adapter.specs.Device.{Device}
 use Rattle.adapter.specs.Idle.{IsIdlePort}
 use Rattle.adapter.specs.Rules.{IsOn}
 use Rattle.adapter.specs.Steps.{Steps}
-use Rattle.refinement.specs.Links.{SameAdapter}
+use Rattle.refinement.specs.PreservedParts.{SameAdapter}
 use Rattle.block_machine.specs.Histories.{JointState, IsReachable}
 use Rattle.block_machine.specs.Expected.{IsValidRow}
 use Rattle.block_machine.specs.Ports.{PortsWellFormed, Evidence, Ports}
 use Rattle.block_machine.specs.State.{Machine}
-use Rattle.driver_history.specs.Histories.{LosesNoPortError, IsPortAlive}
+use Rattle.driver_history.specs.Histories.{LosesNoPortError, IsServedAndNotDead}
 use Rattle.refinement.specs.Acts.{DriverSlots}
 use Rattle.driver_history.specs.PortInvariants.{PortStateInvariant, DriverInvariantWith, HasNoUnanswered}
 use Rattle.dma_frames.specs.Loan.{Lending}
-use Rattle.dma_frames.specs.FrameTables.{FrameOwnership}
+use Rattle.dma_frames.specs.FrameTables.{OwnersAndLoans}
 use Rattle.host_boot.specs.TakeOver.{probe_result_of, wanted_of}
 use Rattle.host_boot.specs.declared.ProbeResult.{ProbeResult}
 use Rattle.host_boot.specs.declared.ProbeResult.TheVariants.{Ready, Unready, Unserved}
-use Rattle.request_queue.specs.BookEntries.{BookEntry, IsAccepted, BookIsInOrder}
+use Rattle.request_queue.specs.BookEntries.{BookEntry, IsWellFormedEntry, BookIsWellFormed}
 use Rattle.request_queue.specs.BookRelation.{EntryRelation}
 use Rattle.server_history.specs.Prerequisites.{PrerequisiteLaws}
 use Rattle.server_history.specs.ErrorHandling.{requests_of}
 use Rattle.server_history.specs.ServerState.{RevokedMarkInvariant, ServerState, MachineRelation, is_served, quarantined_at, ports_of, state_of, slot_state_of}
-use Rattle.server_history.specs.StuckServer.{AreDead, ServerInvariant}
+use Rattle.server_history.specs.StuckServer.{ServedPortsAreDead, ServerInvariant}
 use Rattle.server_history.proofs.state.HistorySteps.{IsHolding}
 use Rattle.server_history.proofs.state.PortSlots.{none_kept}
 use Rattle.server_history.proofs.state.PairedLists.{at_right}
@@ -48,33 +48,33 @@ dead_if_served Unserved dead = inl refl
 dead_if_served (Ready info) dead = inr (dead refl)
 dead_if_served (Unready state) dead = inr (dead refl)
 
-module _ (s : ServerState) (dead : AreDead s.ports) where
-  pub either : (port : ℕ) → (probe_result_of s.ports port ≡ Unserved) ⊎ (probe_result_of s.ports port ≡ Unready Dead)
-  either port = dead_if_served (probe_result_of s.ports port) (dead port)
+module _ (s : ServerState) (dead : ServedPortsAreDead s.probe_results) where
+  pub either : (port : ℕ) → (probe_result_of s.probe_results port ≡ Unserved) ⊎ (probe_result_of s.probe_results port ≡ Unready Dead)
+  either port = dead_if_served (probe_result_of s.probe_results port) (dead port)
 
-  pub never_ready : (port : ℕ) → state_of (probe_result_of s.ports port) ≢ ReadyState
+  pub never_ready : (port : ℕ) → state_of (probe_result_of s.probe_results port) ≢ ReadyState
   never_ready port ready = ⊎_elim
       (λ unserved. let z : Absent ≡ ReadyState = sym (ap state_of unserved) ∙ ready in cc)
       (λ is. let z : Dead ≡ ReadyState = sym (ap state_of is) ∙ ready in cc)
       (either port)
 
-  never_tended : (port : Port) → IsPortAlive (ports_of s) port → ⊥
+  never_tended : (port : Port) → IsServedAndNotDead (ports_of s) port → ⊥
   never_tended port tends = tends.1 (ap state_of (dead port.0 tends.0))
 
   -- so no trouble of it can be lost
   pub never_troubled : (evidence : Evidence) (old : JointState Device) (ports : Ports) (new : Device) (port : Port) → old.abstract.ports ≡ ports_of s → ports.state port ≢ ReadyState
       → LosesNoPortError evidence old ports new port
   never_troubled evidence old ports new port were now = record {
-    errors = λ ready. absurd (never_ready port.0 (ap (λ (p : Ports). p.state port) (sym were) ∙ ready));
-    changes = λ tends. absurd (never_tended port (subst (λ (p : Ports). IsPortAlive p port) were tends));
-    fault = λ ready. absurd (now ready);
-    fatal = λ ready. absurd (now ready);
-    disk = λ ready. absurd (now ready);
+    errors_are_handled_or_shown = λ ready. absurd (never_ready port.0 (ap (λ (p : Ports). p.state port) (sym were) ∙ ready));
+    changes_are_handled_or_shown = λ tends. absurd (never_tended port (subst (λ (p : Ports). IsServedAndNotDead p port) were tends));
+    new_fault_is_shown = λ ready. absurd (now ready);
+    new_fatal_is_shown = λ ready. absurd (now ready);
+    new_plug_event_is_shown = λ ready. absurd (now ready);
   }
 
-  pub dead_fit : ((port : ℕ) → is_served (probe_result_of s.ports port) ≡ true → port < 4) → PortsWellFormed (ports_of s)
+  pub dead_fit : ((port : ℕ) → is_served (probe_result_of s.probe_results port) ≡ true → port < 4) → PortsWellFormed (ports_of s)
   dead_fit few = record {
-    few_are_served = λ port its. few port.0 its;
+    served_are_ports_0_to_3 = λ port its. few port.0 its;
     unserved_are_absent = λ port other. ⊎_elim (λ unserved. ap state_of unserved) (λ is. absurd (false≢true (sym other ∙ ap is_served is))) (either port.0);
     modes_are_valid = λ port ready. absurd (never_ready port.0 ready);
     causes_are_valid = λ port cause unfit. ⊎_elim
@@ -85,9 +85,9 @@ module _ (s : ServerState) (dead : AreDead s.ports) where
 
 -- ---- an instant
 
-module _ (s : ServerState) (b : ServerInvariant s) (dead : AreDead s.ports) (off : IsOn s.device → ⊥) (m : Machine) (is : MachineRelation s m) where
+module _ (s : ServerState) (b : ServerInvariant s) (dead : ServedPortsAreDead s.probe_results) (off : IsOn s.device → ⊥) (m : Machine) (is : MachineRelation s m) where
   abbrev slots : DriverSlots
-  slots = record { uses = is.uses; parked = is.parked }
+  slots = record { slot_states = is.uses; awaiting_disposition = is.awaiting_disposition }
 
   abbrev instant : JointState Device
   instant = record { device = s.device; abstract = record { machine = m; ports = ports_of s } }
@@ -95,35 +95,35 @@ module _ (s : ServerState) (b : ServerInvariant s) (dead : AreDead s.ports) (off
   abbrev HoldsAs : Port → ProbeResult → Type 0
   HoldsAs port f = PortStateInvariant (wanted_of s.wanted port.0) slots instant port (is_served f) (state_of f)
 
-  nobody_waits : (port : Port) → probe_result_of s.ports port.0 ≡ Unserved → HasNoUnanswered m port
+  nobody_waits : (port : Port) → probe_result_of s.probe_results port.0 ≡ Unserved → HasNoUnanswered m port
   nobody_waits port unserved e here own =
       let a = at_right EntryRelation s.book m.book is.book e here in
-      let its = All-contains (λ (x : BookEntry). is_served (probe_result_of s.ports x.entry.port.0) ≡ true) s.book a.0 b.requests_are_of_served_ports a.1 in
-      false≢true (sym (ap is_served unserved) ∙ ap (λ (q : Port). is_served (probe_result_of s.ports q.0)) (sym own ∙ a.2.port) ∙ its)
+      let its = All-contains (λ (x : BookEntry). is_served (probe_result_of s.probe_results x.request.port.0) ≡ true) s.book a.0 b.requests_are_of_served_ports a.1 in
+      false≢true (sym (ap is_served unserved) ∙ ap (λ (q : Port). is_served (probe_result_of s.probe_results q.0)) (sym own ∙ a.2.port) ∙ its)
 
-  of_unserved : (port : Port) → port.0 < 4 → probe_result_of s.ports port.0 ≡ Unserved → HoldsAs port (probe_result_of s.ports port.0)
+  of_unserved : (port : Port) → port.0 < 4 → probe_result_of s.probe_results port.0 ≡ Unserved → HoldsAs port (probe_result_of s.probe_results port.0)
   of_unserved port low unserved =
-      let alive : probe_result_of s.ports port.0 ≢ Unready Dead = λ is_dead. let z : Unserved ≡ Unready Dead = sym unserved ∙ is_dead in cc in
+      let alive : probe_result_of s.probe_results port.0 ≢ Unready Dead = λ is_dead. let z : Unserved ≡ Unready Dead = sym unserved ∙ is_dead in cc in
       subst (HoldsAs port) (sym unserved) (record {
         state_is_absent = ap state_of unserved;
         port_is_idle = b.unserved_are_idle port.0 low unserved;
-        has_nothing_in_slots = record { all_are_free = λ slot. is.are_uses_of port.0 slot alive ∙ ap slot_state_of (b.unused port.0 slot unserved); none_is_parked = is.unparked port.0 alive };
+        has_nothing_in_slots = record { all_are_free = λ slot. is.are_uses_of port.0 slot alive ∙ ap slot_state_of (b.unserved_use_no_slot port.0 slot unserved); none_is_parked = is.only_dead_ports_park port.0 alive };
         has_no_unanswered = nobody_waits port unserved;
         none_is_quarantined = none_kept s m port is alive;
       })
 
-  of_dead : (port : Port) → probe_result_of s.ports port.0 ≡ Unready Dead → HoldsAs port (probe_result_of s.ports port.0)
+  of_dead : (port : Port) → probe_result_of s.probe_results port.0 ≡ Unready Dead → HoldsAs port (probe_result_of s.probe_results port.0)
   of_dead port is_dead = subst (HoldsAs port) (sym is_dead) (record { is_backed_or_off = inr off; has_no_unanswered = λ on. absurd (off on) })
 
   holds_with_off : DriverInvariantWith s.wanted slots instant
   holds_with_off = record {
     driver_relation = is.driver_relation;
-    served = λ port low. b.served port.0 low;
-    adapter_is_on = inr (λ port its. ap state_of (dead port.0 its));
+    served_iff_wanted_and_there = λ port low. b.served_iff_wanted_and_there port.0 low;
+    is_on_or_served_are_dead = inr (λ port its. ap state_of (dead port.0 its));
     ports_hold = λ port low. ⊎_elim (of_unserved port low) (of_dead port) (either s dead port.0);
   }
 
-pub holds_off : (s : ServerState) → ServerInvariant s → AreDead s.ports → (IsOn s.device → ⊥) → IsHolding s
+pub holds_off : (s : ServerState) → ServerInvariant s → ServedPortsAreDead s.probe_results → (IsOn s.device → ⊥) → IsHolding s
 holds_off s b dead off m reached is = (slots s b dead off m is, holds_with_off s b dead off m is)
 
 -- ---- what accesses leave
@@ -139,22 +139,22 @@ LeavesPorts access = ⊥
 module _ (laws : PrerequisiteLaws) where
   pub steps_idle : (old new : Device) → Steps old new → (port : ℕ) → IsIdlePort (old.port port) → IsIdlePort (new.port port)
   steps_idle old new steps port idle =
-      let keeps = (laws.basic.keeps old new steps).ports_are_kept port in
+      let keeps = (laws.steps_and_accesses.steps_keep_adapter_and_notes old new steps).ports_are_kept port in
       record {
-        st = keeps.st idle.st;
-        cr = keeps.cr idle.cr;
-        fre = keeps.fre idle.fre;
-        fr = keeps.fr idle.fr;
-        ci = λ slot. keeps.ci slot (idle.ci slot);
-        sact = λ slot. keeps.sact slot (idle.sact slot);
-        taken = keeps.stays_without_commands idle.cr idle.taken;
+        st_is_clear = keeps.st_stays_clear idle.st_is_clear;
+        cr_is_clear = keeps.cr_stays_clear idle.cr_is_clear;
+        fre_is_clear = keeps.fre_stays_clear idle.fre_is_clear;
+        fr_is_clear = keeps.fr_stays_clear idle.fr_is_clear;
+        ci_is_clear = λ slot. keeps.ci_stays_clear slot (idle.ci_is_clear slot);
+        sact_is_clear = λ slot. keeps.sact_stays_clear slot (idle.sact_is_clear slot);
+        none_is_taken = keeps.stays_without_commands idle.cr_is_clear idle.none_is_taken;
       }
 
   pub access_idle : (access : Access) → LeavesPorts access → (old new : Device) → Does access old new → (port : ℕ) → IsIdlePort (old.port port) → IsIdlePort (new.port port)
-  access_idle (Reading Ghc v) its old new does port idle = subst (λ (d : Device). IsIdlePort (d.port port)) (sym does.effect) (steps_idle old does.mid does.steps port idle)
-  access_idle (Writing Ghc v) its old new does port idle = subst (λ (d : Device). IsIdlePort (d.port port)) (sym does.effect) (steps_idle old does.mid does.steps port idle)
+  access_idle (Reading Ghc v) its old new does port idle = subst (λ (d : Device). IsIdlePort (d.port port)) (sym does.effect) (steps_idle old does.at_access does.steps port idle)
+  access_idle (Writing Ghc v) its old new does port idle = subst (λ (d : Device). IsIdlePort (d.port port)) (sym does.effect) (steps_idle old does.at_access does.steps port idle)
   access_idle (Loading at bytes) its old new does port idle = steps_idle old new does.steps port idle
-  access_idle (Storing at bytes) its old new does port idle = subst (λ (d : Device). IsIdlePort (d.port port)) (sym does.effect) (steps_idle old does.mid does.steps port idle)
+  access_idle (Storing at bytes) its old new does port idle = subst (λ (d : Device). IsIdlePort (d.port port)) (sym does.effect) (steps_idle old does.at_access does.steps port idle)
   access_idle (Reading r v) its old new does port idle = absurd its
   access_idle (Writing r v) its old new does port idle = absurd its
 
@@ -164,29 +164,29 @@ module _ (laws : PrerequisiteLaws) where
       accesses_idle accesses (All-tail LeavesPorts access accesses its) mid new more port (access_idle access (All-head LeavesPorts access accesses its) old mid does port idle)
 
   pub steps_same : (old new : Device) → Steps old new → SameAdapter old new
-  steps_same old new steps = let keeps = laws.basic.keeps old new steps in record { telling = keeps.telling; size = keeps.size; cap = keeps.cap; pi = keeps.pi }
+  steps_same old new steps = let keeps = laws.steps_and_accesses.steps_keep_adapter_and_notes old new steps in record { telling = keeps.telling_is_kept; memory_size = keeps.memory_size_is_kept; cap = keeps.cap_is_kept; pi = keeps.pi_is_kept }
 
 -- ---- the server with another device
 
 pub booked_on : (s : ServerState) (new : Device) → ServerInvariant s → SameAdapter s.device new → ((port : ℕ) → IsIdlePort (s.device.port port) → IsIdlePort (new.port port))
     → (m : Machine) → IsReachable m → MachineRelation (record s { device = new }) m → ServerInvariant (record s { device = new })
 booked_on s new b same idle m reached is = record {
-  driver_memory_fits = subst (λ (n : ℕ). DRIVER_BYTES ≤ n) (sym same.size) b.driver_memory_fits;
-  served = λ port low.
-      let was = b.served port low in
+  driver_memory_fits = subst (λ (n : ℕ). DRIVER_BYTES ≤ n) (sym same.memory_size) b.driver_memory_fits;
+  served_iff_wanted_and_there = λ port low.
+      let was = b.served_iff_wanted_and_there port low in
       ((λ its. let w = was.0 its in (w.0, ap (λ (pi : ℕ). bit pi port) same.pi ∙ w.1)), (λ w. was.1 (w.0, ap (λ (pi : ℕ). bit pi port) (sym same.pi) ∙ w.1)));
-  few_are_served = b.few_are_served;
+  served_are_below_4 = b.served_are_below_4;
   unserved_are_idle = λ port low unserved. idle port (b.unserved_are_idle port low unserved);
-  unused = b.unused;
-  four_slots = b.four_slots;
-  four_modes = b.four_modes;
-  four_remembered = b.four_remembered;
-  four_kept = b.four_kept;
-  places = b.places;
+  unserved_use_no_slot = b.unserved_use_no_slot;
+  slots_are_of_four_ports = b.slots_are_of_four_ports;
+  modes_are_of_four_ports = b.modes_are_of_four_ports;
+  remembered_is_of_four_ports = b.remembered_is_of_four_ports;
+  kept_loans_are_of_four_ports = b.kept_loans_are_of_four_ports;
+  kept_loans_have_room = b.kept_loans_have_room;
   rows_are_valid = b.rows_are_valid;
-  owned_frames_are_clients = λ frame client own. let o = b.owned_frames_are_clients frame client own in (o.0, subst (λ (n : ℕ). 4096 * frame.0 + 4096 ≤ n) (sym same.size) o.1);
-  requests_are_accepted = b.requests_are_accepted;
-  book_is_in_order = b.book_is_in_order;
+  owned_frames_are_clients = λ frame client own. let o = b.owned_frames_are_clients frame client own in (o.0, subst (λ (n : ℕ). 4096 * frame.0 + 4096 ≤ n) (sym same.memory_size) o.1);
+  entries_are_well_formed = b.entries_are_well_formed;
+  book_is_well_formed = b.book_is_well_formed;
   revoked_marks_agree = b.revoked_marks_agree;
   ids_were_handed_out = b.ids_were_handed_out;
   requests_are_of_served_ports = b.requests_are_of_served_ports;
@@ -197,25 +197,25 @@ booked_on s new b same idle m reached is = record {
 
 -- ---- the server with other requests
 
-pub booked_then : (s : ServerState) (grants : List GrantRow) (table : FrameOwnership) (kept : List (List Lending)) (book : List BookEntry) → ServerInvariant s → All IsValidRow grants → table.owners ≡ s.table.owners → length kept ≡ 4
-    → ((port : Port) → length (quarantined_at kept port.0) + count_by (λ (e : BookEntry). e.entry.issued) (requests_of port book) ≤ 32) → All (IsAccepted table) book → BookIsInOrder book → All (RevokedMarkInvariant grants) book
-    → All (λ e. e.entry.id.0 ≤ s.last_id) book → All (λ e. is_served (probe_result_of s.ports e.entry.port.0) ≡ true) book → (m : Machine) → IsReachable m → MachineRelation (record s { grants = grants; table = table; kept = kept; book = book }) m
-    → ServerInvariant (record s { grants = grants; table = table; kept = kept; book = book })
+pub booked_then : (s : ServerState) (grants : List GrantRow) (table : OwnersAndLoans) (kept : List (List Lending)) (book : List BookEntry) → ServerInvariant s → All IsValidRow grants → table.owners ≡ s.table.owners → length kept ≡ 4
+    → ((port : Port) → length (quarantined_at kept port.0) + count_by (λ (e : BookEntry). e.request.issued) (requests_of port book) ≤ 32) → All (IsWellFormedEntry table) book → BookIsWellFormed book → All (RevokedMarkInvariant grants) book
+    → All (λ e. e.request.id.0 ≤ s.last_id) book → All (λ e. is_served (probe_result_of s.probe_results e.request.port.0) ≡ true) book → (m : Machine) → IsReachable m → MachineRelation (record s { grants = grants; table = table; kept_loans = kept; book = book }) m
+    → ServerInvariant (record s { grants = grants; table = table; kept_loans = kept; book = book })
 booked_then s grants table kept book b rows owners four places accepted ordered marked handed_out asked m reached is = record {
   driver_memory_fits = b.driver_memory_fits;
-  served = b.served;
-  few_are_served = b.few_are_served;
+  served_iff_wanted_and_there = b.served_iff_wanted_and_there;
+  served_are_below_4 = b.served_are_below_4;
   unserved_are_idle = b.unserved_are_idle;
-  unused = b.unused;
-  four_slots = b.four_slots;
-  four_modes = b.four_modes;
-  four_remembered = b.four_remembered;
-  four_kept = four;
-  places = places;
+  unserved_use_no_slot = b.unserved_use_no_slot;
+  slots_are_of_four_ports = b.slots_are_of_four_ports;
+  modes_are_of_four_ports = b.modes_are_of_four_ports;
+  remembered_is_of_four_ports = b.remembered_is_of_four_ports;
+  kept_loans_are_of_four_ports = four;
+  kept_loans_have_room = places;
   rows_are_valid = rows;
   owned_frames_are_clients = λ frame client own. b.owned_frames_are_clients frame client (ap (λ (list : List (Option ClientId)). get_or list frame.0 None) (sym owners) ∙ own);
-  requests_are_accepted = accepted;
-  book_is_in_order = ordered;
+  entries_are_well_formed = accepted;
+  book_is_well_formed = ordered;
   revoked_marks_agree = marked;
   ids_were_handed_out = handed_out;
   requests_are_of_served_ports = asked;

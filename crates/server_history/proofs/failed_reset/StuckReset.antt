@@ -12,12 +12,12 @@ use Rattle.adapter.specs.Access.Access.{Loading, Reading, Storing, Writing}
 use Rattle.adapter.specs.Device.{Device}
 use Rattle.adapter.specs.Rules.{IsOn}
 use Rattle.adapter.specs.declared.access.DeviceStep.{DeviceStep}
-use Rattle.refinement.specs.Driver.{IsBacked}
+use Rattle.refinement.specs.Driver.{TapeBacksSteps}
 use Rattle.server_history.proofs.state.FollowedAccesses.{followed_adds}
 use Rattle.block_machine.specs.Events.{AllByDevice, AllEnabled, Reset, WasReset}
 use Rattle.block_machine.specs.Histories.{JointEvent, JointState, IsReachable, joint_state_after}
 use Rattle.block_machine.specs.Expected.{after}
-use Rattle.block_machine.specs.Ports.{PortsWellFormed, Evidence, RequestFault, IsAfterStuckReset, Ports, SameDisk}
+use Rattle.block_machine.specs.Ports.{PortsWellFormed, Evidence, RequestFault, IsAfterStuckReset, Ports, SameSerialAndSize}
 use Rattle.block_machine.specs.State.{Machine}
 use Rattle.block_machine.specs.Steps.{Step}
 use Rattle.driver_history.specs.Evidence.{IsEvidencedOf}
@@ -33,7 +33,7 @@ use Rattle.request_queue.specs.BookEntries.{BookEntry}
 use Rattle.server_history.specs.Prerequisites.{PrerequisiteLaws}
 use Rattle.server_history.specs.Histories.{ExtendsStuck, LeadsToServer}
 use Rattle.server_history.specs.ServerState.{ServerState, MachineRelation, last_disk_in, last_disk_of, is_served, ports_of, remembered_at, last_sectors_of, last_serial_of, state_of, slot_state_of}
-use Rattle.server_history.specs.StuckServer.{AreDead, ResetGetsStuck, ServerInvariant, StuckInvariant, found_after_stuck_reset}
+use Rattle.server_history.specs.StuckServer.{ServedPortsAreDead, ResetGetsStuck, ServerInvariant, StuckInvariant, found_after_stuck_reset}
 use Rattle.server_history.proofs.state.DeviceSteps.{devices_belong, devices_last, devices_lawful}
 use Rattle.server_history.proofs.state.HistorySteps.{happening_with, lead_with, machine_on, with_device}
 use Rattle.server_history.proofs.state.FirstMembers.{nowhere}
@@ -87,29 +87,29 @@ stuck_disk (Unready state) last = refl
 module _ (laws : PrerequisiteLaws) (s new : ServerState) (b : ServerInvariant s) (g : ResetGetsStuck s new) where
   -- the server then
   abbrev n : ServerState
-  n = record s { device = new.device; ports = new.ports; remembered = new.remembered; modes = new.modes; slots = new.slots }
+  n = record s { device = new.device; probe_results = new.probe_results; remembered = new.remembered; modes = new.modes; slots = new.slots }
 
   abbrev its_accesses : List Access
-  its_accesses = g.stays.followed.is_driven.accesses
+  its_accesses = g.reset_stays_pending.followed.is_driven.accesses
 
-  dead : AreDead new.ports
-  dead port its = g.found port ∙ stuck_dead (probe_result_of s.ports port) (sym (ap is_served (g.found port)) ∙ its)
+  dead : ServedPortsAreDead new.probe_results
+  dead port its = g.served_ports_become_dead port ∙ stuck_dead (probe_result_of s.probe_results port) (sym (ap is_served (g.served_ports_become_dead port)) ∙ its)
 
-  served_same : (port : ℕ) → is_served (probe_result_of new.ports port) ≡ is_served (probe_result_of s.ports port)
-  served_same port = ap is_served (g.found port) ∙ stuck_served (probe_result_of s.ports port)
+  served_same : (port : ℕ) → is_served (probe_result_of new.probe_results port) ≡ is_served (probe_result_of s.probe_results port)
+  served_same port = ap is_served (g.served_ports_become_dead port) ∙ stuck_served (probe_result_of s.probe_results port)
 
-  was_unserved : (port : ℕ) → probe_result_of new.ports port ≡ Unserved → probe_result_of s.ports port ≡ Unserved
-  was_unserved port is = stuck_unserved (probe_result_of s.ports port) (sym (g.found port) ∙ is)
+  was_unserved : (port : ℕ) → probe_result_of new.probe_results port ≡ Unserved → probe_result_of s.probe_results port ≡ Unserved
+  was_unserved port is = stuck_unserved (probe_result_of s.probe_results port) (sym (g.served_ports_become_dead port) ∙ is)
 
-  alive_unserved : (port : ℕ) → probe_result_of new.ports port ≢ Unready Dead → probe_result_of s.ports port ≡ Unserved
-  alive_unserved port alive = ⊎_elim (was_unserved port) (λ is. absurd (alive is)) (dead_if_served (probe_result_of new.ports port) (dead port))
+  alive_unserved : (port : ℕ) → probe_result_of new.probe_results port ≢ Unready Dead → probe_result_of s.probe_results port ≡ Unserved
+  alive_unserved port alive = ⊎_elim (was_unserved port) (λ is. absurd (alive is)) (dead_if_served (probe_result_of new.probe_results port) (dead port))
 
   disk_same : (port : Port) → last_disk_in n port ≡ last_disk_in s port
   disk_same port =
-      ap (λ (f : ProbeResult). last_disk_of f (remembered_at new.remembered port.0)) (g.found port.0) ∙ stuck_disk (probe_result_of s.ports port.0) (remembered_at new.remembered port.0) ∙ g.remembered port.0
+      ap (λ (f : ProbeResult). last_disk_of f (remembered_at new.remembered port.0)) (g.served_ports_become_dead port.0) ∙ stuck_disk (probe_result_of s.probe_results port.0) (remembered_at new.remembered port.0) ∙ g.last_disks_are_remembered port.0
 
   off : IsOn new.device → ⊥
-  off on = false≢true (sym on.no_reset ∙ g.stays.hr_is_set)
+  off on = false≢true (sym on.no_reset ∙ g.reset_stays_pending.hr_is_set)
 
   -- ---- the machine that stands for it
 
@@ -118,24 +118,24 @@ module _ (laws : PrerequisiteLaws) (s new : ServerState) (b : ServerInvariant s)
     uses = is.uses;
     are_uses_of = λ port slot alive.
         let unserved = alive_unserved port alive in
-        is.are_uses_of port slot (unserved_alive port unserved) ∙ ap slot_state_of (b.unused port slot unserved) ∙ sym (ap slot_state_of (g.unused port slot));
-    parked = is.parked;
-    unparked = λ port alive. is.unparked port (unserved_alive port (alive_unserved port alive));
+        is.are_uses_of port slot (unserved_alive port unserved) ∙ ap slot_state_of (b.unserved_use_no_slot port slot unserved) ∙ sym (ap slot_state_of (g.no_slot_is_used port slot));
+    awaiting_disposition = is.awaiting_disposition;
+    only_dead_ports_park = λ port alive. is.only_dead_ports_park port (unserved_alive port (alive_unserved port alive));
     driver_relation = is.driver_relation;
     book = is.book;
     quarantine_relation = record {
-      dead = λ e here. g.found e.request.port.0 ∙ ap found_after_stuck_reset (is.quarantine_relation.dead e here);
-      loan = is.quarantine_relation.loan;
-      whose = is.quarantine_relation.whose;
-      apart = is.quarantine_relation.apart;
+      quarantine_ports_are_dead = λ e here. g.served_ports_become_dead e.request.port.0 ∙ ap found_after_stuck_reset (is.quarantine_relation.quarantine_ports_are_dead e here);
+      each_request_has_its_loan = is.quarantine_relation.each_request_has_its_loan;
+      each_loan_has_its_request = is.quarantine_relation.each_loan_has_its_request;
+      loans_differ_in_request = is.quarantine_relation.loans_differ_in_request;
     };
     rows = is.rows;
     owner = is.owner;
     lent = is.lent;
-    next = is.next;
+    next_id_is = is.next_id_is;
   }
     where
-      unserved_alive : (port : ℕ) → probe_result_of s.ports port ≡ Unserved → probe_result_of s.ports port ≢ Unready Dead
+      unserved_alive : (port : ℕ) → probe_result_of s.probe_results port ≡ Unserved → probe_result_of s.probe_results port ≢ Unready Dead
       unserved_alive port unserved is_dead = let z : Unserved ≡ Unready Dead = sym unserved ∙ is_dead in cc
 
   -- What the reset makes of a machine that stands for the server: the device's steps lead to one that stands for the server then.
@@ -143,38 +143,38 @@ module _ (laws : PrerequisiteLaws) (s new : ServerState) (b : ServerInvariant s)
     steps : List Step
     only : AllByDevice steps
     may : AllEnabled m steps
-    backed : IsBacked s.device new.device m steps
+    backed : TapeBacksSteps s.device new.device m steps
     with_device_alone : MachineRelation (record s { device = new.device }) (after m steps)
 
   follows : (m : Machine) → IsReachable m → MachineRelation s m → Follows m
   follows m reached is =
-      let x = (followed_adds laws g.stays.followed is.uses is.parked tt).simulates m reached is.driver_relation in
-      record { steps = x.0; only = x.3.only; may = x.1; backed = x.3.is_backed; with_device_alone = machine_on laws s new.device m x.0 is x.3.only x.2 }
+      let x = (followed_adds laws g.reset_stays_pending.followed is.uses is.awaiting_disposition tt).simulates m reached is.driver_relation in
+      record { steps = x.0; only = x.3.all_steps_are_devices; may = x.1; backed = x.3.is_backed; with_device_alone = machine_on laws s new.device m x.0 is x.3.all_steps_are_devices x.2 }
 
   booked_then : (m : Machine) → IsReachable m → MachineRelation (record s { device = new.device }) m → ServerInvariant n
   booked_then m reached is =
-      let on = booked_on s new.device b g.stays.adapter_is_kept
-      (λ port idle. accesses_idle laws its_accesses (All-weaker IsResetAccess LeavesPorts leaves_ports its_accesses g.stays.followed.is_driven.accesses_are_of_kind) s.device new.device g.stays.followed.is_driven.all_are_done port idle)
+      let on = booked_on s new.device b g.reset_stays_pending.adapter_is_kept
+      (λ port idle. accesses_idle laws its_accesses (All-weaker IsResetAccess LeavesPorts leaves_ports its_accesses g.reset_stays_pending.followed.is_driven.accesses_are_of_kind) s.device new.device g.reset_stays_pending.followed.is_driven.all_are_done port idle)
       m reached is in
       record {
         driver_memory_fits = on.driver_memory_fits;
-        served = λ port low. let w = on.served port low in ((λ its. w.0 (sym (served_same port) ∙ its)), (λ there. served_same port ∙ w.1 there));
-        few_are_served = λ port its. on.few_are_served port (sym (served_same port) ∙ its);
+        served_iff_wanted_and_there = λ port low. let w = on.served_iff_wanted_and_there port low in ((λ its. w.0 (sym (served_same port) ∙ its)), (λ there. served_same port ∙ w.1 there));
+        served_are_below_4 = λ port its. on.served_are_below_4 port (sym (served_same port) ∙ its);
         unserved_are_idle = λ port low unserved. on.unserved_are_idle port low (was_unserved port unserved);
-        unused = λ port slot unserved. g.unused port slot;
-        four_slots = g.four_slots;
-        four_modes = g.four_modes;
-        four_remembered = g.four;
-        four_kept = on.four_kept;
-        places = on.places;
+        unserved_use_no_slot = λ port slot unserved. g.no_slot_is_used port slot;
+        slots_are_of_four_ports = g.slots_are_of_four_ports;
+        modes_are_of_four_ports = g.modes_are_of_four_ports;
+        remembered_is_of_four_ports = g.remembered_is_of_four_ports;
+        kept_loans_are_of_four_ports = on.kept_loans_are_of_four_ports;
+        kept_loans_have_room = on.kept_loans_have_room;
         rows_are_valid = on.rows_are_valid;
         owned_frames_are_clients = on.owned_frames_are_clients;
-        requests_are_accepted = on.requests_are_accepted;
-        book_is_in_order = on.book_is_in_order;
+        entries_are_well_formed = on.entries_are_well_formed;
+        book_is_well_formed = on.book_is_well_formed;
         revoked_marks_agree = on.revoked_marks_agree;
         ids_were_handed_out = on.ids_were_handed_out;
-        requests_are_of_served_ports = All-weaker (λ (e : BookEntry). is_served (probe_result_of s.ports e.entry.port.0) ≡ true) (λ (e : BookEntry). is_served (probe_result_of new.ports e.entry.port.0) ≡ true)
-            (λ e its. served_same e.entry.port.0 ∙ its) s.book b.requests_are_of_served_ports;
+        requests_are_of_served_ports = All-weaker (λ (e : BookEntry). is_served (probe_result_of s.probe_results e.request.port.0) ≡ true) (λ (e : BookEntry). is_served (probe_result_of new.probe_results e.request.port.0) ≡ true)
+            (λ e its. served_same e.request.port.0 ∙ its) s.book b.requests_are_of_served_ports;
         machine = m;
         reached = reached;
         machine_relation = stands_then m is;
@@ -183,19 +183,19 @@ module _ (laws : PrerequisiteLaws) (s new : ServerState) (b : ServerInvariant s)
   stalled : StuckInvariant n
   stalled =
       let f = follows b.machine b.reached b.machine_relation in
-      record { server_invariant = booked_then (after b.machine f.steps) (laws.basic.reached b.machine f.steps b.reached f.may) f.with_device_alone; adapter_is_not_on = off; served_ports_are_dead = dead }
+      record { server_invariant = booked_then (after b.machine f.steps) (laws.steps_and_accesses.reachable_stays_reachable b.machine f.steps b.reached f.may) f.with_device_alone; adapter_is_not_on = off; served_ports_are_dead = dead }
 
   -- ---- the event
 
   abbrev its_served : Port → Bool
-  its_served port = is_served (probe_result_of s.ports port.0)
+  its_served port = is_served (probe_result_of s.probe_results port.0)
 
   -- each served port got stuck
   abbrev stuck_told : Ports → Evidence
   stuck_told ports = record (told_by s.device ports) { stuck = chosen its_served four }
 
-  stuck_named : (port : Port) → is_served (probe_result_of s.ports port.0) ≡ true → Contains (chosen its_served four) port
-  stuck_named port its = is_chosen its_served four port (in_four port (b.few_are_served port.0 its)) its
+  stuck_named : (port : Port) → is_served (probe_result_of s.probe_results port.0) ≡ true → Contains (chosen its_served four) port
+  stuck_named port its = is_chosen its_served four port (in_four port (b.served_are_below_4 port.0 its)) its
 
   module _ (first : JointState Device) (past : List (JointEvent Device DeviceStep)) (leads : LeadsToServer first past s) where
     abbrev old : JointState Device
@@ -205,19 +205,19 @@ module _ (laws : PrerequisiteLaws) (s new : ServerState) (b : ServerInvariant s)
     began = with_device s.device old
 
     ports_are : old.abstract.ports ≡ ports_of s
-    ports_are = leads.stands.ports_are
+    ports_are = leads.state_is_at_history_end.ports_are
 
     fit : PortsWellFormed old.abstract.ports
-    fit = laws.basic.fit s.wanted first past leads.history
+    fit = laws.steps_and_accesses.history_ports_are_well_formed s.wanted first past leads.history
 
     evidence : Evidence
     evidence = stuck_told old.abstract.ports
 
-    was_served : (port : Port) → old.abstract.ports.served port ≡ true → is_served (probe_result_of s.ports port.0) ≡ true
+    was_served : (port : Port) → old.abstract.ports.served port ≡ true → is_served (probe_result_of s.probe_results port.0) ≡ true
     was_served port its = ap (λ (p : Ports). p.served port) (sym ports_are) ∙ its
 
-    same_disk : (port : Port) → SameDisk old.abstract.ports (ports_of n) port
-    same_disk port = subst (λ (p : Ports). SameDisk p (ports_of n) port) (sym ports_are) (ap last_serial_of (disk_same port), ap last_sectors_of (disk_same port))
+    same_disk : (port : Port) → SameSerialAndSize old.abstract.ports (ports_of n) port
+    same_disk port = subst (λ (p : Ports). SameSerialAndSize p (ports_of n) port) (sym ports_are) (ap last_serial_of (disk_same port), ap last_sectors_of (disk_same port))
 
     gets_stuck : (port : Port) → IsAfterStuckReset old.abstract.ports evidence (ports_of n) port
     unfolding evidence
@@ -230,17 +230,17 @@ module _ (laws : PrerequisiteLaws) (s new : ServerState) (b : ServerInvariant s)
     evidenced_port : (port : Port) → IsEvidencedOf Reset (WasReset None) its_accesses began (ports_of n) new.device evidence port
     unfolding evidence
     evidenced_port port =
-        let leaves = All-weaker IsResetAccess (LeavesEngine port) (leaves_engine port) its_accesses g.stays.followed.is_driven.accesses_are_of_kind in
-        let base = evidenced_of four Reset (WasReset None) its_accesses began (ports_of n) new.device port (λ ready. in_four port (laws.basic.ready_served old.abstract.ports port fit ready).1) leaves in
+        let leaves = All-weaker IsResetAccess (LeavesEngine port) (leaves_engine port) its_accesses g.reset_stays_pending.followed.is_driven.accesses_are_of_kind in
+        let base = evidenced_of four Reset (WasReset None) its_accesses began (ports_of n) new.device port (λ ready. in_four port (laws.steps_and_accesses.ready_ports_are_served old.abstract.ports port fit ready).1) leaves in
         record {
-          lost = base.lost;
+          lost_only = base.lost_only;
           link_changed_all = base.link_changed_all;
           link_changed_only = base.link_changed_only;
-          failed_all = base.failed_all;
-          failed_only = base.failed_only;
-          fatal_all = base.fatal_all;
-          fatal_only = base.fatal_only;
-          stopped_all = inl leaves;
+          showing_error_all = base.showing_error_all;
+          showing_error_only = base.showing_error_only;
+          showing_fatal_error_all = base.showing_fatal_error_all;
+          showing_fatal_error_only = base.showing_fatal_error_only;
+          engine_is_left_or_stopped = inl leaves;
           stopped_only = base.stopped_only;
           stuck_only = λ here. inr (tt, ap (λ (p : Ports). p.served port) ports_are ∙ chosen_is its_served four port here);
         }
@@ -257,27 +257,27 @@ module _ (laws : PrerequisiteLaws) (s new : ServerState) (b : ServerInvariant s)
       probes_disk = tt;
       boots_anew = tt;
       loses_no_error = record {
-        errors = λ ready shown. inl (inr (stuck_named port (was_served port (laws.basic.ready_served old.abstract.ports port fit ready).0)));
-        changes = λ tends shown. inl (inr (stuck_named port (was_served port tends.0)));
-        fault = λ ready. absurd (never_ready n dead port.0 ready);
-        fatal = λ ready. absurd (never_ready n dead port.0 ready);
-        disk = λ ready. absurd (never_ready n dead port.0 ready);
+        errors_are_handled_or_shown = λ ready shown. inl (inr (stuck_named port (was_served port (laws.steps_and_accesses.ready_ports_are_served old.abstract.ports port fit ready).0)));
+        changes_are_handled_or_shown = λ tends shown. inl (inr (stuck_named port (was_served port tends.0)));
+        new_fault_is_shown = λ ready. absurd (never_ready n dead port.0 ready);
+        new_fatal_is_shown = λ ready. absurd (never_ready n dead port.0 ready);
+        new_plug_event_is_shown = λ ready. absurd (never_ready n dead port.0 ready);
       };
       runs_well_anew = λ i ready. absurd (never_ready n dead port.0 ready);
       handles_evidence = tt;
     }
 
-    event : (h : JointEvent Device DeviceStep) × (h.event.ask ≡ Reset) × (h.event.said ≡ WasReset None) × LeadsToServer first (h ∷ past) n
+    event : (h : JointEvent Device DeviceStep) × (h.event.call ≡ Reset) × (h.event.result ≡ WasReset None) × LeadsToServer first (h ∷ past) n
     event =
-        let f = follows old.abstract.machine (laws.basic.history_reached s.wanted first past leads.history) leads.stands.machine_stands_for_it in
-        lead_with laws first past s n Reset (WasReset None) evidence f.steps refl leads (holds_off n stalled.server_invariant dead off) (dead_fit n dead stalled.server_invariant.few_are_served)
+        let f = follows old.abstract.machine (laws.steps_and_accesses.history_machine_is_reachable s.wanted first past leads.history) leads.state_is_at_history_end.machine_stands_for_it in
+        lead_with laws first past s n Reset (WasReset None) evidence f.steps refl leads (holds_off n stalled.server_invariant dead off) (dead_fit n dead stalled.server_invariant.served_are_below_4)
         f.may (devices_belong {D = DeviceStep} Reset (ports_of n) f.steps f.only) (devices_last f.steps f.only) (devices_lawful old.abstract evidence (ports_of n) f.steps f.only)
         (λ e o here there same. same_disk e.request.port)
         (f.only, gets_stuck)
         tt
         its_accesses
-        (g.stays.followed.is_driven.all_are_done, g.stays.awaited)
-        (record { faults = λ told here. absurd (no_fault told here); port = evidenced_port })
+        (g.reset_stays_pending.followed.is_driven.all_are_done, g.reset_stays_pending.awaited)
+        (record { faults_are_told = λ told here. absurd (no_fault told here); each_port_is_evidenced = evidenced_port })
         (λ port ready. absurd (never_ready n dead port.0 ready))
         (part f.steps)
         f.backed

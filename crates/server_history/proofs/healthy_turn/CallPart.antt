@@ -16,15 +16,15 @@ use Rattle.ata_types.specs.declared.request.RequestId.{RequestId}
 use Rattle.adapter.specs.declared.access.DeviceStep.{DeviceStep}
 use Rattle.adapter.specs.declared.command.Operation.TheVariants.{ReadLog}
 use Rattle.refinement.specs.Fragments.{GainsNoMove}
-use Rattle.refinement.specs.Driver.{IsBacked}
-use Rattle.block_machine.specs.Events.{AllByDevice, AllAnswersLawful, AllEnabled, AreStepsOfCall, IsByDevice, IsLawfulAnswer, IssuesLast, IsToldBefore, AbstractState, Served, Service, RepliesMatch, answers_of, issues_id}
+use Rattle.refinement.specs.Driver.{TapeBacksSteps}
+use Rattle.block_machine.specs.Events.{AllByDevice, AnswersAndWaitsLawful, AllEnabled, AreStepsOfCall, IsByDevice, IsLawfulAnswer, IssueIsLastOfRequest, IsToldBefore, AbstractState, Replied, Service, RepliesMatch, answers_of, issues_id}
 use Rattle.block_machine.specs.Histories.{IsReachable}
 use Rattle.block_machine.specs.Expected.{after}
 use Rattle.block_machine.specs.Ports.{Evidence, IsServiced, Ports, SamePort}
 use Rattle.block_machine.specs.State.{Machine, Pending}
 use Rattle.block_machine.specs.Steps.{Step, WaitAgain, Answer, Issue}
 use Rattle.block_machine.specs.declared.due.QueueMode.{QueueMode}
-use Rattle.driver_history.specs.EvidenceHandling.{OnlyFailedPortsRequeue}
+use Rattle.driver_history.specs.EvidenceHandling.{OnlyFailedPortsRequeueOrFault}
 use Rattle.driver_history.specs.Evidence.{IsEvidencedOf}
 use Rattle.driver_history.specs.Histories.{IssuesDue}
 use Rattle.host_boot.specs.TakeOver.{probe_result_of}
@@ -32,9 +32,9 @@ use Rattle.port_control.specs.declared.events.PortEvent.TheVariants.{NoEvent}
 use Rattle.request_queue.specs.BookEntries.{BookEntry, IsEarlier}
 use Rattle.slots.specs.declared.SlotUse.{SlotUse}
 use Rattle.server_history.specs.Prerequisites.{PrerequisiteLaws}
-use Rattle.server_history.specs.IssuingAndAnswering.{StepsAnswer, TurnAnswers, HasEnded, HasTurnWithoutError, IsAnsweredIn, AllByDeviceOrIssue, SameSettings, ok_answers_of}
+use Rattle.server_history.specs.IssuingAndAnswering.{StepsAnswer, TurnAnswers, HasEnded, PollsInTurnWithoutEvent, IsAnsweredIn, AllByDeviceOrIssue, SameButDeviceLoansSlotsBook, ok_answers_of}
 use Rattle.server_history.specs.ServerState.{ServerState, MachineRelation, SettledInvariant, mode_in, ports_of, remembered_at, slots_at, state_of, used_for}
-use Rattle.server_history.specs.Turns.{InService, ServicesPort, IsOfTurn, LeavesOthers, SimulatesTurn, NamesOnly, joint_state_of, abstract_state_of}
+use Rattle.server_history.specs.Turns.{ServingReady, ServicesPort, IsTurnOrDeviceStep, LeavesOthers, SimulatesTurn, PortListsNameOnly, joint_state_of, abstract_state_of}
 use Rattle.server_history.proofs.state.AnswerSteps.{answered_in, ended_stood, issuing_answers, may_parts, no_answer, no_answer_issuing, told_so, with_ok}
 use Rattle.server_history.proofs.state.TurnAccesses.{TurnList, turn_list}
 use Rattle.server_history.proofs.healthy_turn.AnswersAndIssues.{turn_apart, turn_settings, turn_slots}
@@ -49,9 +49,9 @@ pub record AddsTurn (port : Port) (replies : List Reply) (old new : ServerState)
   pub steps : List Step
   pub may : AllEnabled m steps
   pub stands : MachineRelation new (after m steps)
-  pub backed : IsBacked old.device new.device m steps
+  pub backed : TapeBacksSteps old.device new.device m steps
   pub answers : StepsAnswer (mode_in old port) port replies steps
-  pub last : IssuesLast steps
+  pub last : IssueIsLastOfRequest steps
   pub issues : IssuesDue (mode_in old port) steps (after m steps) port
 
 -- ---- its steps
@@ -83,24 +83,24 @@ of_turn : (P : List Step → Type 0) (mode : QueueMode) (port : Port) (replies :
 of_turn P mode port replies steps b none device answer issue =
     subst P (sym b.steps_are) (issues_all P mode port device issue b.later (ok_answers_of b.ended ++ b.before) b.others_come_last (answers_all P b.ended b.before answer (devices_all P device none b.before b.device_steps_come_first)))
 
-pub device_own : (port : Port) (step : Step) → IsByDevice step → IsOfTurn port step
+pub device_own : (port : Port) (step : Step) → IsByDevice step → IsTurnOrDeviceStep port step
 device_own port (Issue mode e) is = absurd is
 device_own port (WaitAgain e) is = absurd is
 device_own port (Answer e o) is = absurd is
 device_own port step is = is
 
-device_lawful : (old : AbstractState) (evidence : Evidence) (ports : Ports) (step : Step) (base : List Step) → IsByDevice step → AllAnswersLawful old evidence ports base → AllAnswersLawful old evidence ports (step ∷ base)
+device_lawful : (old : AbstractState) (evidence : Evidence) (ports : Ports) (step : Step) (base : List Step) → IsByDevice step → AnswersAndWaitsLawful old evidence ports base → AnswersAndWaitsLawful old evidence ports (step ∷ base)
 device_lawful old evidence ports (WaitAgain e) base is l = absurd is
 device_lawful old evidence ports (Answer e o) base is l = absurd is
 device_lawful old evidence ports step base is l = l
 
-pub device_grounded : (evidence : Evidence) (step : Step) (base : List Step) → IsByDevice step → OnlyFailedPortsRequeue evidence base → OnlyFailedPortsRequeue evidence (step ∷ base)
+pub device_grounded : (evidence : Evidence) (step : Step) (base : List Step) → IsByDevice step → OnlyFailedPortsRequeueOrFault evidence base → OnlyFailedPortsRequeueOrFault evidence (step ∷ base)
 device_grounded evidence (WaitAgain e) base is g = absurd is
 device_grounded evidence (Answer e o) base is g = absurd is
 device_grounded evidence step base is g = g
 
 -- steps that issue nothing
-pub none_last : (steps : List Step) → ((id : RequestId) → list_any (issues_id id) steps ≡ false) → IssuesLast steps
+pub none_last : (steps : List Step) → ((id : RequestId) → list_any (issues_id id) steps ≡ false) → IssueIsLastOfRequest steps
 none_last [] none = tt
 none_last (step ∷ steps) none = (none_last steps rest, λ id h i. false≢true (sym (rest id) ∙ i))
   where
@@ -143,19 +143,19 @@ told_ordered port (e ∷ requests) (p ∷ ended) each order =
     first : All (λ q. IsToldBefore (with_ok p) (with_ok q)) ended
     first k d small =
         let x = at_right (HasEnded port) requests ended each.1 _ (All-contains_itself ended k d small) in
-        let lt : e.entry.id.0 < x.0.entry.id.0 = All-contains (IsEarlier e) requests x.0 (first_ordered IsEarlier e requests order) x.1 in
+        let lt : e.request.id.0 < x.0.request.id.0 = All-contains (IsEarlier e) requests x.0 (first_ordered IsEarlier e requests order) x.1 in
         let a = ap (λ (i : RequestId). i.0) each.0.entry.id in
         let b = ap (λ (i : RequestId). i.0) x.2.entry.id in
         inr (each.0.entry.port ∙ each.0.port_is ∙ sym (x.2.entry.port ∙ x.2.port_is), omega (arith, lt, a, b))
 
 -- ---- the whole
 
-module _ (laws : PrerequisiteLaws) (port : Port) (replies : List Reply) (old new : ServerState) (t : SettledInvariant old) (ready : state_of (probe_result_of old.ports port.0) ≡ ReadyState)
-    (turn : HasTurnWithoutError port (slots_at old.slots port.0) replies old.device new.device) (told : TurnAnswers port replies old new turn) where
+module _ (laws : PrerequisiteLaws) (port : Port) (replies : List Reply) (old new : ServerState) (t : SettledInvariant old) (ready : state_of (probe_result_of old.probe_results port.0) ≡ ReadyState)
+    (turn : PollsInTurnWithoutEvent port (slots_at old.slots port.0) replies old.device new.device) (told : TurnAnswers port replies old new turn) where
   low : port.0 < 4
   low = (ready_found old port.0 t.in_call_invariant ready).0
 
-  same : SameSettings old new
+  same : SameButDeviceLoansSlotsBook old new
   same = turn_settings laws port replies old new turn told
 
   ports_same : ports_of new ≡ ports_of old
@@ -173,11 +173,11 @@ module _ (laws : PrerequisiteLaws) (port : Port) (replies : List Reply) (old new
     grants = ap (λ (n : ServerState). n.grants) same;
     wanted = ap (λ (n : ServerState). n.wanted) same;
     last_id = ap (λ (n : ServerState). n.last_id) same;
-    found = λ q ne. ap (λ (n : ServerState). probe_result_of n.ports q) same;
-    remembered = λ q ne. ap (λ (n : ServerState). remembered_at n.remembered q) same;
-    modes = λ q ne. ap (λ (n : ServerState). mode_in n (record { 0 = q })) same;
-    slots = λ q ne. turn_slots laws port replies old new turn told q ne;
-    book = λ q ne. turn_apart laws port replies old new turn t.in_call_invariant.book_is_in_order told q ne;
+    other_probe_results_are_same = λ q ne. ap (λ (n : ServerState). probe_result_of n.probe_results q) same;
+    other_remembered_are_same = λ q ne. ap (λ (n : ServerState). remembered_at n.remembered q) same;
+    other_modes_are_same = λ q ne. ap (λ (n : ServerState). mode_in n (record { 0 = q })) same;
+    other_slots_are_same = λ q ne. turn_slots laws port replies old new turn told q ne;
+    others_requests_are_same = λ q ne. turn_apart laws port replies old new turn t.in_call_invariant.book_is_well_formed told q ne;
   }
 
   port_same : SamePort (ports_of old) (ports_of new) port
@@ -186,12 +186,12 @@ module _ (laws : PrerequisiteLaws) (port : Port) (replies : List Reply) (old new
   mode_same : mode_in new port ≡ mode_in old port
   mode_same = ap (λ (n : ServerState). mode_in n port) same
 
-  names : NamesOnly port its
+  names : PortListsNameOnly port its
   names = record {
     lost = All-nil (λ q. q ≡ port);
     link_changed = All-nil (λ q. q ≡ port);
-    failed = All-nil (λ q. q ≡ port);
-    fatal = All-nil (λ q. q ≡ port);
+    showing_error = All-nil (λ q. q ≡ port);
+    showing_fatal_error = All-nil (λ q. q ≡ port);
     stopped = All-nil (λ q. q ≡ port);
     stuck = All-nil (λ q. q ≡ port);
   }
@@ -219,11 +219,11 @@ module _ (laws : PrerequisiteLaws) (port : Port) (replies : List Reply) (old new
     ended_port : (e : Pending) → Contains b.ended e → e.request.port ≡ port
     ended_port e here = let y = ended_by e here in y.2.entry.port ∙ y.2.port_is
 
-    own : All (IsOfTurn port) x.steps
-    own = all_steps (All (IsOfTurn port)) (All-nil (IsOfTurn port))
-        (λ step base device rest. All-cons (IsOfTurn port) step base (device_own port step device) rest)
-        (λ e base here rest. All-cons (IsOfTurn port) (Answer e Ok) base (ended_port e here) rest)
-        (λ e base its_port rest. All-cons (IsOfTurn port) (Issue mode e) base its_port rest)
+    own : All (IsTurnOrDeviceStep port) x.steps
+    own = all_steps (All (IsTurnOrDeviceStep port)) (All-nil (IsTurnOrDeviceStep port))
+        (λ step base device rest. All-cons (IsTurnOrDeviceStep port) step base (device_own port step device) rest)
+        (λ e base here rest. All-cons (IsTurnOrDeviceStep port) (Answer e Ok) base (ended_port e here) rest)
+        (λ e base its_port rest. All-cons (IsTurnOrDeviceStep port) (Issue mode e) base its_port rest)
 
     belong : AreStepsOfCall {D = DeviceStep} Service (ports_of new) x.steps
     belong = all_steps (AreStepsOfCall {D = DeviceStep} Service (ports_of new)) tt
@@ -238,14 +238,14 @@ module _ (laws : PrerequisiteLaws) (port : Port) (replies : List Reply) (old new
     ok_lawful : (e : Pending) → Contains b.ended e → IsLawfulAnswer began its (ports_of new) e Ok
     ok_lawful e here =
         let y = ended_by e here in
-        let l = laws.basic.found_before m.book (after m b.before).book e (laws.basic.spares m b.before b.device_steps_come_first).book (ended_stood laws (after m b.before) b.ended early_may.1 e here) in
+        let l = laws.steps_and_accesses.found_before m.book (after m b.before).book e (laws.steps_and_accesses.device_steps_spare_book m b.before b.device_steps_come_first).book (ended_stood laws (after m b.before) b.ended early_may.1 e here) in
         (record { pending = l.0; is_in_book = l.1; id_is = ap (λ r. r.id) (sym l.2.request); issued = sym l.2.issued ∙ y.2.issued }, y.2.issued, y.2.touched, y.2.ended)
 
-    lawful : AllAnswersLawful began its (ports_of new) x.steps
-    lawful = all_steps (AllAnswersLawful began its (ports_of new)) tt (device_lawful began its (ports_of new)) (λ e base here rest. (rest, ok_lawful e here)) (λ e base its_port rest. rest)
+    lawful : AnswersAndWaitsLawful began its (ports_of new) x.steps
+    lawful = all_steps (AnswersAndWaitsLawful began its (ports_of new)) tt (device_lawful began its (ports_of new)) (λ e base here rest. (rest, ok_lawful e here)) (λ e base its_port rest. rest)
 
-    grounded : OnlyFailedPortsRequeue its x.steps
-    grounded = all_steps (OnlyFailedPortsRequeue its) tt (device_grounded its) (λ e base here rest. rest) (λ e base its_port rest. rest)
+    grounded : OnlyFailedPortsRequeueOrFault its x.steps
+    grounded = all_steps (OnlyFailedPortsRequeueOrFault its) tt (device_grounded its) (λ e base here rest. rest) (λ e base its_port rest. rest)
 
     -- each answer is one of these
     only_ok : (e : Pending) (o : Outcome) → Contains x.steps (Answer e o) → Contains b.ended e × (o ≡ Ok)
@@ -267,7 +267,7 @@ module _ (laws : PrerequisiteLaws) (port : Port) (replies : List Reply) (old new
           (subst (λ (list : List (Pending × Outcome)). IsPermutation list (answers_of (ok_answers_of b.ended ++ b.before))) (ap (λ (none : List (Pending × Outcome)). map with_ok b.ended ++ none) (devices_answers b.before b.device_steps_come_first) ∙ append-nil (map with_ok b.ended))
           (answered_permuted b.ended b.before));
       ordered = told_ordered port b.requests b.ended b.each_has_ended b.ordered;
-      replies_are = b.replies_are ∙ told_so port b.requests b.ended b.each_has_ended;
+      replies_are_of_answers = b.replies_are ∙ told_so port b.requests b.ended b.each_has_ended;
     }
 
     becomes : IsServiced (ports_of old) its (ports_of new) port
@@ -275,30 +275,30 @@ module _ (laws : PrerequisiteLaws) (port : Port) (replies : List Reply) (old new
       λ dead. port_same,
       λ lives. (
         record {
-          served_is_kept = port_same.0;
+          served_is_unchanged = port_same.0;
           dead_is_stuck = (λ dead. absurd (lives (sym port_same.1 ∙ dead)), λ stuck. absurd (nowhere port stuck));
-          disk_is_kept = λ _. (port_same.2, port_same.3);
+          disk_is_remembered = λ _. (port_same.2, port_same.3);
         },
         inl port_same,
       ),
     )
 
     -- no trouble was shown
-    evidenced : IsEvidencedOf Service (Served replies) list.driven.accesses (joint_state_of old m) (ports_of new) new.device its port
+    evidenced : IsEvidencedOf Service (Replied replies) list.driven.accesses (joint_state_of old m) (ports_of new) new.device its port
     evidenced = record {
-      lost = λ here. absurd (nowhere port here);
+      lost_only = λ here. absurd (nowhere port here);
       link_changed_all = λ _ loss. absurd (never_lost laws port replies old new t ready turn list port_same m reached is x.steps x.may b answered loss);
       link_changed_only = λ here. absurd (nowhere port here);
-      failed_all = λ _ failure. absurd (unfailing laws port replies old new t ready turn list port_same m reached is x.steps x.may b answered failure);
-      failed_only = λ here. absurd (nowhere port here);
-      fatal_all = λ _ fatal. absurd (unfailing laws port replies old new t ready turn list port_same m reached is x.steps x.may b answered (inl fatal));
-      fatal_only = λ here. absurd (nowhere port here);
-      stopped_all = inl list.leaves;
+      showing_error_all = λ _ failure. absurd (unfailing laws port replies old new t ready turn list port_same m reached is x.steps x.may b answered failure);
+      showing_error_only = λ here. absurd (nowhere port here);
+      showing_fatal_error_all = λ _ fatal. absurd (unfailing laws port replies old new t ready turn list port_same m reached is x.steps x.may b answered (inl fatal));
+      showing_fatal_error_only = λ here. absurd (nowhere port here);
+      engine_is_left_or_stopped = inl list.leaves;
       stopped_only = λ here. absurd (nowhere port here);
       stuck_only = λ here. absurd (nowhere port here);
     }
 
-    makes : SimulatesTurn InService port replies list.driven.accesses old new m
+    makes : SimulatesTurn ServingReady port replies list.driven.accesses old new m
     makes = record {
       steps = x.steps;
       evidence = its;
@@ -312,13 +312,13 @@ module _ (laws : PrerequisiteLaws) (port : Port) (replies : List Reply) (old new
       answers_are_lawful = lawful;
       meets_turn_duty = grounded;
       replies_match = tells;
-      answers_all_unplugged = record { none_is_left = λ e other here. absurd (never_unplugged e here); none_is_told_dead = λ e other here. absurd (never_unplugged e here) };
+      unplugged_empties_port = record { none_is_left = λ e other here. absurd (never_unplugged e here); none_is_told_dead = λ e other here. absurd (never_unplugged e here) };
       port_is_serviced = becomes;
       shown_disk_was_in_or_came = inl port_same;
-      disk_is_kept_or_none_waits = inl (port_same.2, port_same.3);
+      same_disk_or_none_unanswered = inl (port_same.2, port_same.3);
       issues_due = λ _. subst (λ (kind : QueueMode). IssuesDue kind x.steps (after m x.steps) port) (sym mode_same) x.issues;
       is_evidenced = evidenced;
-      faults = λ told here. absurd (nowhere told here);
+      faults_are_told = λ told here. absurd (nowhere told here);
       turn_corresponds = ties laws port replies old new t ready turn list port_same m reached is x.steps x.may b answered x.backed;
       finds_done = λ _. finds laws port replies old new t ready turn list port_same m reached is x.steps x.may b answered;
     }
@@ -326,7 +326,7 @@ module _ (laws : PrerequisiteLaws) (port : Port) (replies : List Reply) (old new
   module _ (adds : (m : Machine) → IsReachable m → MachineRelation old m → AddsTurn port replies old new m)
       (answered : turn.look ≡ NoEvent → (slot : ℕ) (used : SlotUse) → slot < 32 → used_for old.slots port.0 slot ≡ Some used
       → (old.device.port port.0).ci slot ≡ false → (old.device.port port.0).sact slot ≡ false → IsAnsweredIn used.id replies)
-      (silent : (q : ℕ) → state_of (probe_result_of old.ports q) ≢ Dead → GainsNoMove q ReadLog old.device new.device) where
+      (silent : (q : ℕ) → state_of (probe_result_of old.probe_results q) ≢ Dead → GainsNoMove q ReadLog old.device new.device) where
     pub serves : ServicesPort port replies old new
     serves = record {
       does_turn = inl (turn, told);

@@ -16,7 +16,7 @@ use Rattle.hba_regs.specs.declared.reg.PortReg.TheVariants.{Ci, Sact}
 use Rattle.adapter.specs.Access.{Reads}
 use Rattle.adapter.specs.Device.{Device}
 use Rattle.refinement.specs.Fragments.{TapeGrows, IsDrivenBy}
-use Rattle.refinement.specs.Driver.{IsBacked}
+use Rattle.refinement.specs.Driver.{TapeBacksSteps}
 use Rattle.refinement.specs.Slots.{IsEmptySlot, RelatesSlot, Serves, ServesRequest, IsInSomeStage, SlotState}
 use Rattle.block_machine.specs.Events.{AllEnabled, AnswersEnded, changes_disk}
 use Rattle.block_machine.specs.Histories.{IsReachable}
@@ -28,17 +28,17 @@ use Rattle.block_machine.specs.declared.due.QueueMode.{QueueMode}
 use Rattle.server_history.proofs.state.ListMembers.{into_map, map_in}
 use Rattle.driver_history.specs.EvidenceHandling.{ServicesReadyPort, tells_fault}
 use Rattle.driver_history.specs.Evidence.{ShowsFailure, ShowsLoss}
-use Rattle.driver_history.specs.Histories.{FindsDone, HasUnservedDisk, IsAnsweredOk, IsIssuedOn}
-use Rattle.driver_history.specs.AccessTrace.{ReadsCiAndSact}
+use Rattle.driver_history.specs.Histories.{FindsDone, IsForeignOrUnfit, IsAnsweredOk, IsIssuedOn}
+use Rattle.driver_history.specs.AccessTrace.{ReadsMasksBeforeCmdWrite}
 use Rattle.host_boot.specs.TakeOver.{probe_result_of}
 use Rattle.port_control.specs.PortEvents.{IsEventAccess}
 use Rattle.port_control.specs.declared.events.PortEvent.TheVariants.{LinkChanged, NoEvent}
 use Rattle.slots.specs.declared.SlotUse.{SlotUse}
 use Rattle.server_history.specs.Prerequisites.{PrerequisiteLaws}
-use Rattle.server_history.specs.IssuingAndAnswering.{StepsAnswer, PollsSlots, HasEnded, HasTurnWithoutError, IsAnsweredIn, IsMaskOf, ok_answers_of, done_reply, is_used}
+use Rattle.server_history.specs.IssuingAndAnswering.{StepsAnswer, PollsSlots, HasEnded, PollsInTurnWithoutEvent, IsAnsweredIn, IsMaskOf, ok_answers_of, done_reply, is_used}
 use Rattle.server_history.proofs.any_turn.TurnSteps.{counts_none}
 use Rattle.server_history.proofs.any_turn.UnusedSlotBits.{unused_clear}
-use Rattle.server_history.specs.Turns.{FindsDoneInTurn, InService, TurnCorresponds, joint_state_of, abstract_state_of}
+use Rattle.server_history.specs.Turns.{FindsDoneInTurn, ServingReady, TurnCorresponds, joint_state_of, abstract_state_of}
 use Rattle.server_history.specs.ServerState.{ServerState, InCallInvariant, MachineRelation, SettledInvariant, mode_in, ports_of, slots_at, state_of, used_for}
 use Rattle.server_history.proofs.state.AnswerSteps.{answered_in, ended_stood, in_answered, may_parts, no_answer, no_answer_issuing}
 use Rattle.server_history.proofs.state.TurnAccesses.{TurnList, look_does, look_list}
@@ -63,8 +63,8 @@ tells_none q (step ∷ steps) told = tells_none q steps (λ x o here. told x o (
 
 -- ---- a turn
 
-module _ (laws : PrerequisiteLaws) (port : Port) (replies : List Reply) (old new : ServerState) (t : SettledInvariant old) (ready : state_of (probe_result_of old.ports port.0) ≡ ReadyState)
-    (turn : HasTurnWithoutError port (slots_at old.slots port.0) replies old.device new.device) (list : TurnList port (slots_at old.slots port.0) replies old.device new.device turn)
+module _ (laws : PrerequisiteLaws) (port : Port) (replies : List Reply) (old new : ServerState) (t : SettledInvariant old) (ready : state_of (probe_result_of old.probe_results port.0) ≡ ReadyState)
+    (turn : PollsInTurnWithoutEvent port (slots_at old.slots port.0) replies old.device new.device) (list : TurnList port (slots_at old.slots port.0) replies old.device new.device turn)
     (same : SamePort (ports_of old) (ports_of new) port) (m : Machine) (reached : IsReachable m) (at : MachineRelation old m) (steps : List Step) (may : AllEnabled m steps)
     (b : StepsAnswer (mode_in old port) port replies steps)
     (answered : turn.look ≡ NoEvent → (slot : ℕ) (used : SlotUse) → slot < 32 → used_for old.slots port.0 slot ≡ Some used
@@ -84,7 +84,7 @@ module _ (laws : PrerequisiteLaws) (port : Port) (replies : List Reply) (old new
   takes = mode_in old port
 
   one_of : (e y : Pending) → Contains m.book e → Contains m.book y → e.request.id.0 ≡ y.request.id.0 → e ≡ y
-  one_of e y here there is = laws.basic.one m reached e y here there is
+  one_of e y here there is = laws.steps_and_accesses.an_id_is_one_request m reached e y here there is
 
   -- who is answered in the turn is one of these
   turn_ended : (e : Pending) (o : Outcome) → Contains steps (Answer e o) → Contains b.ended e × (o ≡ Ok)
@@ -101,7 +101,7 @@ module _ (laws : PrerequisiteLaws) (port : Port) (replies : List Reply) (old new
 
   -- one that had ended was issued
   ended_on : (e : Pending) → Contains m.book e → e.request.port ≡ port → e.ended ≡ true → IsIssuedOn port m e
-  ended_on e there own ended = record { is_in_book = there; port_is = own; issued = laws.basic.ended_issued m e reached there ended }
+  ended_on e there own ended = record { is_in_book = there; port_is = own; issued = laws.steps_and_accesses.ended_is_issued m e reached there ended }
 
   -- and its command's bits are clear
   ended_clear : (e : Pending) → (own : IsIssuedOn port m e) → e.ended ≡ true → ((old.device.port port.0).ci (has_slot e own).slot ≡ false) × ((old.device.port port.0).sact (has_slot e own).slot ≡ false)
@@ -109,7 +109,7 @@ module _ (laws : PrerequisiteLaws) (port : Port) (replies : List Reply) (old new
       let h = has_slot e own in
       let slot : at.uses port.0 h.slot ≡ Serves e.request.id = serves_used old m port.0 at ready h.slot h.used h.used_is ∙ ap Serves h.id_is in
       let clear = laws.slots.ended_clear at.uses m old.device port h.slot e reached at.driver_relation.state_relation (inl (own.is_in_book, own.issued)) ended slot in
-      (clear.0.over.issued, clear.0.sact)
+      (clear.0.over.is_not_issued, clear.0.sact_is_clear)
 
   early_may : AllEnabled m b.before × AllEnabled (after m b.before) (ok_answers_of b.ended)
   early_may = may_parts laws m (ok_answers_of b.ended) b.before (may_parts laws m b.later (ok_answers_of b.ended ++ b.before) (subst (AllEnabled m) b.steps_are may)).0
@@ -122,7 +122,7 @@ module _ (laws : PrerequisiteLaws) (port : Port) (replies : List Reply) (old new
         let d = at_left (HasEnded port) b.requests b.ended b.each_has_ended r.0 r.1 in
         let id_is : d.0.request.id ≡ e.request.id = d.2.entry.id ∙ sym (ap (λ (y : Reply). y.id) r.2) ∙ told.2 ∙ (has_slot e own).id_is in
         let w = ended_stood laws (after m b.before) b.ended early_may.1 d.0 d.1 in
-        let l = laws.basic.found_before m.book (after m b.before).book d.0 (laws.basic.spares m b.before b.device_steps_come_first).book w in
+        let l = laws.steps_and_accesses.found_before m.book (after m b.before).book d.0 (laws.steps_and_accesses.device_steps_spare_book m b.before b.device_steps_come_first).book w in
         let one : e ≡ l.0 = one_of e l.0 own.is_in_book l.1 (ap (λ (i : RequestId). i.0) (sym id_is ∙ ap (λ r. r.id) l.2.request)) in (
           d.0,
           l.2.request ∙ ap (λ (y : Pending). y.request) (sym one),
@@ -153,17 +153,17 @@ module _ (laws : PrerequisiteLaws) (port : Port) (replies : List Reply) (old new
 
     module _ (e : Pending) (leads : IsIssuedOn port m e) where
       read : (mask : ℕ) × IsMaskOf (slots_at old.slots port.0) mask
-          × ((c : PollsSlots port (slots_at old.slots port.0) mask replies turn.seen new.device) × ReadsCiAndSact port c.reads.issued c.reads.active list.driven.accesses)
+          × ((c : PollsSlots port (slots_at old.slots port.0) mask replies turn.device_after_look new.device) × ReadsMasksBeforeCmdWrite port c.reads.issued c.reads.active list.driven.accesses)
       read = let h = has_slot e leads in list.masks calm (h.slot, h.small, ap is_used h.used_is)
 
-      abbrev k : PollsSlots port (slots_at old.slots port.0) read.0 replies turn.seen new.device
+      abbrev k : PollsSlots port (slots_at old.slots port.0) read.0 replies turn.device_after_look new.device
       k = read.2.0
 
-      looks : IsDrivenBy (IsEventAccess port) old.device turn.seen
-      looks = laws.looking.looks_driven port turn.look old.device turn.seen turn.looks
+      looks : IsDrivenBy (IsEventAccess port) old.device turn.device_after_look
+      looks = laws.look_laws.look_is_driven_by_its_accesses port turn.look old.device turn.device_after_look turn.takes_event
 
-      masks_read : (mid : Device) × Reads (Px port Ci) k.reads.issued turn.seen mid × Reads (Px port Sact) k.reads.active mid k.read
-      masks_read = both_read port read.0 k.done turn.seen k.read k.reads
+      masks_read : (mid : Device) × Reads (Px port Ci) k.reads.issued turn.device_after_look mid × Reads (Px port Sact) k.reads.active mid k.device_after_read
+      masks_read = both_read port read.0 k.done turn.device_after_look k.device_after_read k.reads
 
       abbrev AreClear : ℕ → Type 0
       AreClear slot = (bit k.reads.issued slot ≡ false) × (bit k.reads.active slot ≡ false)
@@ -182,11 +182,11 @@ module _ (laws : PrerequisiteLaws) (port : Port) (replies : List Reply) (old new
         at_slot : IsAnsweredOk other steps ↔ AreClear h.slot
         at_slot = (
           (λ ok.
-              let done = (k.exact h.slot h.used h.small h.used_is).1 (answered_told other own ok) in
+              let done = (k.answered_iff_done h.slot h.used h.small h.used_is).1 (answered_told other own ok) in
               let both = and_parts (not (bit k.reads.issued h.slot)) (not (bit k.reads.active h.slot)) (sym tells ∙ done) in
               (not_true (bit k.reads.issued h.slot) both.0, not_true (bit k.reads.active h.slot) both.1)),
           (λ clear.
-              told_answered other own ((k.exact h.slot h.used h.small h.used_is).0
+              told_answered other own ((k.answered_iff_done h.slot h.used h.small h.used_is).0
               (tells ∙ and_from (not (bit k.reads.issued h.slot)) (not (bit k.reads.active h.slot)) (ap not clear.0) (ap not clear.1)))),
         )
 
@@ -198,7 +198,7 @@ module _ (laws : PrerequisiteLaws) (port : Port) (replies : List Reply) (old new
               let same : other.request.id ≡ y.0.id = one_said laws old kept m at port.0 slot y.0 other.request.id ready y.1 says in
               let there = serves_used old m port.0 at ready slot y.0 y.1 ∙ ap Serves (sym same) in
               let here = serves_used old m port.0 at ready h.slot h.used h.used_is ∙ ap Serves h.id_is in
-              absurd (apart (at.driver_relation.state_relation.serve_apart port.0 slot port.0 h.slot other.request.id there here).1))
+              absurd (apart (at.driver_relation.state_relation.serve_distinct_requests port.0 slot port.0 h.slot other.request.id there here).1))
               (λ none. none)
               (used_or_not (used_for old.slots port.0 slot))
 
@@ -212,14 +212,14 @@ module _ (laws : PrerequisiteLaws) (port : Port) (replies : List Reply) (old new
               its_pending = one_of says.pending other (still_booked old m port.0 at ready says.pending says.may_still_move says.port_is).0 own.is_in_book (ap (λ (i : RequestId). i.0) says.id_is)
 
               by : IsInSomeStage old.device.memory (old.device.port port.0) port.0 slot says.pending says.command says.places → says.pending.ended ≡ true
-              by (inl waits) = absurd (false≢true (sym free.issued ∙ waits.issued))
-              by (inr (inl taken)) = let z : None ≡ Some taken.command = sym free.free ∙ taken.taken in absurd cc
+              by (inl waits) = absurd (false≢true (sym free.is_not_issued ∙ waits.issued))
+              by (inr (inl taken)) = let z : None ≡ Some taken.command = sym free.is_not_taken ∙ taken.taken in absurd cc
               by (inr (inr (inl ended))) = ended.ended
-              by (inr (inr (inr dropped))) = absurd (false≢true (sym dropped.stopped ∙ ((kept.port_invariant port.0 low).engine_runs ready).st))
+              by (inr (inr (inr dropped))) = absurd (false≢true (sym dropped.st_is_clear ∙ ((kept.port_invariant port.0 low).ready_engine_runs ready).st_is_set))
 
           clear_there : AreClear slot
-          clear_there = both_clear laws port slot k.reads.issued k.reads.active old.device turn.seen masks_read.0 k.read says.list_is_in_place.slot_below looks masks_read.1 masks_read.2
-              (record { issued = free.issued; free = free.free }) free.unarmed
+          clear_there = both_clear laws port slot k.reads.issued k.reads.active old.device turn.device_after_look masks_read.0 k.device_after_read says.list_is_in_place.slot_below looks masks_read.1 masks_read.2
+              (record { is_not_issued = free.is_not_issued; is_not_taken = free.is_not_taken }) free.unarmed
 
           apart_too : IsAnsweredOk other steps ↔ AreClear slot
           apart_too = (
@@ -232,7 +232,7 @@ module _ (laws : PrerequisiteLaws) (port : Port) (replies : List Reply) (old new
         ci = k.reads.issued;
         sact = k.reads.active;
         reads = read.2.1;
-        exact = λ other slot own says. ⊎_elim
+        answered_iff_done = λ other slot own says. ⊎_elim
             (λ (same : slot ≡ (has_slot other own).slot). subst (λ (i : ℕ). IsAnsweredOk other steps ↔ AreClear i) (sym same) (at_slot other own))
             (λ (apart : slot ≢ (has_slot other own).slot). apart_too other own slot apart says)
             (cases_eq slot (has_slot other own).slot);
@@ -240,7 +240,7 @@ module _ (laws : PrerequisiteLaws) (port : Port) (replies : List Reply) (old new
 
       found_by_masks : FindsDoneInTurn port list.driven.accesses old m steps
       unfolding finding
-      found_by_masks = record { done = finding; unused = λ slot small none. unused_clear laws old m port.0 at ready turn.seen k.read looks read.0 k.done k.reads slot small none }
+      found_by_masks = record { finds_done = finding; unused_slots_are_clear = λ slot small none. unused_clear laws old m port.0 at ready turn.device_after_look k.device_after_read looks read.0 k.done k.reads slot small none }
 
   -- ---- what is owed to it
 
@@ -248,7 +248,7 @@ module _ (laws : PrerequisiteLaws) (port : Port) (replies : List Reply) (old new
   finds e own = found_by_masks turn.look_is_no_event e own
 
   undue : (old.device.port port.0).link_due ≡ false
-  undue = ((kept.port_invariant port.0 low).engine_runs ready).faults_are_recorded.no_link_is_due
+  undue = ((kept.port_invariant port.0 low).ready_engine_runs ready).faults_are_recorded.no_link_is_due
 
   -- no failure was shown
   pub unfailing : ShowsFailure (old.device.port port.0) → ⊥
@@ -257,21 +257,21 @@ module _ (laws : PrerequisiteLaws) (port : Port) (replies : List Reply) (old new
   not_lost : turn.look ≢ LinkChanged
   not_lost lost = let z : NoEvent ≡ LinkChanged = sym turn.look_is_no_event ∙ lost in cc
 
-  later : TapeGrows turn.seen new.device
-  later = let over = later_driven laws port (slots_at old.slots port.0) replies (joint_state_of old m) new.device turn kept.adapter_is_on turn.look_is_no_event in grows_over laws over.accesses turn.seen new.device over.all_are_done
+  later : TapeGrows turn.device_after_look new.device
+  later = let over = later_driven laws port (slots_at old.slots port.0) replies (joint_state_of old m) new.device turn kept.adapter_is_on turn.look_is_no_event in grows_over laws over.accesses turn.device_after_look new.device over.all_are_done
 
   -- nor was a loss
   pub never_lost : ShowsLoss port old.device new.device → ⊥
   never_lost loss = ⊎_elim
-      (no_change laws port turn.look old.device turn.seen turn.looks kept.adapter_is_on not_lost)
-      (λ (out : _ × _). not_missing laws port turn.look old.device turn.seen turn.looks kept.adapter_is_on not_lost new.device later undue out.0 out.1)
+      (no_change laws port turn.look old.device turn.device_after_look turn.takes_event kept.adapter_is_on not_lost)
+      (λ (out : _ × _). not_missing laws port turn.look old.device turn.device_after_look turn.takes_event kept.adapter_is_on not_lost new.device later undue out.0 out.1)
       loss
 
-  module _ (backed : IsBacked old.device new.device m steps) where
+  module _ (backed : TapeBacksSteps old.device new.device m steps) where
     uninterrupted : IsStoppedOrStuck its port → ⊥
     uninterrupted i = ⊎_elim (nowhere port) (nowhere port) i
 
-    not_bad : HasUnservedDisk (ports_of old) port → ⊥
+    not_bad : IsForeignOrUnfit (ports_of old) port → ⊥
     not_bad (inl foreign) = let z : Foreign ≡ ReadyState = sym foreign ∙ ready in cc
     not_bad (inr (cause, unfit)) = let z : Unfit cause ≡ ReadyState = sym unfit ∙ ready in cc
 
@@ -281,34 +281,34 @@ module _ (laws : PrerequisiteLaws) (port : Port) (replies : List Reply) (old new
     -- the look saw a device, so a disk was in when the turn began, or one came before the look
     had : (m.present port ≡ true) ⊎ (list_any (changes_disk port) steps ≡ true)
     had =
-        let accesses = look_list port turn.looks.causes turn.looks.port_mask turn.looks.status in
-        let does = look_does port turn.look old.device turn.seen turn.looks in
-        had_disk laws port old turn.seen new.device m accesses does
-        (laws.recovery.own_on port.0 accesses old.device turn.seen does ((kept.port_invariant port.0 low).has_disk_if_shown ready) (shows_device laws port old.device turn.seen turn.look turn.looks kept.adapter_is_on not_lost))
+        let accesses = look_list port turn.takes_event.causes turn.takes_event.port_mask turn.takes_event.status in
+        let does = look_does port turn.look old.device turn.device_after_look turn.takes_event in
+        had_disk laws port old turn.device_after_look new.device m accesses does
+        (laws.recovery.shown_disk_stays_in port.0 accesses old.device turn.device_after_look does ((kept.port_invariant port.0 low).ready_has_disk_if_shown ready) (shows_device laws port old.device turn.device_after_look turn.look turn.takes_event kept.adapter_is_on not_lost))
         at later steps backed
 
     serves_ready : ServicesReadyPort (abstract_state_of old m) its steps (record { machine = after m steps; ports = ports_of new }) port
     serves_ready = record {
       answers_ended = heeded turn.look_is_no_event;
-      none_is_left = λ gone. absurd (nowhere port gone);
-      others_are_told_alike = λ gone. absurd (nowhere port gone);
-      is_interrupted = λ port_error. absurd (⊎_elim (nowhere port) (nowhere port) port_error);
-      none_stays_issued = λ port_error. absurd (⊎_elim (nowhere port) (nowhere port) port_error);
+      link_change_leaves_none = λ gone. absurd (nowhere port gone);
+      link_change_tells_alike = λ gone. absurd (nowhere port gone);
+      trouble_interrupts = λ port_error. absurd (⊎_elim (nowhere port) (nowhere port) port_error);
+      trouble_leaves_none_issued = λ port_error. absurd (⊎_elim (nowhere port) (nowhere port) port_error);
       one_fault_at_most = let none = counts_none (tells_fault port) steps (tells_none port steps (λ e o here. (turn_ended e o here).1)) in omega (arith, none);
       fatal_tells_no_fault = λ here. absurd (nowhere port here);
       shown_disk_was_in_or_came = λ shows. had;
       is_left_alone_if_calm = inr (record { port_is_same = same; only_ok_is_told = λ e o here own. inl (turn_ended e o here).1; is_not_interrupted = uninterrupted });
     }
 
-    pub ties : TurnCorresponds InService port replies list.driven.accesses old new m its steps
+    pub ties : TurnCorresponds ServingReady port replies list.driven.accesses old new m its steps
     ties = record {
       finds_done = λ is e own. finding turn.look_is_no_event e own;
       plain_faults_are_told = λ alone. absurd (unfailing (inr alone.shows_only_tfes.tfes_is_set));
       probes_disk = λ served coming. record {
-        shown = λ absent det. absurd (not_absent absent);
-        absent = λ absent det fresh. absurd (not_absent absent);
-        missing = λ bad. absurd (not_bad bad);
-        changed = λ bad. absurd (not_bad bad);
+        absent_with_device_is_booted = λ absent det. absurd (not_absent absent);
+        absent_gets_first_fis = λ absent det fresh. absurd (not_absent absent);
+        missing_disk_makes_absent = λ bad. absurd (not_bad bad);
+        changed_disk_is_booted = λ bad. absurd (not_bad bad);
       };
       boots_anew = (λ is port_error. absurd (⊎_elim (λ fatal. unfailing (inl fatal)) never_lost port_error), inl same);
       loses_no_error = trouble_shown laws port (slots_at old.slots port.0) replies (joint_state_of old m) new.device turn kept.adapter_is_on turn.look_is_no_event its (ports_of new);

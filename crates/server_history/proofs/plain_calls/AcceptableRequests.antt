@@ -28,9 +28,9 @@ use Rattle.block_machine.specs.State as machine
 use Rattle.block_machine.specs.State.{Machine, block_of}
 use Rattle.block_machine.specs.Steps as steps
 use Rattle.block_machine.specs.Steps.{HoldsFrames, MayAccept, Step, newly_accepted}
-use Rattle.dma_frames.specs.FrameTables.{FrameOwnership, owner_of, lent_to, LendsOnly}
+use Rattle.dma_frames.specs.FrameTables.{OwnersAndLoans, owner_of, lent_to, SetsLoanOnly}
 use Rattle.host_boot.specs.TakeOver.{probe_result_of}
-use Rattle.request_queue.specs.BookEntries.{IsAccepted, entry_count_of_client}
+use Rattle.request_queue.specs.BookEntries.{IsWellFormedEntry, entry_count_of_client}
 use Rattle.request_queue.specs.BookRelation.{EntryRelation}
 use Rattle.server_history.specs.IssuingAndAnswering.{accepted_as}
 use Rattle.block_machine.specs.Expected.{IsValidRow, after}
@@ -66,26 +66,26 @@ ready_is Dead twice = absurd (twice (λ e. cc))
 was_granted : FrameHolderLaws → (start : Machine) (history : List Step) (r : machine.Accepted) → WasAccepted start history r → IsGranted start.rows r
 was_granted laws start [] r was = absurd was
 was_granted laws start (step ∷ past) r (inl came) =
-    let g = laws.granted (after start past) r came.1 in
-    record { row = g.row; is_named = ((laws.shrunk start past).0 g.row g.is_named.0, g.is_named.1); row_port_is = g.row_port_is; op_is_allowed = g.op_is_allowed; sectors_are_covered = g.sectors_are_covered }
+    let g = laws.acceptable_is_granted (after start past) r came.1 in
+    record { row = g.row; is_named = ((laws.rows_shrink_and_owners_stay start past).0 g.row g.is_named.0, g.is_named.1); row_port_is = g.row_port_is; op_is_allowed = g.op_is_allowed; sectors_are_covered = g.sectors_are_covered }
 was_granted laws start (step ∷ past) r (inr was) = was_granted laws start past r was
 
 -- so an unanswered request is on the port of the row that it names
 pub on_its_port : FrameHolderLaws → (m : Machine) → IsReachable m → (e : machine.Pending) → Contains m.book e → (row : GrantRow) → Contains m.rows row → HasGrantName e.request.asked.client e.request.asked.grant row
     → e.request.port ≡ row.port
 on_its_port laws m reached e here row there named =
-    let was = laws.lived reached.initial_machine reached.steps_since e reached.is_initial reached.is_legal (subst (λ (n : Machine). HoldsFrames n e) reached.leads_to_machine (inl here)) in
+    let was = laws.frame_holders_were_accepted reached.initial_machine reached.steps_since e reached.is_initial reached.is_legal (subst (λ (n : Machine). HoldsFrames n e) reached.leads_to_machine (inl here)) in
     let g = was_granted laws reached.initial_machine reached.steps_since e.request was in
     let at_first : IsReachable reached.initial_machine = record { initial_machine = reached.initial_machine; steps_since = []; is_initial = reached.is_initial; is_legal = tt; leads_to_machine = refl } in
-    let at_start = (laws.shrunk reached.initial_machine reached.steps_since).0 row (subst (λ (n : Machine). Contains n.rows row) reached.leads_to_machine there) in
-    g.row_port_is ∙ ap (λ (x : GrantRow). x.port) (laws.one_row reached.initial_machine e.request.asked.client e.request.asked.grant g.row row at_first g.is_named.0 g.is_named.1 at_start named)
+    let at_start = (laws.rows_shrink_and_owners_stay reached.initial_machine reached.steps_since).0 row (subst (λ (n : Machine). Contains n.rows row) reached.leads_to_machine there) in
+    g.row_port_is ∙ ap (λ (x : GrantRow). x.port) (laws.a_name_is_one_row reached.initial_machine e.request.asked.client e.request.asked.grant g.row row at_first g.is_named.0 g.is_named.1 at_start named)
 
 module _ (s : ServerState) (r : Request) (acc : IsAcceptable (admission_context s) r) (row : GrantRow) (named : IsNamed s.grants r row) (port : Port) (port_is : row.port ≡ port) where
   -- its port is ready
-  pub on_ready : state_of (probe_result_of s.ports port.0) ≡ ReadyState
+  pub on_ready : state_of (probe_result_of s.probe_results port.0) ≡ ReadyState
   on_ready =
-      let at : state_of (probe_result_of s.ports row.port.0) ≡ ReadyState = ready_is (state_of (probe_result_of s.ports row.port.0)) (λ other. acc (PortNotReady (state_of (probe_result_of s.ports row.port.0))) (other, (row, named, refl))) in
-      ap (λ (p : Port). state_of (probe_result_of s.ports p.0)) (sym port_is) ∙ at
+      let at : state_of (probe_result_of s.probe_results row.port.0) ≡ ReadyState = ready_is (state_of (probe_result_of s.probe_results row.port.0)) (λ other. acc (PortNotReady (state_of (probe_result_of s.probe_results row.port.0))) (other, (row, named, refl))) in
+      ap (λ (p : Port). state_of (probe_result_of s.probe_results p.0)) (sym port_is) ∙ at
 
   -- its client has room
   pub has_room : entry_count_of_client s.book r.client.0 < 16
@@ -105,7 +105,7 @@ module _ (s : ServerState) (r : Request) (acc : IsAcceptable (admission_context 
 
     -- what a machine has of it
     abbrev pub request_in : Machine → machine.Accepted
-    request_in m = record { id = id; port = port; asked = r; held_blocks = block_of m.memory r.frames.items }
+    request_in m = record { id = id; port = port; asked = r; blocks_at_acceptance = block_of m.memory r.frames.items }
 
     pub entry_in : (m : Machine) → EntryRelation (accepted_as port r id) (newly_accepted (request_in m))
     entry_in m = record { id = refl; client = refl; grant = refl; port = refl; op = refl; range = refl; frames = refl; issued = refl; issues = refl; age = refl }
@@ -119,21 +119,21 @@ module _ (s : ServerState) (r : Request) (acc : IsAcceptable (admission_context 
 
       pub is_new : MayAccept m (request_in m)
       is_new = record {
-        id = id_is ∙ sym is.next;
-        id_left = ⊎_elim (λ (low : m.next_id < 2 ^ 64). low) (λ high. absurd (allowed IdsSpent high)) (cases_lt m.next_id (2 ^ 64));
-        unbroken = λ rule broken. allowed (Rule rule) broken;
-        port = λ other there.
+        id_is_next = id_is ∙ sym is.next_id_is;
+        an_id_is_left = ⊎_elim (λ (low : m.next_id < 2 ^ 64). low) (λ high. absurd (allowed IdsSpent high)) (cases_lt m.next_id (2 ^ 64));
+        breaks_no_rule = λ rule broken. allowed (Rule rule) broken;
+        port_is_of_its_row = λ other there.
             let here = subst (λ (rows : List GrantRow). Contains rows row) (sym is.rows) named.0 in
-            sym port_is ∙ ap (λ (x : GrantRow). x.port) (laws.living.one_row m r.client r.grant row other reached here named.1 there.0 there.1);
-        few = ⊎_elim (λ (low : steps.unanswered_count m.book r.client < 16). low) (λ high. absurd (allowed ClientFull high)) (cases_lt (steps.unanswered_count m.book r.client) 16);
-        held = refl;
+            sym port_is ∙ ap (λ (x : GrantRow). x.port) (laws.frame_holders.a_name_is_one_row m r.client r.grant row other reached here named.1 there.0 there.1);
+        client_has_room = ⊎_elim (λ (low : steps.unanswered_count m.book r.client < 16). low) (λ high. absurd (allowed ClientFull high)) (cases_lt (steps.unanswered_count m.book r.client) 16);
+        blocks_are_in_memory = refl;
       }
 
     -- ---- it is as the book has it
 
     module _ (laws : PrerequisiteLaws) (k : InCallInvariant s) where
       granted : IsGranted k.machine.rows (request_in k.machine)
-      granted = laws.living.granted k.machine (request_in k.machine) (is_new laws k.machine k.reached k.machine_relation)
+      granted = laws.frame_holders.acceptable_is_granted k.machine (request_in k.machine) (is_new laws k.machine k.reached k.machine_relation)
 
       there : Contains s.grants granted.row
       there = subst (λ (rows : List GrantRow). Contains rows granted.row) k.machine_relation.rows granted.is_named.0
@@ -148,11 +148,11 @@ module _ (s : ServerState) (r : Request) (acc : IsAcceptable (admission_context 
       below : r.op ≢ Flush → r.first.0 + r.count ≤ 2 ^ 48
       below other =
           let covers = granted.sectors_are_covered other in
-          let last = row_is.below in
+          let last = row_is.sectors_are_below_2_48 in
           omega (arith, covers.1, last)
 
       own : All (λ frame. owner_of s.table frame ≡ Some r.client) r.frames.items
-      own = laws.acceptable_owned (admission_context s) r acc
+      own = laws.acceptable_frames_are_owned (admission_context s) r acc
 
       apart : AllPairs (λ a b. a ≢ b) r.frames.items
       apart i j d before small same =
@@ -164,14 +164,14 @@ module _ (s : ServerState) (r : Request) (acc : IsAcceptable (admission_context 
             slice_get-get_or r.frames.items j d small,
           )
 
-      pub is_accepted : (table : FrameOwnership) → LendsOnly s.table table r.frames.items (Some id) → IsAccepted table (accepted_as port r id)
+      pub is_accepted : (table : OwnersAndLoans) → SetsLoanOnly s.table table r.frames.items (Some id) → IsWellFormedEntry table (accepted_as port r id)
       is_accepted table lends = record {
-        client_from = subst (λ (c : ClientId). 1 ≤ c.0) granted.is_named.1.0 row_is.client.0;
-        client_to = subst (λ (c : ClientId). c.0 ≤ 8) granted.is_named.1.0 row_is.client.1;
+        client_is_at_least_1 = subst (λ (c : ClientId). 1 ≤ c.0) granted.is_named.1.0 row_is.client_is_valid.0;
+        client_is_at_most_8 = subst (λ (c : ClientId). c.0 ≤ 8) granted.is_named.1.0 row_is.client_is_valid.1;
         count_is_allowed = count;
         range_is_below_2_48 = below;
         frame_count_is = ⊎_elim (λ (same : length r.frames.items ≡ frame_count_for r.op r.count). same) (λ other. absurd (acc (Rule FrameCount) other)) (cases_eq (length r.frames.items) (frame_count_for r.op r.count));
-        frames_are_clients = λ i d small. (k.owned_frames_are_clients (get_or r.frames.items i d) r.client (own i d small)).0;
+        frames_are_not_drivers = λ i d small. (k.owned_frames_are_clients (get_or r.frames.items i d) r.client (own i d small)).0;
         frames_are_own = λ i d small. ap (λ (owners : List (Option ClientId)). get_or owners (get_or r.frames.items i d).0 None) lends.owners_are_kept ∙ own i d small;
         frames_are_distinct = apart;
         frames_are_lent = lends.these_are_lent;

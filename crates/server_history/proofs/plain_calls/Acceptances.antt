@@ -27,13 +27,13 @@ use Rattle.block_machine.specs.Steps.{Step, Accept, MayAccept, after_step, lend}
 use Rattle.block_machine.specs.declared.due.Unanswered.{Unanswered}
 use Rattle.server_history.proofs.state.ListMembers.{append_in, contains_there, some_in}
 use Rattle.refinement.specs.Fragments.{IsDrivenBy, driver_state_of}
-use Rattle.dma_frames.specs.FrameTables.{FrameOwnership, lent_to, LendsOnly}
+use Rattle.dma_frames.specs.FrameTables.{OwnersAndLoans, lent_to, SetsLoanOnly}
 use Rattle.host_boot.specs.TakeOver.{probe_result_of}
 use Rattle.host_boot.specs.declared.ProbeResult.{ProbeResult}
-use Rattle.request_queue.specs.BookEntries.{BookEntry, IsAccepted, IsEarlier, as_unanswered, unanswered_of, due_ids}
+use Rattle.request_queue.specs.BookEntries.{BookEntry, IsWellFormedEntry, IsEarlier, as_unanswered, unanswered_of, due_ids}
 use Rattle.driver_history.specs.Histories.{IssuesDue, IsIssuingAccess}
 use Rattle.driver_history.specs.AccessTrace.{ClearsNoError, LeavesEngine}
-use Rattle.refinement.specs.Links.{DoesNotWrite}
+use Rattle.refinement.specs.PreservedParts.{DoesNotWrite}
 use Rattle.hba_regs.specs.declared.reg.Reg.TheVariants.{Ghc, Px}
 use Rattle.hba_regs.specs.declared.reg.PortReg.TheVariants.{Ci, Sact}
 use Rattle.hba_regs.specs.declared.reg.PortReg.TheVariants as register
@@ -42,7 +42,7 @@ use Rattle.adapter.specs.Access.Access.{Loading, Reading, Storing, Writing}
 use Rattle.server_history.specs.Prerequisites.{PrerequisiteLaws}
 use Rattle.server_history.specs.Histories.{ExtendsSettled, LeadsToServer}
 use Rattle.commands.specs.Batches.{IsBatchAccess}
-use Rattle.server_history.specs.IssuingAndAnswering.{Accepts, IssuesAll, accepted_as, with_accepted}
+use Rattle.server_history.specs.IssuingAndAnswering.{AcceptsAndIssues, IssuesDueOfPort, accepted_as, with_accepted}
 use Rattle.server_history.specs.ServerState.{ServerState, InCallInvariant, MachineRelation, SettledInvariant, mode_in, ports_of, admission_context, state_of, used_for, RevokedMarkInvariant}
 use Rattle.slots.specs.declared.SlotUse.{SlotUse}
 use Rattle.block_machine.specs.declared.due.QueueMode.{QueueMode}
@@ -84,7 +84,7 @@ any_in p (y ∷ ys) h = ⊎_elim
     (λ later. let r = any_in p ys later in (r.0, contains_there y ys r.0 r.1, r.2))
     (or_cases (p y) (list_any p ys) h)
 
-lends_alike : (a : machine.Accepted) (lent : Frame → Option RequestId) (old new : FrameOwnership) → ((f : Frame) → lent f ≡ lent_to old f) → LendsOnly old new a.asked.frames.items (Some a.id) → (f : Frame) → lend a lent f ≡ lent_to new f
+lends_alike : (a : machine.Accepted) (lent : Frame → Option RequestId) (old new : OwnersAndLoans) → ((f : Frame) → lent f ≡ lent_to old f) → SetsLoanOnly old new a.asked.frames.items (Some a.id) → (f : Frame) → lend a lent f ≡ lent_to new f
 lends_alike a lent old new alike lends f = by (list_any (λ g. g.0 == f.0) a.asked.frames.items) refl
   where
     frames : List Frame
@@ -103,32 +103,32 @@ lends_alike a lent old new alike lends f = by (list_any (λ g. g.0 == f.0) a.ask
 -- ---- the server with one more
 
 -- the others' own requests are as many where one of another port goes last
-own_longer : (q : Port) (book : List BookEntry) (e : BookEntry) → e.entry.port ≢ q → requests_of_port q (unanswered_of (book ++ e ∷ [])) ≡ requests_of_port q (unanswered_of book)
-own_longer q [] e other = cond-false (e.entry.port.0 == q.0) (as_unanswered e.entry ∷ []) [] (ne_eqb e.entry.port.0 q.0 (λ same. other (ap (λ (n : ℕ). record { 0 = n }) same)))
+own_longer : (q : Port) (book : List BookEntry) (e : BookEntry) → e.request.port ≢ q → requests_of_port q (unanswered_of (book ++ e ∷ [])) ≡ requests_of_port q (unanswered_of book)
+own_longer q [] e other = cond-false (e.request.port.0 == q.0) (as_unanswered e.request ∷ []) [] (ne_eqb e.request.port.0 q.0 (λ same. other (ap (λ (n : ℕ). record { 0 = n }) same)))
 own_longer q (x ∷ book) e other =
-    ap (λ (us : List Unanswered). cond (x.entry.port.0 == q.0) (as_unanswered x.entry ∷ us) us) (own_longer q book e other)
+    ap (λ (us : List Unanswered). cond (x.request.port.0 == q.0) (as_unanswered x.request ∷ us) us) (own_longer q book e other)
 
 module _ (laws : PrerequisiteLaws) (s : ServerState) (k : InCallInvariant s) (r : Request) (acc : IsAcceptable (admission_context s) r) (row : GrantRow) (named : IsNamed s.grants r row) (port : Port) (port_is : row.port ≡ port)
-    (id : RequestId) (id_is : id.0 ≡ s.last_id + 1) (table : FrameOwnership) (lends : LendsOnly s.table table r.frames.items (Some id)) where
+    (id : RequestId) (id_is : id.0 ≡ s.last_id + 1) (table : OwnersAndLoans) (lends : SetsLoanOnly s.table table r.frames.items (Some id)) where
   abbrev e : BookEntry
   e = accepted_as port r id
 
   abbrev more : ServerState
   more = with_accepted port r id table s
 
-  ready : state_of (probe_result_of s.ports port.0) ≡ ReadyState
+  ready : state_of (probe_result_of s.probe_results port.0) ≡ ReadyState
   ready = on_ready s r acc row named port port_is
 
-  its : IsAccepted table e
+  its : IsWellFormedEntry table e
   its = is_accepted s r acc row named port port_is id id_is laws k table lends
 
   earlier : All (λ x. IsEarlier x e) s.book
   earlier i d small = let h = k.ids_were_handed_out i d small in omega (arith, h, id_is)
 
-  accepted : All (IsAccepted table) (s.book ++ e ∷ [])
+  accepted : All (IsWellFormedEntry table) (s.book ++ e ∷ [])
   accepted =
-      All-push (IsAccepted table) s.book e
-      (laws.still_lent s.table table s.book r.frames.items (Some id) lends (unlent s r acc row named port port_is) k.requests_are_accepted) its
+      All-push (IsWellFormedEntry table) s.book e
+      (laws.lending_keeps_well_formed s.table table s.book r.frames.items (Some id) lends (unlent s r acc row named port port_is) k.entries_are_well_formed) its
 
   module _ (m : Machine) (was : IsReachable m) (is : MachineRelation s m) where
     abbrev request : machine.Accepted
@@ -141,56 +141,56 @@ module _ (laws : PrerequisiteLaws) (s : ServerState) (k : InCallInvariant s) (r 
     next = after_step m (Accept request)
 
     reached_next : IsReachable next
-    reached_next = laws.basic.reached m (Accept request ∷ []) was (tt, fresh)
+    reached_next = laws.steps_and_accesses.reachable_stays_reachable m (Accept request ∷ []) was (tt, fresh)
 
     stands_next : MachineRelation more next
     stands_next = record {
       uses = is.uses;
       are_uses_of = is.are_uses_of;
-      parked = is.parked;
-      unparked = is.unparked;
-      driver_relation = laws.slots.accepted_agrees (driver_state_of is.uses is.parked s.device) m request is.driver_relation;
-      book = laws.accepts s.book m e request is.book (entry_in s r acc row named port port_is id id_is m);
+      awaiting_disposition = is.awaiting_disposition;
+      only_dead_ports_park = is.only_dead_ports_park;
+      driver_relation = laws.slots.accepted_agrees (driver_state_of is.uses is.awaiting_disposition s.device) m request is.driver_relation;
+      book = laws.accept_keeps_book_relation s.book m e request is.book (entry_in s r acc row named port port_is id id_is m);
       quarantine_relation = is.quarantine_relation;
       rows = is.rows;
       owner = λ f. is.owner f ∙ sym (ap (λ (owners : List (Option ClientId)). slice_index_or owners f.0 None) lends.owners_are_kept);
       lent = lends_alike request m.lent s.table table is.lent lends;
-      next = let n = is.next in omega (arith, n);
+      next_id_is = let n = is.next_id_is in omega (arith, n);
     }
 
   -- each used slot's command is of its request's kind still: the new request has no slot
-  kinds_then : (q : Port) (slot : ℕ) (used : SlotUse) (h : BookEntry) → used_for s.slots q.0 slot ≡ Some used → Contains (s.book ++ e ∷ []) h → h.entry.id ≡ used.id → used.queued ≡ not (is_plain (mode_in s q) h.entry.op)
+  kinds_then : (q : Port) (slot : ℕ) (used : SlotUse) (h : BookEntry) → used_for s.slots q.0 slot ≡ Some used → Contains (s.book ++ e ∷ []) h → h.request.id ≡ used.id → used.queued ≡ not (is_plain (mode_in s q) h.request.op)
   kinds_then q slot used h is there same = ⊎_elim
       (λ (old : Contains s.book h). k.slots_queue_as_asked q slot used h is old same)
       (λ (new : h ≡ e).
       let ready = used_ready s q.0 slot used k is in
       let x = served_request s k.machine q.0 slot k.machine_relation ready used.id (serves_used s k.machine q.0 k.machine_relation ready slot used is) in
-      let low = All-contains (λ (y : BookEntry). y.entry.id.0 ≤ s.last_id) s.book x.request k.ids_were_handed_out x.there in
-      let its : x.request.entry.id.0 ≡ id.0 = ap (λ (i : RequestId). i.0) (x.id_is ∙ sym same ∙ ap (λ (y : BookEntry). y.entry.id) new) in
+      let low = All-contains (λ (y : BookEntry). y.request.id.0 ≤ s.last_id) s.book x.request k.ids_were_handed_out x.there in
+      let its : x.request.request.id.0 ≡ id.0 = ap (λ (i : RequestId). i.0) (x.id_is ∙ sym same ∙ ap (λ (y : BookEntry). y.request.id) new) in
       absurd (omega (arith, low, its, id_is)))
       (append_in s.book e h there)
 
   -- it has the grant that it names
   its_mark : RevokedMarkInvariant s.grants e
-  its_mark = record { tells = (λ plain. (row, named.0, named.1), λ has. refl); waiting = λ waits. refl }
+  its_mark = record { revoked_mark_agrees = (λ plain. (row, named.0, named.1), λ has. refl); waiting_is_unmarked = λ waits. refl }
 
   pub accept_kept : InCallInvariant more
-  accept_kept = kept_then s s.device s.grants table s.slots (s.book ++ e ∷ []) (s.last_id + 1) k k.rows_are_valid k.adapter_is_on (record { telling = refl; size = refl; cap = refl; pi = refl }) k.port_invariant lends.owners_are_kept k.four_slots k.slots kinds_then k.slots_store_commands k.plain_stands_alone accepted
-      (laws.longer s.book e k.book_is_in_order earlier (refl, refl, refl, refl) its.client_from its.client_to (has_room s r acc row named port port_is))
+  accept_kept = kept_then s s.device s.grants table s.slots (s.book ++ e ∷ []) (s.last_id + 1) k k.rows_are_valid k.adapter_is_on (record { telling = refl; memory_size = refl; cap = refl; pi = refl }) k.port_invariant lends.owners_are_kept k.slots_are_of_four_ports k.slots_invariant kinds_then k.slots_store_commands k.plain_stands_alone accepted
+      (laws.appending_keeps_book_well_formed s.book e k.book_is_well_formed earlier (refl, refl, refl, refl) its.client_is_at_least_1 its.client_is_at_most_8 (has_room s r acc row named port port_is))
       (All-push (RevokedMarkInvariant s.grants) s.book e k.revoked_marks_agree its_mark)
-      (All-push (λ (x : BookEntry). x.entry.id.0 ≤ s.last_id + 1) s.book e (All-weaker (λ (x : BookEntry). x.entry.id.0 ≤ s.last_id) (λ (x : BookEntry). x.entry.id.0 ≤ s.last_id + 1) (λ x low. omega (arith, low)) s.book k.ids_were_handed_out) (omega (arith, id_is)))
-      (All-push (λ (x : BookEntry). state_of (probe_result_of s.ports x.entry.port.0) ≡ ReadyState) s.book e k.requests_are_of_ready_ports ready)
+      (All-push (λ (x : BookEntry). x.request.id.0 ≤ s.last_id + 1) s.book e (All-weaker (λ (x : BookEntry). x.request.id.0 ≤ s.last_id) (λ (x : BookEntry). x.request.id.0 ≤ s.last_id + 1) (λ x low. omega (arith, low)) s.book k.ids_were_handed_out) (omega (arith, id_is)))
+      (All-push (λ (x : BookEntry). state_of (probe_result_of s.probe_results x.request.port.0) ≡ ReadyState) s.book e k.requests_are_of_ready_ports ready)
       (next k.machine k.reached k.machine_relation) (reached_next k.machine k.reached k.machine_relation) (stands_next k.machine k.reached k.machine_relation)
 
   -- ---- the event
 
-  module _ (none : (other : Port) → NoneDue (mode_in s other) (unanswered_of s.book) other) (new : ServerState) (issues : IssuesAll port more new) where
+  module _ (none : (other : Port) → NoneDue (mode_in s other) (unanswered_of s.book) other) (new : ServerState) (issues : IssuesDueOfPort port more new) where
     abbrev ids : List RequestId
     ids = due_ids (mode_in s port) port (unanswered_of more.book)
 
     none_other : (other : Port) → other ≢ port → NoneDue (mode_in s other) (unanswered_of more.book) other
     none_other other ne u own due =
-        none other u own ((laws.same_due (mode_in s other) other (unanswered_of more.book) (unanswered_of s.book) u (own_longer other s.book e (λ same. ne (sym same))) own).0 due)
+        none other u own ((laws.due_depends_on_own_port (mode_in s other) other (unanswered_of more.book) (unanswered_of s.book) u (own_longer other s.book e (λ same. ne (sym same))) own).0 due)
 
     settles : SettledInvariant new
     settles = settled laws port more new accept_kept none_other issues
@@ -205,10 +205,10 @@ module _ (laws : PrerequisiteLaws) (s : ServerState) (k : InCallInvariant s) (r 
     port_low = (ready_found s port.0 k ready).0
 
     pub event : (first : JointState Device) (past : List (JointEvent Device DeviceStep)) → LeadsToServer first past s
-        → (h : JointEvent Device DeviceStep) × (h.event.ask ≡ Submit r) × (h.event.said ≡ Submitted (Ok id)) × LeadsToServer first (h ∷ past) new
+        → (h : JointEvent Device DeviceStep) × (h.event.call ≡ Submit r) × (h.event.result ≡ Submitted (Ok id)) × LeadsToServer first (h ∷ past) new
     event first past leads =
         lead_by laws first past s new (Submit r) (Submitted (Ok id)) (x.steps ++ early) (ap (λ (n : ServerState). n.wanted) same) (ap ports_of same) leads (holding new settles.in_call_invariant)
-        (laws.basic.may m x.steps early (tt, fresh m was is) x.may)
+        (laws.steps_and_accesses.enabled_lists_join m x.steps early (tt, fresh m was is) x.may)
         (belong_on mode port {D = DeviceStep} (Submit r) (ports_of new) (λ p own. (its_ready p own, its_mode p own)) x.steps early x.only (tt, inr refl))
         (last_on mode port x.steps early x.only x.last (tt, λ other h i. false≢true h) (λ other i j. false≢true j))
         (lawful_on mode port old.abstract no_evidence (ports_of new) x.steps early x.only tt)
@@ -218,7 +218,7 @@ module _ (laws : PrerequisiteLaws) (s : ServerState) (k : InCallInvariant s) (r 
         (driven.all_are_done, (row, its_row, All-weaker (IsBatchAccess port) (IsIssuingAccess row.port) (λ access here. subst (λ (p : Port). IsIssuingAccess p access) (sym port_is) (issuing_is port port_low access here)) driven.accesses driven.accesses_are_of_kind))
         (λ other. All-weaker (IsBatchAccess port) (LeavesEngine other) (issuing_leaves laws port other) driven.accesses driven.accesses_are_of_kind)
         (λ other is_ready. due_now other)
-        (λ other. record { finds_done = tt; plain_faults_are_told = tt; probes_disk = tt; boots_anew = tt; loses_no_error = laws.calls.ordinary other (with_device s.device old) new.device driven.accesses (told_by s.device old.abstract.ports) (ports_of new) k.adapter_is_on driven.all_are_done (All-weaker (IsBatchAccess port) (DoesNotWrite Ghc) (issuing_spares_host port) driven.accesses driven.accesses_are_of_kind) (All-weaker (IsBatchAccess port) (ClearsNoError other) (issuing_clears_none port other) driven.accesses driven.accesses_are_of_kind); runs_well_anew = λ i. absurd (uninterrupted s.device old.abstract.ports other i); handles_evidence = uninterrupted s.device old.abstract.ports other })
+        (λ other. record { finds_done = tt; plain_faults_are_told = tt; probes_disk = tt; boots_anew = tt; loses_no_error = laws.calls.ordinary_accesses_lose_no_error other (with_device s.device old) new.device driven.accesses (told_by s.device old.abstract.ports) (ports_of new) k.adapter_is_on driven.all_are_done (All-weaker (IsBatchAccess port) (DoesNotWrite Ghc) (issuing_spares_host port) driven.accesses driven.accesses_are_of_kind) (All-weaker (IsBatchAccess port) (ClearsNoError other) (issuing_clears_none port other) driven.accesses driven.accesses_are_of_kind); runs_well_anew = λ i. absurd (uninterrupted s.device old.abstract.ports other i); handles_evidence = uninterrupted s.device old.abstract.ports other })
         (laws.backed_parts s.device s.device new.device m early x.steps (laws.backed_own s.device m (Accept asked) (λ no. no)) x.backed)
         stands
       where
@@ -232,7 +232,7 @@ module _ (laws : PrerequisiteLaws) (s : ServerState) (k : InCallInvariant s) (r 
         was = reached laws first past s leads
 
         is : MachineRelation s m
-        is = leads.stands.machine_stands_for_it
+        is = leads.state_is_at_history_end.machine_stands_for_it
 
         asked : machine.Accepted
         asked = request m was is
@@ -244,7 +244,7 @@ module _ (laws : PrerequisiteLaws) (s : ServerState) (k : InCallInvariant s) (r 
         x = each_issued laws port ids more new accept_kept issues (next m was is) (reached_next m was is) (stands_next m was is)
 
         stands : MachineRelation new (after m (x.steps ++ early))
-        stands = subst (MachineRelation new) (sym (laws.basic.joined m x.steps early)) x.stands
+        stands = subst (MachineRelation new) (sym (laws.steps_and_accesses.after_joins m x.steps early)) x.stands
 
         mode : QueueMode
         mode = mode_in s port
@@ -252,20 +252,20 @@ module _ (laws : PrerequisiteLaws) (s : ServerState) (k : InCallInvariant s) (r 
         its_mode : (p : machine.Pending) → p.request.port ≡ port → (ports_of new).mode p.request.port ≡ mode
         its_mode p own = ap (mode_in new) own ∙ ap (λ (n : ServerState). mode_in n port) same
 
-        ports_same_too : new.ports ≡ s.ports
-        ports_same_too = ap (λ (n : ServerState). n.ports) same
+        ports_same_too : new.probe_results ≡ s.probe_results
+        ports_same_too = ap (λ (n : ServerState). n.probe_results) same
 
         its_ready : (p : machine.Pending) → p.request.port ≡ port → (ports_of new).state p.request.port ≡ ReadyState
-        its_ready p own = ap (λ (q : Port). state_of (probe_result_of new.ports q.0)) own ∙ ap (λ (found : List ProbeResult). state_of (probe_result_of found port.0)) ports_same_too ∙ ready
+        its_ready p own = ap (λ (q : Port). state_of (probe_result_of new.probe_results q.0)) own ∙ ap (λ (found : List ProbeResult). state_of (probe_result_of found port.0)) ports_same_too ∙ ready
 
         allowed : IsAcceptable (events.admission_context_of old.abstract) r
-        allowed = subst (λ (y : AdmissionContext). IsAcceptable y r) (sym (situation_is laws s old leads.stands)) acc
+        allowed = subst (λ (y : AdmissionContext). IsAcceptable y r) (sym (situation_is laws s old leads.state_is_at_history_end)) acc
 
         its_row : IsNamed m.rows r row
         its_row = subst (λ (rows : List GrantRow). IsNamed rows r row) (sym is.rows) named
 
         same_ports_are : SamePorts old.abstract.ports (ports_of new)
-        same_ports_are = ports_same old.abstract.ports (ports_of new) (leads.stands.ports_are ∙ sym (ap ports_of same))
+        same_ports_are = ports_same old.abstract.ports (ports_of new) (leads.state_is_at_history_end.ports_are ∙ sym (ap ports_of same))
 
         all_issued : NoneDueWhereReady (record { machine = after m (x.steps ++ early); ports = ports_of new })
         all_issued other on = none_due new (after m (x.steps ++ early)) stands (mode_in new other) other (settles.nothing_is_due other)
@@ -276,13 +276,13 @@ module _ (laws : PrerequisiteLaws) (s : ServerState) (k : InCallInvariant s) (r 
         due_now : (other : Port) → IssuesDue (mode_in new other) (x.steps ++ early) (after m (x.steps ++ early)) other
         due_now other =
             subst (λ (takes : QueueMode). IssuesDue takes (x.steps ++ early) (after m (x.steps ++ early)) other) (sym (mode_is other))
-            (subst (λ (n : Machine). IssuesDue (mode_in s other) (x.steps ++ early) n other) (sym (laws.basic.joined m x.steps early))
+            (subst (λ (n : Machine). IssuesDue (mode_in s other) (x.steps ++ early) n other) (sym (laws.steps_and_accesses.after_joins m x.steps early))
             (dues_carried laws (mode_in s other) x.steps (x.steps ++ early) (after (next m was is) x.steps) (after (next m was is) x.steps) other refl
             (λ u here own. sym (any_append (issues_id u.id) x.steps early ∙ or_none (list_any (issues_id u.id) x.steps)))
             (dues laws port more new accept_kept issues (next m was is) x other (none_other other))))
 
-pub acceptance : PrerequisiteLaws → (s new : ServerState) (port : Port) (r : Request) (id : RequestId) → SettledInvariant s → IsAcceptable (admission_context s) r → Accepts port r id s new → ExtendsSettled s new (Submit r) (Submitted (Ok id))
+pub acceptance : PrerequisiteLaws → (s new : ServerState) (port : Port) (r : Request) (id : RequestId) → SettledInvariant s → IsAcceptable (admission_context s) r → AcceptsAndIssues port r id s new → ExtendsSettled s new (Submit r) (Submitted (Ok id))
 acceptance laws s new port r id k acc a = record {
-  settled_invariant = settles laws s k.in_call_invariant r acc a.row a.named port a.port_is id a.id_is a.table a.lends_only k.nothing_is_due new a.issued;
-  extends_history = event laws s k.in_call_invariant r acc a.row a.named port a.port_is id a.id_is a.table a.lends_only k.nothing_is_due new a.issued;
+  settled_invariant = settles laws s k.in_call_invariant r acc a.row a.named port a.port_is id a.id_is a.table a.lends_only k.nothing_is_due new a.issues_due;
+  extends_history = event laws s k.in_call_invariant r acc a.row a.named port a.port_is id a.id_is a.table a.lends_only k.nothing_is_due new a.issues_due;
 }

@@ -9,11 +9,11 @@ use Rattle.ata_types.specs.declared.request.RequestId.{RequestId}
 use Rattle.ata_types.specs.declared.PortState.TheVariants.{Dead}
 use Rattle.adapter.specs.declared.command.Operation.{Operation}
 use Rattle.refinement.specs.Fragments.{IsDrivenBy, GainsNoMove}
-use Rattle.refinement.specs.Slots.{op_of}
-use Rattle.refinement.specs.Driver.{IsBacked}
+use Rattle.refinement.specs.Slots.{client_operation_of}
+use Rattle.refinement.specs.Driver.{TapeBacksSteps}
 use Rattle.server_history.proofs.state.DrivenAccesses.{by_none}
 use Rattle.block_machine.specs.DueRequests.{AreAllDueInOrder, IsDue, NoneDue, due_of, mark_issued, requests_of_port, with_issued}
-use Rattle.block_machine.specs.Events.{AbstractCall, AbstractState, AllByDevice, AllAnswersLawful, AllEnabled, AreStepsOfCall, IsIssuedIn, IsByServer, IssuesLast, accepts_of, handles_id, issues_id}
+use Rattle.block_machine.specs.Events.{AbstractCall, AbstractState, AllByDevice, AnswersAndWaitsLawful, AllEnabled, AreStepsOfCall, IsIssuedIn, IsByServer, IssueIsLastOfRequest, accepts_of, handles_id, issues_id}
 use Rattle.block_machine.specs.Histories.{IsReachable}
 use Rattle.block_machine.specs.Expected.{after}
 use Rattle.block_machine.specs.Ports.{Ports, Evidence}
@@ -24,9 +24,9 @@ use Rattle.block_machine.specs.declared.due.Unanswered.{Unanswered}
 use Rattle.server_history.proofs.state.ListMembers.{contains_cases, contains_here, contains_there, into_map, map_in}
 use Rattle.driver_history.specs.Histories.{IssuesDue, with_issue_undone}
 use Rattle.commands.specs.Batches.{IsBatchAccess, PlacedTask, issues_of}
-use Rattle.request_queue.specs.BookEntries.{BookEntry, BookIsInOrder, IsWaiting, as_unanswered, unanswered_of, due_ids}
+use Rattle.request_queue.specs.BookEntries.{BookEntry, BookIsWellFormed, IsWaiting, as_unanswered, unanswered_of, due_ids}
 use Rattle.server_history.specs.Prerequisites.{PrerequisiteLaws}
-use Rattle.server_history.specs.IssuingAndAnswering.{AllByDeviceOrIssue, IssuesAll, IssuesTogetherIfAny, PutsInSlot, PutsInSlots}
+use Rattle.server_history.specs.IssuingAndAnswering.{AllByDeviceOrIssue, IssuesDueOfPort, IssuesTogetherIfAny, PutsInSlot, PutsInSlots}
 use Rattle.server_history.specs.ServerState.{ServerState, InCallInvariant, MachineRelation, SettledInvariant, mode_at, mode_in, no_slots, slots_at}
 use Rattle.server_history.proofs.state.DueRequests.{same_book}
 use Rattle.server_history.proofs.state.DeviceSteps.{devices_last, not_handled}
@@ -89,7 +89,7 @@ module _ (mode : QueueMode) (port : Port) where
       (belong_on ask ports own late early only.2 b, inr (subst (λ (x : QueueMode). IsByServer ask ports (Issue x e)) (sym only.0) (own e only.1)))
   belong_on ask ports own (step ∷ late) early only b = (belong_on ask ports own late early only.1 b, inl only.0)
 
-  pub last_on : (late early : List Step) → AllByDeviceOrIssue mode port late → IssuesLast late → IssuesLast early → ((id : RequestId) → IsIssuedIn id late → IsIssuedIn id early → ⊥) → IssuesLast (late ++ early)
+  pub last_on : (late early : List Step) → AllByDeviceOrIssue mode port late → IssueIsLastOfRequest late → IssueIsLastOfRequest early → ((id : RequestId) → IsIssuedIn id late → IsIssuedIn id early → ⊥) → IssueIsLastOfRequest (late ++ early)
   last_on [] early only l e apart = e
   last_on (step ∷ late) early only l e apart = (
     last_on late early (rest step only) l.0 e (λ id i. apart id (or_right _ _ i)),
@@ -104,7 +104,7 @@ module _ (mode : QueueMode) (port : Port) where
       issues (Issue its e) only id h = h
       issues step only id h = absurd (not_handled id step only.0 h)
 
-  pub lawful_on : (old : AbstractState) (evidence : Evidence) (ports : Ports) (late early : List Step) → AllByDeviceOrIssue mode port late → AllAnswersLawful old evidence ports early → AllAnswersLawful old evidence ports (late ++ early)
+  pub lawful_on : (old : AbstractState) (evidence : Evidence) (ports : Ports) (late early : List Step) → AllByDeviceOrIssue mode port late → AnswersAndWaitsLawful old evidence ports early → AnswersAndWaitsLawful old evidence ports (late ++ early)
   lawful_on old evidence ports [] early only l = l
   lawful_on old evidence ports (Issue its e ∷ late) early only l = lawful_on old evidence ports late early only.2 l
   lawful_on old evidence ports (WaitAgain e ∷ late) early only l = absurd only.0
@@ -123,12 +123,12 @@ module _ (mode : QueueMode) (port : Port) where
 pub record AreIssued (port : Port) (ids : List RequestId) (old new : ServerState) (m : Machine) : Type 0 where
   pub steps : List Step
   pub may : AllEnabled m steps
-  pub backed : IsBacked old.device new.device m steps
+  pub backed : TapeBacksSteps old.device new.device m steps
   pub stands : MachineRelation new (after m steps)
   pub only : AllByDeviceOrIssue (mode_in old port) port steps
   pub named : (id : RequestId) → IsIssuedIn id steps → Contains ids id
   pub all : (id : RequestId) → Contains ids id → IsIssuedIn id steps
-  pub last : IssuesLast steps
+  pub last : IssueIsLastOfRequest steps
 
 same_id : (a b : RequestId) → a.0 ≡ b.0 → a ≡ b
 same_id a b same = ap (λ (n : ℕ). record { 0 = n }) same
@@ -142,7 +142,7 @@ pub record ArePutInSlots (port : Port) (ids : List RequestId) (old new : ServerS
 
 pub are_put : (port : Port) (ids : List RequestId) (old new : ServerState) → IssuesTogetherIfAny port ids old new → ArePutInSlots port ids old new
 are_put port [] old new none = record { tasks = []; taken = old; puts = refl; server = none ∙ ap (λ (n : ServerState). record old { device = n.device }) (sym none) }
-are_put port (id ∷ ids) old new issues = record { tasks = issues.tasks; taken = issues.taken; puts = issues.puts; server = issues.server_is }
+are_put port (id ∷ ids) old new issues = record { tasks = issues.tasks; taken = issues.server_with_slots; puts = issues.puts; server = issues.server_is }
 
 module _ (laws : PrerequisiteLaws) (port : Port) where
   -- ---- the issues of requests
@@ -172,7 +172,7 @@ module _ (laws : PrerequisiteLaws) (port : Port) where
       (contains_cases first ids id there)
 
   -- none is issued twice
-  issues_last : (mode : QueueMode) (ids : List RequestId) (tasks : List PlacedTask) (s new : ServerState) → BookAndSlotsInvariant s → PutsInSlots port ids tasks s new → (requests : List Pending) → HaveIds port ids requests → IssuesLast (issues_of mode requests)
+  issues_last : (mode : QueueMode) (ids : List RequestId) (tasks : List PlacedTask) (s new : ServerState) → BookAndSlotsInvariant s → PutsInSlots port ids tasks s new → (requests : List Pending) → HaveIds port ids requests → IssueIsLastOfRequest (issues_of mode requests)
   issues_last mode [] [] s new k none [] are = tt
   issues_last mode [] [] s new k none (e ∷ requests) are = absurd are
   issues_last mode (first ∷ ids) (t ∷ tasks) s new k (mid, one, more) [] are = absurd are
@@ -190,7 +190,7 @@ module _ (laws : PrerequisiteLaws) (port : Port) where
   each_issued [] old new k none m reached is = record {
     steps = [];
     may = tt;
-    backed = subst (λ (n : ServerState). IsBacked old.device n.device m []) (sym none) (laws.backed_none old.device m);
+    backed = subst (λ (n : ServerState). TapeBacksSteps old.device n.device m []) (sym none) (laws.backed_none old.device m);
     stands = subst (λ (n : ServerState). MachineRelation n m) (sym none) is;
     only = tt;
     named = λ id i. absurd (false≢true i);
@@ -213,7 +213,7 @@ module _ (laws : PrerequisiteLaws) (port : Port) where
             (λ (before : IsIssuedIn id x.steps). absurd (false≢true (sym (devices_issue_none id x.steps x.only) ∙ before)))
             (issued_parts id own x.steps i);
         all = λ id there. issued_late id own x.steps (issues_all mode (first ∷ ids) x.requests x.ids_are id there);
-        last = last_on mode port own x.steps only (issues_last mode (first ∷ ids) issues.tasks old issues.taken (book_and_slots laws old k) issues.puts x.requests x.ids_are) (devices_last x.steps x.only)
+        last = last_on mode port own x.steps only (issues_last mode (first ∷ ids) issues.tasks old issues.server_with_slots (book_and_slots laws old k) issues.puts x.requests x.ids_are) (devices_last x.steps x.only)
             (λ id late i. false≢true (sym (devices_issue_none id x.steps x.only) ∙ i));
       }
 
@@ -222,7 +222,7 @@ module _ (laws : PrerequisiteLaws) (port : Port) where
   each_kept (first ∷ ids) old new k issues = together_kept laws old new port first ids k issues
 
   -- in that no data comes for a command of the driver's own but on dead ports
-  pub each_silent : (ids : List RequestId) (old new : ServerState) → InCallInvariant old → IssuesTogetherIfAny port ids old new → (q : ℕ) (o : Operation) → op_of o ≡ None → probe_result_of old.ports q ≢ Unready Dead
+  pub each_silent : (ids : List RequestId) (old new : ServerState) → InCallInvariant old → IssuesTogetherIfAny port ids old new → (q : ℕ) (o : Operation) → client_operation_of o ≡ None → probe_result_of old.probe_results q ≢ Unready Dead
       → GainsNoMove q o old.device new.device
   each_silent [] old new k none q o own other = subst (λ (n : ServerState). GainsNoMove q o old.device n.device) (sym none) (silent_none q o old.device)
   each_silent (first ∷ ids) old new k issues q o own other = together_silent laws old new port first ids k issues q o own other
@@ -254,7 +254,7 @@ module _ (laws : PrerequisiteLaws) (port : Port) where
 
   -- what one that is put in a slot leaves of what is asked
   put_asks : (old mid : ServerState) (id : RequestId) (t : PlacedTask) → PutsInSlot port id t old mid → unanswered_of mid.book ≡ with_issued id (unanswered_of old.book)
-  put_asks old mid id t one = ap (λ (n : ServerState). unanswered_of n.book) one.server_is ∙ laws.asks_issued old.book id
+  put_asks old mid id t one = ap (λ (n : ServerState). unanswered_of n.book) one.server_is ∙ laws.unanswered_after_issue old.book id
 
   puts_asks : (ids : List RequestId) (tasks : List PlacedTask) (old new : ServerState) → PutsInSlots port ids tasks old new → unanswered_of new.book ≡ with_each ids (unanswered_of old.book)
   puts_asks [] [] old new none = ap (λ (n : ServerState). unanswered_of n.book) none
@@ -281,17 +281,17 @@ module _ (laws : PrerequisiteLaws) (port : Port) where
       subst (λ (n : ServerState). NoneDue mode (unanswered_of n.book) port) (sym x.server) (puts_done mode ids x.tasks old x.taken x.puts turns)
 
   -- requests of another port are as they were
-  puts_apart : (ids : List RequestId) (tasks : List PlacedTask) (old new : ServerState) → BookIsInOrder old.book → PutsInSlots port ids tasks old new → (other : Port) → other ≢ port → requests_of_port other (unanswered_of new.book) ≡ requests_of_port other (unanswered_of old.book)
+  puts_apart : (ids : List RequestId) (tasks : List PlacedTask) (old new : ServerState) → BookIsWellFormed old.book → PutsInSlots port ids tasks old new → (other : Port) → other ≢ port → requests_of_port other (unanswered_of new.book) ≡ requests_of_port other (unanswered_of old.book)
   puts_apart [] [] old new order none other ne = ap (λ (n : ServerState). requests_of_port other (unanswered_of n.book)) none
   puts_apart (first ∷ ids) (t ∷ tasks) old new order (mid, one, more) other ne =
-      puts_apart ids tasks mid new (subst (λ (n : ServerState). BookIsInOrder n.book) (sym one.server_is) (laws.issued old.book first order (subst (λ (id : RequestId). IsWaiting id old.book) one.id_is (laws.waits (mode_in old port) old.book (as_unanswered one.request.entry) one.due)))) more other ne
+      puts_apart ids tasks mid new (subst (λ (n : ServerState). BookIsWellFormed n.book) (sym one.server_is) (laws.issuing_keeps_book_well_formed old.book first order (subst (λ (id : RequestId). IsWaiting id old.book) one.id_is (laws.due_is_waiting (mode_in old port) old.book (as_unanswered one.request.request) one.due)))) more other ne
       ∙ ap (requests_of_port other) (put_asks old mid first t one ∙ ap (λ (id : RequestId). with_issued id (unanswered_of old.book)) (sym one.id_is))
-      ∙ laws.issued_apart other (unanswered_of old.book) (as_unanswered one.request.entry) (laws.asked old.book order) (into_map (λ (y : BookEntry). as_unanswered y.entry) old.book one.request one.is_in_book)
+      ∙ laws.issue_keeps_other_ports other (unanswered_of old.book) (as_unanswered one.request.request) (laws.unanswered_are_in_order old.book order) (into_map (λ (y : BookEntry). as_unanswered y.request) old.book one.request one.is_in_book)
       (λ same. ne (sym same ∙ one.port_is))
   puts_apart [] (t ∷ tasks) old new order puts other ne = absurd puts
   puts_apart (id ∷ ids) [] old new order puts other ne = absurd puts
 
-  pub each_apart : (ids : List RequestId) (old new : ServerState) → BookIsInOrder old.book → IssuesTogetherIfAny port ids old new → (other : Port) → other ≢ port → requests_of_port other (unanswered_of new.book) ≡ requests_of_port other (unanswered_of old.book)
+  pub each_apart : (ids : List RequestId) (old new : ServerState) → BookIsWellFormed old.book → IssuesTogetherIfAny port ids old new → (other : Port) → other ≢ port → requests_of_port other (unanswered_of new.book) ≡ requests_of_port other (unanswered_of old.book)
   each_apart ids old new order issues other ne =
       let x : ArePutInSlots port ids old new = are_put port ids old new issues in
       ap (λ (n : ServerState). requests_of_port other (unanswered_of n.book)) x.server ∙ puts_apart ids x.tasks old x.taken order x.puts other ne
@@ -309,17 +309,17 @@ module _ (laws : PrerequisiteLaws) (port : Port) where
       let x : ArePutInSlots port ids old new = are_put port ids old new issues in
       ap (λ (n : ServerState). slots_at n.slots other) x.server ∙ puts_slots ids x.tasks old x.taken x.puts other ne
 
-  pub settled : (old new : ServerState) → InCallInvariant old → ((other : Port) → other ≢ port → NoneDue (mode_in old other) (unanswered_of old.book) other) → IssuesAll port old new → SettledInvariant new
+  pub settled : (old new : ServerState) → InCallInvariant old → ((other : Port) → other ≢ port → NoneDue (mode_in old other) (unanswered_of old.book) other) → IssuesDueOfPort port old new → SettledInvariant new
   settled old new k none issues = record {
     in_call_invariant = each_kept ids old new k issues;
     nothing_is_due = λ other. subst (λ (modes : List QueueMode). NoneDue (mode_at modes other.0) (unanswered_of new.book) other) (sym (each_modes ids old new issues)) (⊎_elim
         (λ (same : other.0 ≡ port.0).
         subst (λ (q : Port). NoneDue (mode_in old q) (unanswered_of new.book) q) (ap (λ (n : ℕ). record { 0 = n }) (sym same))
-        (each_done (mode_in old port) ids old new issues (laws.in_turn (mode_in old port) port (unanswered_of old.book) (laws.asked old.book k.book_is_in_order))))
+        (each_done (mode_in old port) ids old new issues (laws.due_are_issued_in_order (mode_in old port) port (unanswered_of old.book) (laws.unanswered_are_in_order old.book k.book_is_well_formed))))
         (λ (ne : other.0 ≢ port.0).
         let apart : other ≢ port = λ same. ne (ap (λ (p : Port). p.0) same) in
         λ r own is_due. none other apart r own
-        ((laws.same_due (mode_in old other) other (unanswered_of new.book) (unanswered_of old.book) r (each_apart ids old new k.book_is_in_order issues other apart) own).0 is_due))
+        ((laws.due_depends_on_own_port (mode_in old other) other (unanswered_of new.book) (unanswered_of old.book) r (each_apart ids old new k.book_is_well_formed issues other apart) own).0 is_due))
         (cases_eq other.0 port.0));
   }
     where
@@ -384,7 +384,7 @@ module _ (laws : PrerequisiteLaws) (port : Port) where
   unmarked_all f g (x ∷ xs) each =
       ap (λ (y : Unanswered). y ∷ map f (map g xs)) (each x (first_here x xs)) ∙ ap (λ (ys : List Unanswered). x ∷ ys) (unmarked_all f g xs (λ r here. each r (contains_there x xs r here)))
 
-  module _ (old new : ServerState) (k : InCallInvariant old) (issues : IssuesAll port old new) (m : Machine) (x : AreIssued port (due_ids (mode_in old port) port (unanswered_of old.book)) old new m) where
+  module _ (old new : ServerState) (k : InCallInvariant old) (issues : IssuesDueOfPort port old new) (m : Machine) (x : AreIssued port (due_ids (mode_in old port) port (unanswered_of old.book)) old new m) where
     abbrev ids : List RequestId
     ids = due_ids (mode_in old port) port (unanswered_of old.book)
 
@@ -392,12 +392,12 @@ module _ (laws : PrerequisiteLaws) (port : Port) where
     is_due : (r : Unanswered) → Contains (unanswered_of old.book) r → Contains ids r.id → IsDue (mode_in old port) (unanswered_of old.book) r × (r.port ≡ port)
     is_due r here there =
         let y = map_in (λ (u : Unanswered). u.id) (due_of (mode_in old port) port (unanswered_of old.book)) r.id there in
-        let own : y.0.port ≡ port = laws.own (mode_in old port) port (unanswered_of old.book) y.0 y.1 in
-        let its : IsDue (mode_in old port) (unanswered_of old.book) y.0 = (laws.exact (mode_in old port) port (unanswered_of old.book) y.0 own).0 y.1 in
-        let a = map_in (λ (e : BookEntry). as_unanswered e.entry) old.book r here in
-        let b = map_in (λ (e : BookEntry). as_unanswered e.entry) old.book y.0 its.is_in_book in
-        let one : a.0 ≡ b.0 = laws.one old.book a.0 b.0 k.book_is_in_order a.1 b.1 (sym (ap (λ (u : Unanswered). u.id) a.2) ∙ y.2 ∙ ap (λ (u : Unanswered). u.id) b.2) in
-        let same : y.0 ≡ r = b.2 ∙ ap (λ (e : BookEntry). as_unanswered e.entry) (sym one) ∙ sym a.2 in
+        let own : y.0.port ≡ port = laws.due_list_is_of_port (mode_in old port) port (unanswered_of old.book) y.0 y.1 in
+        let its : IsDue (mode_in old port) (unanswered_of old.book) y.0 = (laws.due_list_is_exact (mode_in old port) port (unanswered_of old.book) y.0 own).0 y.1 in
+        let a = map_in (λ (e : BookEntry). as_unanswered e.request) old.book r here in
+        let b = map_in (λ (e : BookEntry). as_unanswered e.request) old.book y.0 its.is_in_book in
+        let one : a.0 ≡ b.0 = laws.an_id_is_one_entry old.book a.0 b.0 k.book_is_well_formed a.1 b.1 (sym (ap (λ (u : Unanswered). u.id) a.2) ∙ y.2 ∙ ap (λ (u : Unanswered). u.id) b.2) in
+        let same : y.0 ≡ r = b.2 ∙ ap (λ (e : BookEntry). as_unanswered e.request) (sym one) ∙ sym a.2 in
         (subst (IsDue (mode_in old port) (unanswered_of old.book)) same its, ap (λ (u : Unanswered). u.port) (sym same) ∙ own)
 
     was : with_issue_undone x.steps (map unanswered (after m x.steps).book) ≡ unanswered_of old.book
@@ -415,7 +415,7 @@ module _ (laws : PrerequisiteLaws) (port : Port) where
           (λ its. ⊎_elim
               (λ (same : q.0 ≡ port.0).
               let update_if_id : r.port ≡ port = own ∙ ap (λ (n : ℕ). record { 0 = n }) same in
-              x.all r.id (into_map (λ (u : Unanswered). u.id) (due_of (mode_in old port) port (unanswered_of old.book)) r ((laws.exact (mode_in old port) port (unanswered_of old.book) r update_if_id).1 (subst (λ (z : Port). IsDue (mode_in old z) (unanswered_of old.book) r) (ap (λ (n : ℕ). record { 0 = n }) same) its))))
+              x.all r.id (into_map (λ (u : Unanswered). u.id) (due_of (mode_in old port) port (unanswered_of old.book)) r ((laws.due_list_is_exact (mode_in old port) port (unanswered_of old.book) r update_if_id).1 (subst (λ (z : Port). IsDue (mode_in old z) (unanswered_of old.book) r) (ap (λ (n : ℕ). record { 0 = n }) same) its))))
               (λ (ne : q.0 ≢ port.0). absurd (none (λ same. ne (ap (λ (p : Port). p.0) same)) r own its))
               (cases_eq q.0 port.0)),
         )
@@ -484,8 +484,8 @@ pub dues_carried : PrerequisiteLaws → (mode : QueueMode) → (one other : List
     → ((r : Unanswered) → Contains (map unanswered m.book) r → r.port ≡ q → list_any (issues_id r.id) one ≡ list_any (issues_id r.id) other)
     → IssuesDue mode one m q → IssuesDue mode other n q
 dues_carried laws mode one other m n q same alike dues r here own = (
-  (λ issued. (laws.same_due mode q a b r marks own).0 (was.0 (id_alike ∙ issued))),
-  (λ due_now. sym id_alike ∙ was.1 ((laws.same_due mode q a b r marks own).1 due_now)),
+  (λ issued. (laws.due_depends_on_own_port mode q a b r marks own).0 (was.0 (id_alike ∙ issued))),
+  (λ due_now. sym id_alike ∙ was.1 ((laws.due_depends_on_own_port mode q a b r marks own).1 due_now)),
 )
   where
     a : List Unanswered

@@ -25,26 +25,26 @@ use Rattle.block_machine.specs.Steps.{Step, Issue, IsEnabled, after_step}
 use Rattle.block_machine.specs.declared.due.QueueMode.{QueueMode}
 use Rattle.block_machine.specs.declared.due.Unanswered.{Unanswered}
 use Rattle.commands.specs.Batches.{IsBatchAccess, IssuesBatchAtEnd, MayServeBatch, PlacedTask, issues_of, with_serving_batch}
-use Rattle.commands.specs.Tasks.{IsTaskOf, addresses_of, meaning_of, task_operation, with_serving}
+use Rattle.commands.specs.Tasks.{IsTaskOf, piece_addresses_of, meaning_of, task_operation, with_serving}
 use Rattle.commands.specs.declared.ncq.Task.{Task}
 use Rattle.host_boot.specs.TakeOver.{probe_result_of}
 use Rattle.host_boot.specs.declared.ProbeResult.{ProbeResult}
 use Rattle.host_boot.specs.declared.ProbeResult.TheVariants.{Unready}
 use Rattle.port_control.specs.ServiceAccesses.{IsServiceAccess}
-use Rattle.refinement.specs.Acts.{ActsReach, DriverSlots, driver_state}
+use Rattle.refinement.specs.Acts.{ActsReach, DriverSlots, driver_state_of_slots}
 use Rattle.refinement.specs.Fragments.{IsDrivenBy, GainsNoMove, SparesOtherPorts}
-use Rattle.refinement.specs.Driver.{EndsInSteps, IsBacked}
-use Rattle.refinement.specs.Links.{DoesNotWrite}
+use Rattle.refinement.specs.Driver.{EndsInSteps, TapeBacksSteps}
+use Rattle.refinement.specs.PreservedParts.{DoesNotWrite}
 use Rattle.refinement.specs.ReadySlots.{IsStored}
 use Rattle.refinement.specs.Relation.{port_at}
-use Rattle.refinement.specs.Slots.{Serves, op_of, set_slot_state}
-use Rattle.refinement.specs.SparedBook.{SparesBook}
-use Rattle.request_queue.specs.BookEntries.{BookEntry, unanswered_of, issued_entry, update_if_id}
+use Rattle.refinement.specs.Slots.{Serves, client_operation_of, set_slot_state}
+use Rattle.refinement.specs.SparedBook.{KeepsBookAndLoans}
+use Rattle.request_queue.specs.BookEntries.{BookEntry, unanswered_of, issued_request, update_if_id}
 use Rattle.request_queue.specs.BookRelation.{BookRelation, EntryRelation}
 use Rattle.slots.specs.declared.SlotUse.{SlotUse}
 use Rattle.server_history.specs.Prerequisites.{PrerequisiteLaws}
 use Rattle.server_history.specs.IssuingAndAnswering.{IssuesTogether, PutsInSlot, PutsInSlots, task_of, use_for}
-use Rattle.server_history.specs.ServerState.{HasStoredCommand, InCallInvariant, IsUsedAs, MachineRelation, PortInvariant, QuarantineRelation, RevokedMarkInvariant, ServerState, mode_in, state_of, used_for, with_slot}
+use Rattle.server_history.specs.ServerState.{HasStoredCommand, InCallInvariant, SlotUseAgreesUnlessDead, MachineRelation, PortInvariant, QuarantineRelation, RevokedMarkInvariant, ServerState, mode_in, state_of, used_for, with_slot}
 use Rattle.server_history.proofs.plain_calls.Looks.{behind_served}
 use Rattle.server_history.proofs.plain_calls.RequestsInSlots.{BookAndSlotsInvariant, book_and_slots, put_head, put_keeps, put_ready, put_slot_placed, put_usable, puts_free, puts_keep, puts_ready, puts_settings, puts_used}
 use Rattle.server_history.proofs.state.DrivenAccesses.{driven_as}
@@ -61,7 +61,7 @@ use Rattle.server_history.proofs.state.TransferAccesses.{issuing_serves}
 -- What of `MachineRelation` says which requests may be issued.
 pub record BookAgrees (s : ServerState) (m : Machine) : Type 0 where
   pub book : BookRelation s.book m.book
-  pub kept : QuarantineRelation s.ports s.kept m.kept
+  pub kept : QuarantineRelation s.probe_results s.kept_loans m.kept
   pub rows : m.rows ≡ s.grants
 
 -- the requests have these ids, each at its place, and are the port's
@@ -103,9 +103,9 @@ module _ (laws : PrerequisiteLaws) (s mid : ServerState) (port : Port) (id : Req
   may = (
     x.1,
     due,
-    (λ other here own. not_dead s port.0 (put_ready laws s mid port id t k one) (ap (λ (q : Port). probe_result_of s.ports q.0) (sym (own ∙ its_port)) ∙ is.kept.dead other here)),
+    (λ other here own. not_dead s port.0 (put_ready laws s mid port id t k one) (ap (λ (q : Port). probe_result_of s.probe_results q.0) (sym (own ∙ its_port)) ∙ is.kept.quarantine_ports_are_dead other here)),
     (let mark = All-contains (RevokedMarkInvariant s.grants) s.book request k.marked one.is_in_book in
-        unmarked_has m request its x.2 (tells_of m.rows s.grants request.entry is.rows mark.tells) (mark.waiting (not_true request.entry.issued (and_parts _ _ one.due.nothing_blocks).0))),
+        unmarked_has m request its x.2 (tells_of m.rows s.grants request.request is.rows mark.revoked_mark_agrees) (mark.waiting_is_unmarked (not_true request.request.issued (and_parts _ _ one.due.nothing_blocks).0))),
   )
 
   its_task : IsTaskOf port t.slot t.task t.frames takes its
@@ -120,13 +120,13 @@ module _ (laws : PrerequisiteLaws) (s mid : ServerState) (port : Port) (id : Req
         frames_are = x.2.frames;
         queued_is = refl;
         slot_is_usable = put_usable laws s mid port id t k one;
-        plain_in_slot_0 = λ plain. put_head laws s mid port id t k one (not_false (is_plain takes request.entry.op) plain);
+        plain_in_slot_0 = λ plain. put_head laws s mid port id t k one (not_false (is_plain takes request.request.op) plain);
       }))
 
   -- the machine has the book then
   agrees : BookAgrees mid (after_step m (Issue takes its))
   agrees = subst (λ (n : ServerState). BookAgrees n (after_step m (Issue takes its))) (sym one.server_is) (record {
-    book = subst (λ (i : RequestId). BookRelation (map (update_if_id i issued_entry) s.book) (after_step m (Issue takes its)).book) its_id (laws.issues s.book m takes its is.book);
+    book = subst (λ (i : RequestId). BookRelation (map (update_if_id i issued_request) s.book) (after_step m (Issue takes its)).book) its_id (laws.issue_keeps_book_relation s.book m takes its is.book);
     kept = is.kept;
     rows = is.rows;
   })
@@ -144,7 +144,7 @@ module _ (laws : PrerequisiteLaws) (port : Port) where
         record {
           ids_are = ((its_id laws s mid port id t k one m is, its_port laws s mid port id t k one m is), later.1.ids_are);
           tasks_are = (subst (λ (q : QueueMode). IsTaskOf port t.slot t.task t.frames q P) same (its_task laws s mid port id t k one m is), later.1.tasks_are);
-          may = laws.basic.may m (issues_of mode later.0) (Issue mode P ∷ []) (tt, first) later.1.may;
+          may = laws.steps_and_accesses.enabled_lists_join m (issues_of mode later.0) (Issue mode P ∷ []) (tt, first) later.1.may;
         },
       )
   requests_of_tasks mode [] (t ∷ tasks) s new k more same m is = absurd more
@@ -157,10 +157,10 @@ module _ (laws : PrerequisiteLaws) (port : Port) where
       → BookRelation new.book (after m (issues_of mode requests)).book
   issues_book mode [] [] s new none [] are m is = subst (λ (n : ServerState). BookRelation n.book m.book) (sym none) is
   issues_book mode (id ∷ ids) (t ∷ tasks) s new (mid, one, more) (e ∷ requests) are m is =
-      subst (λ (n : Machine). BookRelation new.book n.book) (sym (laws.basic.joined m (issues_of mode requests) (Issue mode e ∷ [])))
+      subst (λ (n : Machine). BookRelation new.book n.book) (sym (laws.steps_and_accesses.after_joins m (issues_of mode requests) (Issue mode e ∷ [])))
       (issues_book mode ids tasks mid new more requests are.1 (after_step m (Issue mode e))
       (subst (λ (n : ServerState). BookRelation n.book (after_step m (Issue mode e)).book) (sym one.server_is)
-      (subst (λ (i : RequestId). BookRelation (map (update_if_id i issued_entry) s.book) (after_step m (Issue mode e)).book) are.0.0 (laws.issues s.book m mode e is))))
+      (subst (λ (i : RequestId). BookRelation (map (update_if_id i issued_request) s.book) (after_step m (Issue mode e)).book) are.0.0 (laws.issue_keeps_book_relation s.book m mode e is))))
   issues_book mode [] tasks s new puts (e ∷ requests) are m is = absurd are
   issues_book mode (id ∷ ids) tasks s new puts [] are m is = absurd are
   issues_book mode [] (t ∷ tasks) s new puts requests are m is = absurd puts
@@ -168,19 +168,19 @@ module _ (laws : PrerequisiteLaws) (port : Port) where
 
   -- each slot serves its request, and the others are used as before
   issues_uses : (found : List ProbeResult) (ids : List RequestId) (tasks : List PlacedTask) (s new : ServerState) → BookAndSlotsInvariant s → PutsInSlots port ids tasks s new → (requests : List Pending) → HaveIds port ids requests → (slots : DriverSlots)
-      → ((q n : ℕ) → IsUsedAs (probe_result_of found q) (used_for s.slots q n) (slots.uses q n)) → (q n : ℕ) → IsUsedAs (probe_result_of found q) (used_for new.slots q n) ((with_serving_batch port tasks requests slots).uses q n)
-  issues_uses found [] [] s new k none [] are slots was = λ q n. subst (λ (c : ServerState). IsUsedAs (probe_result_of found q) (used_for c.slots q n) (slots.uses q n)) (sym none) (was q n)
+      → ((q n : ℕ) → SlotUseAgreesUnlessDead (probe_result_of found q) (used_for s.slots q n) (slots.slot_states q n)) → (q n : ℕ) → SlotUseAgreesUnlessDead (probe_result_of found q) (used_for new.slots q n) ((with_serving_batch port tasks requests slots).slot_states q n)
+  issues_uses found [] [] s new k none [] are slots was = λ q n. subst (λ (c : ServerState). SlotUseAgreesUnlessDead (probe_result_of found q) (used_for c.slots q n) (slots.slot_states q n)) (sym none) (was q n)
   issues_uses found (id ∷ ids) (t ∷ tasks) s new k (mid, one, more) (e ∷ requests) are slots was =
       issues_uses found ids tasks mid new (put_keeps laws s mid port id t k one) more requests are.1 (with_serving port t.slot e.request.id slots)
-      (subst (λ (c : ServerState). (q n : ℕ) → IsUsedAs (probe_result_of found q) (used_for c.slots q n) (set_slot_state slots.uses port.0 t.slot (Serves e.request.id) q n)) (sym one.server_is)
-      (subst (λ (i : RequestId). (q n : ℕ) → IsUsedAs (probe_result_of found q) (used_for (with_slot s.slots port.0 t.slot (Some (use_for (mode_in s port) one.request))) q n) (set_slot_state slots.uses port.0 t.slot (Serves i) q n)) (one.id_is ∙ sym are.0.0)
-      (put_slot_placed laws s mid port id t k one found slots.uses was)))
+      (subst (λ (c : ServerState). (q n : ℕ) → SlotUseAgreesUnlessDead (probe_result_of found q) (used_for c.slots q n) (set_slot_state slots.slot_states port.0 t.slot (Serves e.request.id) q n)) (sym one.server_is)
+      (subst (λ (i : RequestId). (q n : ℕ) → SlotUseAgreesUnlessDead (probe_result_of found q) (used_for (with_slot s.slots port.0 t.slot (Some (use_for (mode_in s port) one.request))) q n) (set_slot_state slots.slot_states port.0 t.slot (Serves i) q n)) (one.id_is ∙ sym are.0.0)
+      (put_slot_placed laws s mid port id t k one found slots.slot_states was)))
   issues_uses found [] tasks s new k puts (e ∷ requests) are slots was = absurd are
   issues_uses found (id ∷ ids) tasks s new k puts [] are slots was = absurd are
   issues_uses found [] (t ∷ tasks) s new k puts requests are slots was = absurd puts
   issues_uses found (id ∷ ids) [] s new k puts requests are slots was = absurd puts
 
-  parked_same : (tasks : List PlacedTask) (requests : List Pending) (slots : DriverSlots) → (with_serving_batch port tasks requests slots).parked ≡ slots.parked
+  parked_same : (tasks : List PlacedTask) (requests : List Pending) (slots : DriverSlots) → (with_serving_batch port tasks requests slots).awaiting_disposition ≡ slots.awaiting_disposition
   parked_same [] requests slots = refl
   parked_same (t ∷ tasks) [] slots = refl
   parked_same (t ∷ tasks) (e ∷ requests) slots = parked_same tasks requests (with_serving port t.slot e.request.id slots)
@@ -197,7 +197,7 @@ issues_leave : PrerequisiteLaws → (mode : QueueMode) (requests : List Pending)
 issues_leave laws mode [] m = record { kept = refl; rows = refl; owner = refl; lent = refl; next = refl }
 issues_leave laws mode (e ∷ requests) m =
     let rest = issues_leave laws mode requests (after_step m (Issue mode e)) in
-    subst (SameButBook m) (sym (laws.basic.joined m (issues_of mode requests) (Issue mode e ∷ [])))
+    subst (SameButBook m) (sym (laws.steps_and_accesses.after_joins m (issues_of mode requests) (Issue mode e ∷ [])))
     (record { kept = rest.kept; rows = rest.rows; owner = rest.owner; lent = rest.lent; next = rest.next })
 
 -- ---- they are issued
@@ -209,7 +209,7 @@ pub record AreIssuedTogether (port : Port) (ids : List RequestId) (old new : Ser
   pub steps : List Step
   pub only : AllByDevice steps
   pub may : AllEnabled m (issues_of (mode_in old port) requests ++ steps)
-  pub backed : IsBacked old.device new.device m (issues_of (mode_in old port) requests ++ steps)
+  pub backed : TapeBacksSteps old.device new.device m (issues_of (mode_in old port) requests ++ steps)
   pub stands : MachineRelation new (after m (issues_of (mode_in old port) requests ++ steps))
 
 -- it writes no PxCMD
@@ -249,35 +249,35 @@ module _ (laws : PrerequisiteLaws) (s new : ServerState) (port : Port) (first : 
 
   -- the server then
   abbrev later : ServerState
-  later = record s { device = new.device; slots = i.taken.slots; book = i.taken.book }
+  later = record s { device = new.device; slots = i.server_with_slots.slots; book = i.server_with_slots.book }
 
-  settings : i.taken ≡ record s { slots = i.taken.slots; book = i.taken.book }
-  settings = puts_settings laws port all_ids tasks s i.taken i.puts
+  settings : i.server_with_slots ≡ record s { slots = i.server_with_slots.slots; book = i.server_with_slots.book }
+  settings = puts_settings laws port all_ids tasks s i.server_with_slots i.puts
 
   new_is : new ≡ later
   new_is = i.server_is ∙ ap (λ (n : ServerState). record n { device = new.device }) settings
 
-  book_then : BookAndSlotsInvariant (record s { slots = i.taken.slots; book = i.taken.book })
-  book_then = subst BookAndSlotsInvariant settings (puts_keep laws port all_ids tasks s i.taken book_was i.puts)
+  book_then : BookAndSlotsInvariant (record s { slots = i.server_with_slots.slots; book = i.server_with_slots.book })
+  book_then = subst BookAndSlotsInvariant settings (puts_keep laws port all_ids tasks s i.server_with_slots book_was i.puts)
 
-  ready : state_of (probe_result_of s.ports port.0) ≡ ReadyState
-  ready = puts_ready laws port first ids tasks s i.taken book_was i.puts
+  ready : state_of (probe_result_of s.probe_results port.0) ≡ ReadyState
+  ready = puts_ready laws port first ids tasks s i.server_with_slots book_was i.puts
 
   low : port.0 < 4
   low = (book_was.modes port.0 ready).0
 
   free : All (λ t. used_for s.slots port.0 t.slot ≡ None) tasks
-  free = puts_free laws port all_ids tasks s i.taken book_was i.puts
+  free = puts_free laws port all_ids tasks s i.server_with_slots book_was i.puts
 
   module _ (m : Machine) (reached : IsReachable m) (is : MachineRelation s m) where
     found : (requests : List Pending) × AreTheRequests port (mode_in s port) all_ids tasks m requests
-    found = requests_of_tasks laws port (mode_in s port) all_ids tasks s i.taken book_was i.puts refl m (record { book = is.book; kept = is.quarantine_relation; rows = is.rows })
+    found = requests_of_tasks laws port (mode_in s port) all_ids tasks s i.server_with_slots book_was i.puts refl m (record { book = is.book; kept = is.quarantine_relation; rows = is.rows })
 
     abbrev requests : List Pending
     requests = found.0
 
     abbrev its_slots : DriverSlots
-    its_slots = record { uses = is.uses; parked = is.parked }
+    its_slots = record { slot_states = is.uses; awaiting_disposition = is.awaiting_disposition }
 
     serves : MayServeBatch port tasks (mode_in s port) requests its_slots m
     serves = record {
@@ -288,32 +288,32 @@ module _ (laws : PrerequisiteLaws) (s new : ServerState) (port : Port) (first : 
     abbrev slots_then : DriverSlots
     slots_then = with_serving_batch port tasks requests its_slots
 
-    ends : EndsInSteps (driver_state its_slots s.device) m (issues_of (mode_in s port) requests) (driver_state slots_then new.device)
-    ends = laws.issuing_ends port tasks (mode_in s port) requests s.device new.device its_slots m i.issued.issues found.1.tasks_are reached is.driver_relation serves
+    ends : EndsInSteps (driver_state_of_slots its_slots s.device) m (issues_of (mode_in s port) requests) (driver_state_of_slots slots_then new.device)
+    ends = laws.batch_issue_is_simulated port tasks (mode_in s port) requests s.device new.device its_slots m i.issued.issues found.1.tasks_are reached is.driver_relation serves
 
-    spares : SparesBook m (after m ends.steps)
-    spares = laws.basic.spares m ends.steps ends.only
+    spares : KeepsBookAndLoans m (after m ends.steps)
+    spares = laws.steps_and_accesses.device_steps_spare_book m ends.steps ends.all_steps_are_devices
 
     abbrev own : List Step
     own = issues_of (mode_in s port) requests
 
     leaves : SameButBook (after m ends.steps) (after m (own ++ ends.steps))
-    leaves = subst (SameButBook (after m ends.steps)) (sym (laws.basic.joined m own ends.steps)) (issues_leave laws (mode_in s port) requests (after m ends.steps))
+    leaves = subst (SameButBook (after m ends.steps)) (sym (laws.steps_and_accesses.after_joins m own ends.steps)) (issues_leave laws (mode_in s port) requests (after m ends.steps))
 
     stands : MachineRelation later (after m (own ++ ends.steps))
     stands = record {
-      uses = slots_then.uses;
-      are_uses_of = issues_uses laws port s.ports all_ids tasks s i.taken book_was i.puts requests found.1.ids_are its_slots is.are_uses_of;
-      parked = slots_then.parked;
-      unparked = λ q alive. ap (λ (of : ℕ → List RequestId). of q) (parked_same laws port tasks requests its_slots) ∙ is.unparked q alive;
+      uses = slots_then.slot_states;
+      are_uses_of = issues_uses laws port s.probe_results all_ids tasks s i.server_with_slots book_was i.puts requests found.1.ids_are its_slots is.are_uses_of;
+      awaiting_disposition = slots_then.awaiting_disposition;
+      only_dead_ports_park = λ q alive. ap (λ (of : ℕ → List RequestId). of q) (parked_same laws port tasks requests its_slots) ∙ is.only_dead_ports_park q alive;
       driver_relation = ends.driver_relation;
-      book = subst (λ (n : Machine). BookRelation i.taken.book n.book) (sym (laws.basic.joined m own ends.steps))
-          (issues_book laws port (mode_in s port) all_ids tasks s i.taken i.puts requests found.1.ids_are (after m ends.steps) (book_on s.book m.book (after m ends.steps).book spares.book is.book));
-      quarantine_relation = subst (QuarantineRelation s.ports s.kept) (sym leaves.kept) (still_kept laws s.ports s.kept m.kept (after m ends.steps).kept spares.kept is.quarantine_relation);
+      book = subst (λ (n : Machine). BookRelation i.server_with_slots.book n.book) (sym (laws.steps_and_accesses.after_joins m own ends.steps))
+          (issues_book laws port (mode_in s port) all_ids tasks s i.server_with_slots i.puts requests found.1.ids_are (after m ends.steps) (book_on s.book m.book (after m ends.steps).book spares.book is.book));
+      quarantine_relation = subst (QuarantineRelation s.probe_results s.kept_loans) (sym leaves.kept) (still_kept laws s.probe_results s.kept_loans m.kept (after m ends.steps).kept spares.kept is.quarantine_relation);
       rows = leaves.rows ∙ spares.rows ∙ is.rows;
       owner = λ frame. ap (λ f. f frame) (leaves.owner ∙ spares.owner) ∙ is.owner frame;
       lent = λ frame. ap (λ f. f frame) (leaves.lent ∙ spares.lent) ∙ is.lent frame;
-      next = leaves.next ∙ spares.next ∙ is.next;
+      next_id_is = leaves.next ∙ spares.next_id ∙ is.next_id_is;
     }
 
     pub issued_together : AreIssuedTogether port all_ids s new m
@@ -321,40 +321,40 @@ module _ (laws : PrerequisiteLaws) (s new : ServerState) (port : Port) (first : 
       requests = requests;
       ids_are = found.1.ids_are;
       steps = ends.steps;
-      only = ends.only;
+      only = ends.all_steps_are_devices;
       may = ends.steps_are_enabled;
       backed = ends.is_backed;
       stands = subst (λ (n : ServerState). MachineRelation n (after m (own ++ ends.steps))) (sym new_is) stands;
     }
 
   -- in that no data comes for a command of the driver's own but on dead ports
-  pub together_silent : (q : ℕ) (o : Operation) → op_of o ≡ None → probe_result_of s.ports q ≢ Unready Dead → GainsNoMove q o s.device new.device
+  pub together_silent : (q : ℕ) (o : Operation) → client_operation_of o ≡ None → probe_result_of s.probe_results q ≢ Unready Dead → GainsNoMove q o s.device new.device
   together_silent q o own_op other =
-      laws.issuing_silent port tasks (mode_in s port) (requests k.machine k.reached k.machine_relation) s.device new.device (its_slots k.machine k.reached k.machine_relation) k.machine i.issued.issues (found k.machine k.reached k.machine_relation).1.tasks_are
+      laws.batch_issue_moves_no_page port tasks (mode_in s port) (requests k.machine k.reached k.machine_relation) s.device new.device (its_slots k.machine k.reached k.machine_relation) k.machine i.issued.issues (found k.machine k.reached k.machine_relation).1.tasks_are
       k.reached k.machine_relation.driver_relation (serves k.machine k.reached k.machine_relation) q o own_op
-      (not_own (probe_result_of s.ports q) (used_for s.slots q 0) (k.machine_relation.uses q 0) o other (k.machine_relation.are_uses_of q 0))
+      (not_own (probe_result_of s.probe_results q) (used_for s.slots q 0) (k.machine_relation.uses q 0) o other (k.machine_relation.are_uses_of q 0))
 
   served : IsDrivenBy IsServiceAccess s.device new.device
   served = driven_as (IsBatchAccess port) IsServiceAccess s.device new.device (issuing_serves port) i.issued.issues.driven
 
   -- the acts that do it
-  comes : ActsReach i.issued.issues.driven.accesses (driver_state (its_slots k.machine k.reached k.machine_relation) s.device) k.machine (driver_state (slots_then k.machine k.reached k.machine_relation) new.device)
+  comes : ActsReach i.issued.issues.driven.accesses (driver_state_of_slots (its_slots k.machine k.reached k.machine_relation) s.device) k.machine (driver_state_of_slots (slots_then k.machine k.reached k.machine_relation) new.device)
       (IssuesBatchAtEnd port tasks (mode_in s port) (requests k.machine k.reached k.machine_relation) k.machine_relation.uses)
   comes = i.issued.issues.machine_follows (mode_in s port) (requests k.machine k.reached k.machine_relation) (found k.machine k.reached k.machine_relation).1.tasks_are (its_slots k.machine k.reached k.machine_relation) k.machine k.reached k.machine_relation.driver_relation (serves k.machine k.reached k.machine_relation)
 
   -- what stands behind each port still does
-  behind : (q : ℕ) → q < 4 → PortInvariant s.wanted s.ports q new.device
+  behind : (q : ℕ) → q < 4 → PortInvariant s.wanted s.probe_results q new.device
   behind =
       behind_served laws s new.device port k ready served
-      (λ q small other. laws.looks.other_left port q s.device new.device other k.adapter_is_on (driven_as (IsBatchAccess port) (SparesOtherPorts port) s.device new.device (laws.issuing_of port) i.issued.issues.driven))
+      (λ q small other. laws.port_event_laws.other_ports_are_left port q s.device new.device other k.adapter_is_on (driven_as (IsBatchAccess port) (SparesOtherPorts port) s.device new.device (laws.batch_access_is_of_port port) i.issued.issues.driven))
       (λ q other. together_silent q Identify refl other)
       (λ q.
-      laws.port_error.halts_acts (port_at q) comes.acts (driver_state (its_slots k.machine k.reached k.machine_relation) s.device) (driver_state (slots_then k.machine k.reached k.machine_relation) new.device) k.machine k.reached k.machine_relation.driver_relation comes.acts_are_done
-      (subst (All (DoesNotWrite (Px (port_at q) Cmd))) (sym comes.accesses_are)
+      laws.port_error.halt_of_taken_stays_over_acts (port_at q) comes.acts (driver_state_of_slots (its_slots k.machine k.reached k.machine_relation) s.device) (driver_state_of_slots (slots_then k.machine k.reached k.machine_relation) new.device) k.machine k.reached k.machine_relation.driver_relation comes.acts_are_done
+      (subst (All (DoesNotWrite (Px (port_at q) Cmd))) (sym comes.accesses_match_acts)
       (All-weaker (IsBatchAccess port) (DoesNotWrite (Px (port_at q) Cmd)) (issuing_commands port (port_at q)) i.issued.issues.driven.accesses i.issued.issues.driven.accesses_are_of_kind)))
 
   -- each slot's bytes say its command
-  commands_then : (q n : ℕ) (used : SlotUse) → used_for i.taken.slots q n ≡ Some used → HasStoredCommand used.queued new.device q n
+  commands_then : (q n : ℕ) (used : SlotUse) → used_for i.server_with_slots.slots q n ≡ Some used → HasStoredCommand used.queued new.device q n
   commands_then q n used is = ⊎_elim
       (λ (was : (used_for s.slots q n ≡ Some used) × ((t : PlacedTask) → Contains tasks t → AreApart port.0 t.slot q n)).
       let there = used_there s q n used k was.0 in
@@ -362,20 +362,20 @@ module _ (laws : PrerequisiteLaws) (s new : ServerState) (port : Port) (first : 
       record {
         command = h.command;
         places = h.places;
-        stored = laws.slots.stored (port_at q) n h.command h.places comes.acts (driver_state (its_slots k.machine k.reached k.machine_relation) s.device) _ k.machine k.reached k.machine_relation.driver_relation comes.acts_are_done
+        stored = laws.slots.stored_stays_over_acts (port_at q) n h.command h.places comes.acts (driver_state_of_slots (its_slots k.machine k.reached k.machine_relation) s.device) _ k.machine k.reached k.machine_relation.driver_relation comes.acts_are_done
             (λ a d small.
             batch_leaves_stored laws port (port_at q) tasks n low there.0 there.1 (λ t here. (All-contains (λ (x : PlacedTask). x.slot < 32) tasks t i.issued.issues.slots_in_range here, was.1 t here)) _
-            (subst (All (IsBatchAccess port)) (sym comes.accesses_are) i.issued.issues.driven.accesses_are_of_kind a d small)
-            (subst (All (IsOfBatch port tasks)) (sym comes.accesses_are) (of_batch port i.issued.issues.queued tasks i.issued.issues.driven.accesses i.issued.issues.order) a d small)) k.adapter_is_on h.stored;
-        kind = h.kind;
+            (subst (All (IsBatchAccess port)) (sym comes.accesses_match_acts) i.issued.issues.driven.accesses_are_of_kind a d small)
+            (subst (All (IsOfBatch port tasks)) (sym comes.accesses_match_acts) (of_batch port i.issued.issues.queued tasks i.issued.issues.driven.accesses i.issued.issues.stores_come_first) a d small)) k.adapter_is_on h.stored;
+        is_queued_as_given = h.is_queued_as_given;
       })
       (λ (its : (q ≡ port.0) × ((t : PlacedTask) × Contains tasks t × (t.slot ≡ n) × (t.task.queued ≡ used.queued))).
       let t = its.1.0 in
-      let stored = All-contains (λ (x : PlacedTask). IsStored new.device port.0 x.slot (meaning_of x.task) (addresses_of port.0 x.task.op x.task.range.count x.frames)) tasks t i.issued.stored its.1.1 in
+      let stored = All-contains (λ (x : PlacedTask). IsStored new.device port.0 x.slot (meaning_of x.task) (piece_addresses_of port.0 x.task.op x.task.range.count x.frames)) tasks t i.issued.stored its.1.1 in
       subst (λ (queued : Bool). HasStoredCommand queued new.device q n) its.1.3
       (subst (λ (p : ℕ). HasStoredCommand t.task.queued new.device p n) (sym its.0) (subst (λ (slot : ℕ). HasStoredCommand t.task.queued new.device port.0 slot) its.1.2
-      (record { command = _; places = _; stored = stored; kind = kind_of t its.1.1 }))))
-      (puts_used laws port all_ids tasks s i.taken book_was i.puts q n used is)
+      (record { command = _; places = _; stored = stored; is_queued_as_given = kind_of t its.1.1 }))))
+      (puts_used laws port all_ids tasks s i.server_with_slots book_was i.puts q n used is)
     where
       kind_of : (t : PlacedTask) → Contains tasks t → is_queued (task_operation t.task.queued t.task.op) ≡ t.task.queued
       kind_of t here =
@@ -387,8 +387,8 @@ module _ (laws : PrerequisiteLaws) (s new : ServerState) (port : Port) (first : 
   together_kept =
       let x = issued_together k.machine k.reached k.machine_relation in
       subst InCallInvariant (sym new_is)
-      (kept_then s new.device s.grants s.table i.taken.slots i.taken.book s.last_id k k.rows_are_valid
-      (laws.looking.services_on s.device new.device k.adapter_is_on served) (laws.looking.services_same s.device new.device served) behind refl
+      (kept_then s new.device s.grants s.table i.server_with_slots.slots i.server_with_slots.book s.last_id k k.rows_are_valid
+      (laws.look_laws.service_keeps_adapter_on s.device new.device k.adapter_is_on served) (laws.look_laws.service_keeps_adapter s.device new.device served) behind refl
       book_then.four book_then.slots book_then.kinds commands_then book_then.alone book_then.accepted book_then.ordered book_then.marked book_then.handed_out book_then.ready
-      (after k.machine (issues_of (mode_in s port) x.requests ++ x.steps)) (laws.basic.reached k.machine (issues_of (mode_in s port) x.requests ++ x.steps) k.reached x.may)
+      (after k.machine (issues_of (mode_in s port) x.requests ++ x.steps)) (laws.steps_and_accesses.reachable_stays_reachable k.machine (issues_of (mode_in s port) x.requests ++ x.steps) k.reached x.may)
       (subst (λ (n : ServerState). MachineRelation n (after k.machine (issues_of (mode_in s port) x.requests ++ x.steps))) new_is x.stands))

@@ -45,7 +45,7 @@ pub older_ended : (ready : Port → Bool) (e : Pending) → (aged_pending ready 
 older_ended ready e = older_by (λ x. x.ended ≡ e.ended) ready e refl refl
 
 -- and so it is in the book
-pub entry_by : (P : PendingRequest → Type 0) (ready : Port → Bool) (r : PendingRequest) → P r → ((age : ℕ) → P (record r { age = age })) → P (entries.aged_entry ready r)
+pub entry_by : (P : PendingRequest → Type 0) (ready : Port → Bool) (r : PendingRequest) → P r → ((age : ℕ) → P (record r { age = age })) → P (entries.aged_request ready r)
 entry_by P ready r same other = by (r.issued && ready r.port)
   where
     by : (b : Bool) → P (if b then record r { age = min (suc r.age) 3 } else r)
@@ -62,20 +62,20 @@ module _ (memory : ℕ → ℕ) (p : DevicePort) (port slot : ℕ) where
   progress_on Flush e age t x = x
 
   stage_on : (e : Pending) (age : ℕ) (c : Meaning) (places : List ℕ) → IsInSomeStage memory p port slot e c places → IsInSomeStage memory p port slot (record e { age = age }) c places
-  stage_on e age c places (inl w) = inl (record { started = w.started; issued = w.issued; free = w.free; sact = w.sact; block = w.block; untouched = w.untouched; unended = w.unended })
+  stage_on e age c places (inl w) = inl (record { started = w.started; issued = w.issued; is_not_taken = w.is_not_taken; sact = w.sact; has_block_if_trim = w.has_block_if_trim; untouched = w.untouched; unended = w.unended })
   stage_on e age c places (inr (inl t)) = inr (inl (record {
     command = t.command;
     taken = t.taken;
     meaning = t.meaning;
     places_are = t.places_are;
     running = t.running;
-    issued = t.issued;
+    ci_is_set_while_plain = t.ci_is_set_while_plain;
     sact = t.sact;
     progress = progress_on e.request.asked.op e age t.command t.progress;
     unended = t.unended;
   }))
-  stage_on e age c places (inr (inr (inl d))) = inr (inr (inl (record { issued = d.issued; sact = d.sact; free = d.free; ended = d.ended; touched = d.touched })))
-  stage_on e age c places (inr (inr (inr d))) = inr (inr (inr (record { stopped = d.stopped; issued = d.issued; sact = d.sact; free = d.free; unended = d.unended })))
+  stage_on e age c places (inr (inr (inl d))) = inr (inr (inl (record { is_not_issued = d.is_not_issued; sact_is_clear = d.sact_is_clear; is_not_taken = d.is_not_taken; ended = d.ended; touched = d.touched })))
+  stage_on e age c places (inr (inr (inr d))) = inr (inr (inr (record { st_is_clear = d.st_is_clear; is_not_issued = d.is_not_issued; sact_is_clear = d.sact_is_clear; is_not_taken = d.is_not_taken; unended = d.unended })))
 
   -- a slot that served the request does so still
   pub serves_on : (m : Machine) (ready : Port → Bool) (id : RequestId) → ServesRequest m memory p port slot id → ServesRequest (after_step m (Age ready)) memory p port slot id
@@ -110,30 +110,30 @@ module _ (memory : ℕ → ℕ) (p : DevicePort) (port slot : ℕ) where
 
 module _ (laws : PrerequisiteLaws) (s : ServerState) where
   abbrev ready : Port → Bool
-  ready port = is_ready (probe_result_of s.ports port.0)
+  ready port = is_ready (probe_result_of s.probe_results port.0)
 
   pub older_stands : (m : Machine) → MachineRelation s m → MachineRelation (a_tick_older s) (after_step m (Age ready))
   older_stands m is = record {
     uses = is.uses;
     are_uses_of = is.are_uses_of;
-    parked = is.parked;
-    unparked = is.unparked;
-    driver_relation = laws.ages.agrees (driver_state_of is.uses is.parked s.device) m ready is.driver_relation;
-    book = laws.ages.book s.book m ready is.book;
+    awaiting_disposition = is.awaiting_disposition;
+    only_dead_ports_park = is.only_dead_ports_park;
+    driver_relation = laws.ages.aging_keeps_driver_relation (driver_state_of is.uses is.awaiting_disposition s.device) m ready is.driver_relation;
+    book = laws.ages.aging_keeps_book_relation s.book m ready is.book;
     quarantine_relation = is.quarantine_relation;
     rows = is.rows;
     owner = is.owner;
     lent = is.lent;
-    next = is.next;
+    next_id_is = is.next_id_is;
   }
 
   -- who is in the book then was in it
-  was_held : (e : BookEntry) → Contains (a_tick_older s).book e → (o : BookEntry) × Contains s.book o × (e ≡ record o { entry = entries.aged_entry ready o.entry })
-  was_held e here = map_in (λ (x : BookEntry). record x { entry = entries.aged_entry ready x.entry }) s.book e here
+  was_held : (e : BookEntry) → Contains (a_tick_older s).book e → (o : BookEntry) × Contains s.book o × (e ≡ record o { request = entries.aged_request ready o.request })
+  was_held e here = map_in (λ (x : BookEntry). record x { request = entries.aged_request ready x.request }) s.book e here
 
-  still_all : (P : BookEntry → Type 0) → ((e : BookEntry) (age : ℕ) → P e → P (record e { entry = record (e.entry) { age = age } })) → All P s.book → All P (a_tick_older s).book
-  still_all P keeps all = All-map P (λ (x : BookEntry). record x { entry = entries.aged_entry ready x.entry }) s.book
-      (λ k d lt. entry_by (λ r. P (record (get_or s.book k d) { entry = r })) ready (get_or s.book k d).entry (all k d lt) (λ age. keeps (get_or s.book k d) age (all k d lt)))
+  still_all : (P : BookEntry → Type 0) → ((e : BookEntry) (age : ℕ) → P e → P (record e { request = record (e.request) { age = age } })) → All P s.book → All P (a_tick_older s).book
+  still_all P keeps all = All-map P (λ (x : BookEntry). record x { request = entries.aged_request ready x.request }) s.book
+      (λ k d lt. entry_by (λ r. P (record (get_or s.book k d) { request = r })) ready (get_or s.book k d).request (all k d lt) (λ age. keeps (get_or s.book k d) age (all k d lt)))
 
   pub older_settled : SettledInvariant s → SettledInvariant (a_tick_older s)
   older_settled settled = record {
@@ -142,32 +142,32 @@ module _ (laws : PrerequisiteLaws) (s : ServerState) where
       driver_memory_fits = k.driver_memory_fits;
       served_ports_exist = k.served_ports_exist;
       port_invariant = k.port_invariant;
-      four_slots = k.four_slots;
-      four_modes = k.four_modes;
-      four_remembered = k.four_remembered;
-      four_kept = k.four_kept;
-      few_kept = k.few_kept;
-      modes = k.modes;
-      slots = k.slots;
+      slots_are_of_four_ports = k.slots_are_of_four_ports;
+      modes_are_of_four_ports = k.modes_are_of_four_ports;
+      remembered_is_of_four_ports = k.remembered_is_of_four_ports;
+      kept_loans_are_of_four_ports = k.kept_loans_are_of_four_ports;
+      at_most_32_loans_kept_by_port = k.at_most_32_loans_kept_by_port;
+      modes_are_probed = k.modes_are_probed;
+      slots_invariant = k.slots_invariant;
       slots_queue_as_asked = λ port slot used e its here id.
           let w = was_held e here in
-          let same_id = ap (λ (x : BookEntry). x.entry.id) w.2 ∙ entry_by (λ r. r.id ≡ w.0.entry.id) ready w.0.entry refl (λ age. refl) in
-          let same_op = ap (λ (x : BookEntry). x.entry.op) w.2 ∙ entry_by (λ r. r.op ≡ w.0.entry.op) ready w.0.entry refl (λ age. refl) in
+          let same_id = ap (λ (x : BookEntry). x.request.id) w.2 ∙ entry_by (λ r. r.id ≡ w.0.request.id) ready w.0.request refl (λ age. refl) in
+          let same_op = ap (λ (x : BookEntry). x.request.op) w.2 ∙ entry_by (λ r. r.op ≡ w.0.request.op) ready w.0.request refl (λ age. refl) in
           k.slots_queue_as_asked port slot used w.0 its w.1 (sym same_id ∙ id) ∙ ap (λ (op : Op). not (is_plain (mode_in s port) op)) (sym same_op);
       slots_store_commands = k.slots_store_commands;
       plain_stands_alone = k.plain_stands_alone;
       rows_are_valid = k.rows_are_valid;
       owned_frames_are_clients = k.owned_frames_are_clients;
-      requests_are_accepted = laws.ages.accepted s.table s.book ready k.requests_are_accepted;
-      book_is_in_order = laws.ages.ordered s.book ready k.book_is_in_order;
+      entries_are_well_formed = laws.ages.aging_keeps_well_formed_entries s.table s.book ready k.entries_are_well_formed;
+      book_is_well_formed = laws.ages.aging_keeps_well_formed_book s.book ready k.book_is_well_formed;
       revoked_marks_agree = still_all (RevokedMarkInvariant s.grants) (older_marked s.grants) k.revoked_marks_agree;
-      ids_were_handed_out = still_all (λ e. e.entry.id.0 ≤ s.last_id) (λ e age x. x) k.ids_were_handed_out;
-      requests_are_of_ready_ports = still_all (λ e. state_of (probe_result_of s.ports e.entry.port.0) ≡ ReadyState) (λ e age x. x) k.requests_are_of_ready_ports;
+      ids_were_handed_out = still_all (λ e. e.request.id.0 ≤ s.last_id) (λ e age x. x) k.ids_were_handed_out;
+      requests_are_of_ready_ports = still_all (λ e. state_of (probe_result_of s.probe_results e.request.port.0) ≡ ReadyState) (λ e age x. x) k.requests_are_of_ready_ports;
       machine = after_step k.machine (Age ready);
-      reached = laws.basic.reached k.machine (Age ready ∷ []) k.reached (tt, tt);
+      reached = laws.steps_and_accesses.reachable_stays_reachable k.machine (Age ready ∷ []) k.reached (tt, tt);
       machine_relation = older_stands k.machine k.machine_relation;
     };
-    nothing_is_due = λ port. subst (λ (us : List Unanswered). NoneDue (mode_in s port) us port) (sym (laws.ages.asks s.book ready)) (settled.nothing_is_due port);
+    nothing_is_due = λ port. subst (λ (us : List Unanswered). NoneDue (mode_in s port) us port) (sym (laws.ages.aging_keeps_unanswered s.book ready)) (settled.nothing_is_due port);
   }
     where
       k : InCallInvariant s

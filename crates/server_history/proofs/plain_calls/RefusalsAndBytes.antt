@@ -11,20 +11,20 @@ use Rattle.ata_types.specs.declared.request.Request.{Request}
 use Rattle.ata_types.specs.declared.request.RequestId.{RequestId}
 use Rattle.adapter.specs.Access.{Access, Does, Loads, Stores}
 use Rattle.adapter.specs.Access.Access.{Loading, Reading, Storing, Writing}
-use Rattle.adapter.specs.ToldSteps.{DoesOrFailsStep}
+use Rattle.adapter.specs.AskedSteps.{DoesOrFailsStep}
 use Rattle.adapter.specs.Device.{Device}
 use Rattle.adapter.specs.Rules.{IsUnowned, IsStable}
 use Rattle.adapter.specs.Steps.{Steps}
 use Rattle.adapter.specs.declared.access.DeviceStep.{DeviceStep}
 use Rattle.adapter.specs.declared.command.Operation.TheVariants.{Identify}
 use Rattle.refinement.specs.Fragments.{IsDrivenBy, GainsNoMove, driver_state_of}
-use Rattle.refinement.specs.Driver.{EndsInStep}
-use Rattle.refinement.specs.Links.{SameAdapter, DoesNotWrite}
+use Rattle.refinement.specs.Driver.{EndsInOneStep}
+use Rattle.refinement.specs.PreservedParts.{SameAdapter, DoesNotWrite}
 use Rattle.hba_regs.specs.declared.reg.PortReg.TheVariants.{Cmd}
 use Rattle.hba_regs.specs.declared.reg.Reg.TheVariants.{Ghc, Px}
-use Rattle.refinement.specs.SparedBook.{SparesBook}
+use Rattle.refinement.specs.SparedBook.{KeepsBookAndLoans}
 use Rattle.server_history.proofs.state.DrivenAccesses.{by_one}
-use Rattle.block_machine.specs.Events.{AbstractCall, Submit, StoreAt, LoadAt, Service, Tick, Reset, RevokeOf, State, AllEnabled, Device as Told, CallResult, Submitted, Shown, Stepped, IsAnswered, AbstractState, WasRevoked}
+use Rattle.block_machine.specs.Events.{AbstractCall, Submit, StoreAt, LoadAt, Service, Tick, Reset, RevokeOf, State, AllEnabled, StepDevice as Told, AbstractCallResult, Submitted, PortStateShown, Stepped, ResultMatchesSteps, AbstractState, WasRevoked}
 use Rattle.block_machine.specs.Rules.{HasRow}
 use Rattle.block_machine.specs.Histories.{JointState, JointEvent, IsReachable, joint_state_after}
 use Rattle.block_machine.specs.Expected.{after}
@@ -44,11 +44,11 @@ use Rattle.server_history.specs.Prerequisites.{PrerequisiteLaws}
 use Rattle.driver_history.specs.EvidenceHandling.{OnlyFailedPortsRequeueIn}
 use Rattle.driver_history.specs.Histories.{ExplainsAccesses, IssuesAllDue, IssuesDue, LosesNoPortError, PortCorresponds}
 use Rattle.driver_history.specs.AccessTrace.{ClearsNoError, LeavesEngine}
-use Rattle.server_history.specs.Histories.{ExtendsSettled, ExtendsHistory, LeadsToServer, ServerRelation, load_said, store_said}
-use Rattle.server_history.specs.ServerState.{HasStoredCommand, ServerState, InCallInvariant, MachineRelation, PortInvariant, SettledInvariant, OwnedFramesAreClients, mode_in, ports_of, admission_context, used_for}
+use Rattle.server_history.specs.Histories.{ExtendsSettled, ExtendsHistory, LeadsToServer, ServerRelation, load_result, store_result}
+use Rattle.server_history.specs.ServerState.{HasStoredCommand, ServerState, InCallInvariant, MachineRelation, PortInvariant, SettledInvariant, OwnedFramesAreInMemory, mode_in, ports_of, admission_context, used_for}
 use Rattle.slots.specs.declared.SlotUse.{SlotUse}
 use Rattle.refinement.specs.Relation.{port_at}
-use Rattle.refinement.specs.MemoryLayout.{IsTableByte}
+use Rattle.refinement.specs.MemoryLayout.{IsHeaderOrTableByte}
 use Rattle.server_history.proofs.state.StoredCommands.{service_leaves_stored}
 use Rattle.server_history.proofs.state.DueRequests.{none_issued}
 use Rattle.server_history.proofs.state.DeviceSteps.{devices_belong, devices_last, devices_lawful, devices_transfer}
@@ -62,7 +62,7 @@ use Rattle.server_history.proofs.state.PortSlots.{not_own, used_there}
 
 module _ (laws : PrerequisiteLaws) (first : JointState Device) (past : List (JointEvent Device DeviceStep)) (s : ServerState) (leads : LeadsToServer first past s) where
   pub reached : IsReachable (joint_state_after first past).abstract.machine
-  reached = laws.basic.history_reached s.wanted first past leads.history
+  reached = laws.steps_and_accesses.history_machine_is_reachable s.wanted first past leads.history
 
 -- what holds of the server's owners and loans holds of the machine's
 pub as_told : (s : ServerState) (m : Machine) → MachineRelation s m → (P : (Frame → Option ClientId) → (Frame → Option RequestId) → Type 0) → P (owner_of s.table) (lent_to s.table) → P m.owner m.lent
@@ -76,7 +76,7 @@ loads_above : (at : ℕ) (bytes : List ℕ) → StoresAbove (Loading at bytes)
 loads_above at bytes from stored is = let x : Loading at bytes ≡ Storing from stored = is in absurd cc
 
 -- header and table of a slot lie below that
-above_table : (port slot place : ℕ) → port < 4 → slot < 32 → IsTableByte port slot place → DRIVER_BYTES ≤ place → ⊥
+above_table : (port slot place : ℕ) → port < 4 → slot < 32 → IsHeaderOrTableByte port slot place → DRIVER_BYTES ≤ place → ⊥
 above_table port slot place low small (inl t) high = omega (arith, low, small, t.1, high)
 above_table port slot place low small (inr (inl t)) high = omega (arith, low, small, t.1, high)
 above_table port slot place low small (inr (inr t)) high = omega (arith, low, small, t.1, high)
@@ -110,7 +110,7 @@ pub record GoesTo (s : ServerState) (new : Device) : Type 0 where
   pub port_error : (m : AbstractState) → m.ports ≡ ports_of s → (port : Port) → LosesNoPortError (told_by s.device m.ports) (still s m) (ports_of s) new port
 
 -- what of it stands in the device's terms, for each port
-abbrev Parts : ServerState → Device → AbstractCall DeviceStep → CallResult → List Step → List Access → Type 0
+abbrev Parts : ServerState → Device → AbstractCall DeviceStep → AbstractCallResult → List Step → List Access → Type 0
 Parts s new ask said steps accesses = (m : AbstractState) → m.ports ≡ ports_of s → (port : Port) → PortCorresponds (still s m) (happening (still s m) new ask said steps (ports_of s)) accesses port
 
 module _ (laws : PrerequisiteLaws) where
@@ -122,30 +122,30 @@ module _ (laws : PrerequisiteLaws) where
     lent = λ frame. at.machine_stands_for_it.lent frame i;
     state = ap (λ (ports : Ports). ports.state) at.ports_are i;
     sectors = ap (λ (ports : Ports). ports.sectors) at.ports_are i;
-    trims = ap (λ (ports : Ports). ports.trims) at.ports_are i;
-    unanswered = λ client. laws.counts s.book old.abstract.machine.book client at.machine_stands_for_it.book i;
-    next_id = at.machine_stands_for_it.next i;
+    zeroes_after_trim = ap (λ (ports : Ports). ports.zeroes_after_trim) at.ports_are i;
+    unanswered_count = λ client. laws.client_counts_agree s.book old.abstract.machine.book client at.machine_stands_for_it.book i;
+    next_id = at.machine_stands_for_it.next_id_is i;
   }
 
   -- the machine of a load is that of the device's steps
   pub load_ends : (s : ServerState) (new : Device) (client : ClientId) (frame : Frame) (offset : ℕ) (bytes : List ℕ) → MayAccessFrame (owner_of s.table) (lent_to s.table) client frame offset (length bytes)
       → Loads (4096 * frame.0 + offset) bytes s.device new → (m : Machine) → IsReachable m → (is : MachineRelation s m)
-      → (x : EndsInStep (driver_state_of is.uses is.parked s.device) m (Load client frame offset bytes) (driver_state_of is.uses is.parked new)) × MachineRelation (record s { device = new }) (after m (Load client frame offset bytes ∷ x.steps))
+      → (x : EndsInOneStep (driver_state_of is.uses is.awaiting_disposition s.device) m (Load client frame offset bytes) (driver_state_of is.uses is.awaiting_disposition new)) × MachineRelation (record s { device = new }) (after m (Load client frame offset bytes ∷ x.steps))
   load_ends s new client frame offset bytes opens loads m r is =
-      let x : EndsInStep (driver_state_of is.uses is.parked s.device) m (Load client frame offset bytes) (driver_state_of is.uses is.parked new) =
-      laws.client_loads (driver_state_of is.uses is.parked s.device) m client frame offset bytes new r is.driver_relation (as_told s m is (λ owner lent. MayAccessFrame owner lent client frame offset (length bytes)) opens) loads in
-      (x, machine_with laws s new m (after m (Load client frame offset bytes ∷ x.steps)) is (laws.basic.spares m x.steps x.only) x.driver_relation)
+      let x : EndsInOneStep (driver_state_of is.uses is.awaiting_disposition s.device) m (Load client frame offset bytes) (driver_state_of is.uses is.awaiting_disposition new) =
+      laws.client_loads (driver_state_of is.uses is.awaiting_disposition s.device) m client frame offset bytes new r is.driver_relation (as_told s m is (λ owner lent. MayAccessFrame owner lent client frame offset (length bytes)) opens) loads in
+      (x, machine_with laws s new m (after m (Load client frame offset bytes ∷ x.steps)) is (laws.steps_and_accesses.device_steps_spare_book m x.steps x.all_steps_are_devices) x.driver_relation)
 
   pub store_ends : (s : ServerState) (new : Device) (client : ClientId) (frame : Frame) (offset : ℕ) (bytes : List ℕ) → MayAccessFrame (owner_of s.table) (lent_to s.table) client frame offset (length bytes)
       → Stores (4096 * frame.0 + offset) bytes s.device new → (m : Machine) → IsReachable m → (is : MachineRelation s m)
-      → (x : EndsInStep (driver_state_of is.uses is.parked s.device) m (Store client frame offset bytes) (driver_state_of is.uses is.parked new)) × MachineRelation (record s { device = new }) (after m (Store client frame offset bytes ∷ x.steps))
+      → (x : EndsInOneStep (driver_state_of is.uses is.awaiting_disposition s.device) m (Store client frame offset bytes) (driver_state_of is.uses is.awaiting_disposition new)) × MachineRelation (record s { device = new }) (after m (Store client frame offset bytes ∷ x.steps))
   store_ends s new client frame offset bytes opens stores m r is =
-      let x : EndsInStep (driver_state_of is.uses is.parked s.device) m (Store client frame offset bytes) (driver_state_of is.uses is.parked new) =
-      laws.client_stores (driver_state_of is.uses is.parked s.device) m client frame offset bytes new r is.driver_relation (as_told s m is (λ owner lent. MayAccessFrame owner lent client frame offset (length bytes)) opens) stores in
-      let spares : SparesBook m (after m x.steps) = laws.basic.spares m x.steps x.only in (
+      let x : EndsInOneStep (driver_state_of is.uses is.awaiting_disposition s.device) m (Store client frame offset bytes) (driver_state_of is.uses is.awaiting_disposition new) =
+      laws.client_stores (driver_state_of is.uses is.awaiting_disposition s.device) m client frame offset bytes new r is.driver_relation (as_told s m is (λ owner lent. MayAccessFrame owner lent client frame offset (length bytes)) opens) stores in
+      let spares : KeepsBookAndLoans m (after m x.steps) = laws.steps_and_accesses.device_steps_spare_book m x.steps x.all_steps_are_devices in (
         x,
         machine_with laws s new m (after m (Store client frame offset bytes ∷ x.steps)) is
-            (record { rows = spares.rows; owner = spares.owner; lent = spares.lent; next = spares.next; book = spares.book; kept = spares.kept }) x.driver_relation,
+            (record { rows = spares.rows; owner = spares.owner; lent = spares.lent; next_id = spares.next_id; book = spares.book; kept = spares.kept }) x.driver_relation,
       )
 
   -- ---- calls that do nothing
@@ -162,15 +162,15 @@ module _ (laws : PrerequisiteLaws) where
   none_grounded (State port) evidence = tt
   none_grounded (Told step) evidence = tt
 
-  pub nothing_event : (s : ServerState) (ask : AbstractCall DeviceStep) (said : CallResult) → GoesTo s s.device → ((m : AbstractState) → ExplainsAccesses m ask said [] s.device s.device)
-      → ((old : JointState Device) → ServerRelation old s → (evidence : Evidence) → IsAnswered ask said old.abstract evidence [] (record { machine = old.abstract.machine; ports = ports_of s }))
+  pub nothing_event : (s : ServerState) (ask : AbstractCall DeviceStep) (said : AbstractCallResult) → GoesTo s s.device → ((m : AbstractState) → ExplainsAccesses m ask said [] s.device s.device)
+      → ((old : JointState Device) → ServerRelation old s → (evidence : Evidence) → ResultMatchesSteps ask said old.abstract evidence [] (record { machine = old.abstract.machine; ports = ports_of s }))
       → ((old : JointState Device) → IsReachable old.abstract.machine → ServerRelation old s → (port : Port) → IssuesAllDue ask [] old.abstract.machine (ports_of s) port)
       → Parts s s.device ask said [] []
       → ExtendsHistory s s ask said
   nothing_event s ask said goes came answered issues parts first past leads =
       let old : JointState Device = joint_state_after first past in
-      lead_by laws first past s s ask said [] refl refl leads goes.holds tt tt tt tt (answered old leads.stands (told_by s.device old.abstract.ports)) (none_grounded ask (told_by s.device old.abstract.ports)) [] (came old.abstract)
-      (λ port. All-nil (LeavesEngine port)) (issues old (reached laws first past s leads) leads.stands) (parts old.abstract leads.stands.ports_are) (laws.backed_none s.device old.abstract.machine) leads.stands.machine_stands_for_it
+      lead_by laws first past s s ask said [] refl refl leads goes.holds tt tt tt tt (answered old leads.state_is_at_history_end (told_by s.device old.abstract.ports)) (none_grounded ask (told_by s.device old.abstract.ports)) [] (came old.abstract)
+      (λ port. All-nil (LeavesEngine port)) (issues old (reached laws first past s leads) leads.state_is_at_history_end) (parts old.abstract leads.state_is_at_history_end.ports_are) (laws.backed_none s.device old.abstract.machine) leads.state_is_at_history_end.machine_stands_for_it
 
   module _ (s : ServerState) (goes : GoesTo s s.device) where
     pub undone_event : (step : DeviceStep) → ExtendsHistory s s (Told step) (Stepped false)
@@ -179,24 +179,24 @@ module _ (laws : PrerequisiteLaws) where
         (λ old at evidence. (refl, ports_same old.abstract.ports (ports_of s) at.ports_are)) (λ old was at port. tt)
         (λ m are port. record { finds_done = tt; plain_faults_are_told = tt; probes_disk = tt; boots_anew = tt; loses_no_error = goes.port_error m are port; runs_well_anew = λ i. absurd (uninterrupted s.device m.ports port i); handles_evidence = uninterrupted s.device m.ports port })
 
-    pub state_event : (port : Port) → ExtendsHistory s s (State port) (Shown ((ports_of s).state port))
+    pub state_event : (port : Port) → ExtendsHistory s s (State port) (PortStateShown ((ports_of s).state port))
     state_event port =
-        nothing_event s (State port) (Shown ((ports_of s).state port)) goes (λ m. (refl, refl))
+        nothing_event s (State port) (PortStateShown ((ports_of s).state port)) goes (λ m. (refl, refl))
         (λ old at evidence. (ap (λ (ports : Ports). ports.state port) (sym at.ports_are), refl, ports_same old.abstract.ports (ports_of s) at.ports_are)) (λ old was at q. tt)
         (λ m are q. record { finds_done = tt; plain_faults_are_told = tt; probes_disk = tt; boots_anew = tt; loses_no_error = goes.port_error m are q; runs_well_anew = λ i. absurd (uninterrupted s.device m.ports q i); handles_evidence = uninterrupted s.device m.ports q })
 
     pub store_refused_event : (client : ClientId) (frame : Frame) (offset : ℕ) (bytes : List ℕ) (fault : MemFault)
-        → IsFirstMemFault (owner_of s.table) (lent_to s.table) client frame offset (length bytes) fault → ExtendsHistory s s (StoreAt client frame offset bytes) (store_said (Err fault))
+        → IsFirstMemFault (owner_of s.table) (lent_to s.table) client frame offset (length bytes) fault → ExtendsHistory s s (StoreAt client frame offset bytes) (store_result (Err fault))
     store_refused_event client frame offset bytes fault is =
-        nothing_event s (StoreAt client frame offset bytes) (store_said (Err fault)) goes (λ m. (refl, refl))
+        nothing_event s (StoreAt client frame offset bytes) (store_result (Err fault)) goes (λ m. (refl, refl))
         (λ old at evidence. (ports_same old.abstract.ports (ports_of s) at.ports_are, as_told s old.abstract.machine at.machine_stands_for_it (λ owner lent. IsFirstMemFault owner lent client frame offset (length bytes) fault) is, refl))
         (λ old was at port. tt)
         (λ m are port. record { finds_done = tt; plain_faults_are_told = tt; probes_disk = tt; boots_anew = tt; loses_no_error = goes.port_error m are port; runs_well_anew = λ i. absurd (uninterrupted s.device m.ports port i); handles_evidence = uninterrupted s.device m.ports port })
 
     pub load_refused_event : (client : ClientId) (frame : Frame) (offset count : ℕ) (bytes : List ℕ) (fault : MemFault)
-        → IsFirstMemFault (owner_of s.table) (lent_to s.table) client frame offset count fault → ExtendsHistory s s (LoadAt client frame offset count) (load_said (Err fault) bytes)
+        → IsFirstMemFault (owner_of s.table) (lent_to s.table) client frame offset count fault → ExtendsHistory s s (LoadAt client frame offset count) (load_result (Err fault) bytes)
     load_refused_event client frame offset count bytes fault is =
-        nothing_event s (LoadAt client frame offset count) (load_said (Err fault) bytes) goes (λ m. (refl, refl))
+        nothing_event s (LoadAt client frame offset count) (load_result (Err fault) bytes) goes (λ m. (refl, refl))
         (λ old at evidence. (ports_same old.abstract.ports (ports_of s) at.ports_are, as_told s old.abstract.machine at.machine_stands_for_it (λ owner lent. IsFirstMemFault owner lent client frame offset count fault) is, refl))
         (λ old was at port. tt)
         (λ m are port. record { finds_done = tt; plain_faults_are_told = tt; probes_disk = tt; boots_anew = tt; loses_no_error = goes.port_error m are port; runs_well_anew = λ i. absurd (uninterrupted s.device m.ports port i); handles_evidence = uninterrupted s.device m.ports port })
@@ -227,13 +227,13 @@ module _ (laws : PrerequisiteLaws) where
     pub device_event : (step : DeviceStep) → DoesOrFailsStep step s.device new → Steps s.device new → ExtendsHistory s (record s { device = new }) (Told step) (Stepped true)
     device_event step asked moves first past leads =
         let old : JointState Device = joint_state_after first past in
-        let at : ServerRelation old s = leads.stands in
+        let at : ServerRelation old s = leads.state_is_at_history_end in
         let m = at.machine_stands_for_it in
-        let x = (laws.basic.device_adds (driver_state_of m.uses m.parked s.device) new moves).simulates old.abstract.machine (reached laws first past s leads) m.driver_relation in
+        let x = (laws.steps_and_accesses.device_steps_are_simulated (driver_state_of m.uses m.awaiting_disposition s.device) new moves).simulates old.abstract.machine (reached laws first past s leads) m.driver_relation in
         let steps : List Step = x.0 in
-        lead_by laws first past s then_is (Told step) (Stepped true) steps refl refl leads goes.holds x.1 (devices_belong (Told step) (ports_of s) steps x.3.only) (devices_last steps x.3.only)
-        (devices_lawful old.abstract no_evidence (ports_of s) steps x.3.only)
-        (x.3.only, ports_same old.abstract.ports (ports_of s) at.ports_are)
+        lead_by laws first past s then_is (Told step) (Stepped true) steps refl refl leads goes.holds x.1 (devices_belong (Told step) (ports_of s) steps x.3.all_steps_are_devices) (devices_last steps x.3.all_steps_are_devices)
+        (devices_lawful old.abstract no_evidence (ports_of s) steps x.3.all_steps_are_devices)
+        (x.3.all_steps_are_devices, ports_same old.abstract.ports (ports_of s) at.ports_are)
         tt
         []
         (refl, asked)
@@ -241,19 +241,19 @@ module _ (laws : PrerequisiteLaws) where
         (λ port. tt)
         (λ port. record { finds_done = tt; plain_faults_are_told = tt; probes_disk = tt; boots_anew = tt; loses_no_error = goes.port_error old.abstract at.ports_are port; runs_well_anew = λ i. absurd (uninterrupted s.device old.abstract.ports port i); handles_evidence = uninterrupted s.device old.abstract.ports port })
         x.3.is_backed
-        (machine_on laws s new old.abstract.machine steps m x.3.only x.2)
+        (machine_on laws s new old.abstract.machine steps m x.3.all_steps_are_devices x.2)
 
     module _ (client : ClientId) (frame : Frame) (offset : ℕ) (bytes : List ℕ) (opens : MayAccessFrame (owner_of s.table) (lent_to s.table) client frame offset (length bytes)) where
-      pub load_event : Loads (4096 * frame.0 + offset) bytes s.device new → ExtendsHistory s (record s { device = new }) (LoadAt client frame offset (length bytes)) (load_said (Ok tt) bytes)
+      pub load_event : Loads (4096 * frame.0 + offset) bytes s.device new → ExtendsHistory s (record s { device = new }) (LoadAt client frame offset (length bytes)) (load_result (Ok tt) bytes)
       load_event loads first past leads =
           let old : JointState Device = joint_state_after first past in
-          let at : ServerRelation old s = leads.stands in
+          let at : ServerRelation old s = leads.state_is_at_history_end in
           let x = load_ends s new client frame offset bytes opens loads old.abstract.machine (reached laws first past s leads) at.machine_stands_for_it in
-          lead_by laws first past s then_is (LoadAt client frame offset (length bytes)) (load_said (Ok tt) bytes) (Load client frame offset bytes ∷ x.0.steps) refl refl leads goes.holds
-          x.0.steps_are_enabled (devices_belong {D = DeviceStep} (LoadAt client frame offset (length bytes)) (ports_of s) x.0.steps x.0.only, inr (refl, refl, refl, refl))
-          (devices_last x.0.steps x.0.only, λ id h i. false≢true h)
-          (devices_lawful old.abstract no_evidence (ports_of s) x.0.steps x.0.only)
-          (ports_same old.abstract.ports (ports_of s) at.ports_are, as_told s old.abstract.machine at.machine_stands_for_it (λ owner lent. MayAccessFrame owner lent client frame offset (length bytes)) opens, ap (λ (rest : List (List ℕ)). bytes ∷ rest) (devices_transfer x.0.steps x.0.only))
+          lead_by laws first past s then_is (LoadAt client frame offset (length bytes)) (load_result (Ok tt) bytes) (Load client frame offset bytes ∷ x.0.steps) refl refl leads goes.holds
+          x.0.steps_are_enabled (devices_belong {D = DeviceStep} (LoadAt client frame offset (length bytes)) (ports_of s) x.0.steps x.0.all_steps_are_devices, inr (refl, refl, refl, refl))
+          (devices_last x.0.steps x.0.all_steps_are_devices, λ id h i. false≢true h)
+          (devices_lawful old.abstract no_evidence (ports_of s) x.0.steps x.0.all_steps_are_devices)
+          (ports_same old.abstract.ports (ports_of s) at.ports_are, as_told s old.abstract.machine at.machine_stands_for_it (λ owner lent. MayAccessFrame owner lent client frame offset (length bytes)) opens, ap (λ (rest : List (List ℕ)). bytes ∷ rest) (devices_transfer x.0.steps x.0.all_steps_are_devices))
           tt
           (Loading (4096 * frame.0 + offset) bytes ∷ [])
           ((new, loads, refl), refl)
@@ -262,16 +262,16 @@ module _ (laws : PrerequisiteLaws) where
           (λ port. record { finds_done = tt; plain_faults_are_told = tt; probes_disk = tt; boots_anew = tt; loses_no_error = goes.port_error old.abstract at.ports_are port; runs_well_anew = λ i. absurd (uninterrupted s.device old.abstract.ports port i); handles_evidence = uninterrupted s.device old.abstract.ports port })
           x.0.is_backed x.1
 
-      pub store_event : Stores (4096 * frame.0 + offset) bytes s.device new → ExtendsHistory s (record s { device = new }) (StoreAt client frame offset bytes) (store_said (Ok tt))
+      pub store_event : Stores (4096 * frame.0 + offset) bytes s.device new → ExtendsHistory s (record s { device = new }) (StoreAt client frame offset bytes) (store_result (Ok tt))
       store_event stores first past leads =
           let old : JointState Device = joint_state_after first past in
-          let at : ServerRelation old s = leads.stands in
+          let at : ServerRelation old s = leads.state_is_at_history_end in
           let x = store_ends s new client frame offset bytes opens stores old.abstract.machine (reached laws first past s leads) at.machine_stands_for_it in
-          lead_by laws first past s then_is (StoreAt client frame offset bytes) (store_said (Ok tt)) (Store client frame offset bytes ∷ x.0.steps) refl refl leads goes.holds
-          x.0.steps_are_enabled (devices_belong {D = DeviceStep} (StoreAt client frame offset bytes) (ports_of s) x.0.steps x.0.only, inr (refl, refl, refl, refl))
-          (devices_last x.0.steps x.0.only, λ id h i. false≢true h)
-          (devices_lawful old.abstract no_evidence (ports_of s) x.0.steps x.0.only)
-          (ports_same old.abstract.ports (ports_of s) at.ports_are, as_told s old.abstract.machine at.machine_stands_for_it (λ owner lent. MayAccessFrame owner lent client frame offset (length bytes)) opens, ap (λ (rest : List (List ℕ)). bytes ∷ rest) (devices_transfer x.0.steps x.0.only))
+          lead_by laws first past s then_is (StoreAt client frame offset bytes) (store_result (Ok tt)) (Store client frame offset bytes ∷ x.0.steps) refl refl leads goes.holds
+          x.0.steps_are_enabled (devices_belong {D = DeviceStep} (StoreAt client frame offset bytes) (ports_of s) x.0.steps x.0.all_steps_are_devices, inr (refl, refl, refl, refl))
+          (devices_last x.0.steps x.0.all_steps_are_devices, λ id h i. false≢true h)
+          (devices_lawful old.abstract no_evidence (ports_of s) x.0.steps x.0.all_steps_are_devices)
+          (ports_same old.abstract.ports (ports_of s) at.ports_are, as_told s old.abstract.machine at.machine_stands_for_it (λ owner lent. MayAccessFrame owner lent client frame offset (length bytes)) opens, ap (λ (rest : List (List ℕ)). bytes ∷ rest) (devices_transfer x.0.steps x.0.all_steps_are_devices))
           tt
           (Storing (4096 * frame.0 + offset) bytes ∷ [])
           ((new, stores, refl), refl)
@@ -284,12 +284,12 @@ module _ (laws : PrerequisiteLaws) where
 
   -- a frame that is open is its client's
   pub open_owned : (owner : Frame → Option ClientId) (lent : Frame → Option RequestId) (client : ClientId) (frame : Frame) (offset count : ℕ) → MayAccessFrame owner lent client frame offset count → owner frame ≡ Some client
-  open_owned = laws.open_owned
+  open_owned = laws.accessible_frame_is_owned
 
-  pub open_free : (s : ServerState) (client : ClientId) (frame : Frame) (offset count : ℕ) → OwnedFramesAreClients s.table s.device.size → (m : Machine) → IsReachable m → MachineRelation s m
+  pub open_free : (s : ServerState) (client : ClientId) (frame : Frame) (offset count : ℕ) → OwnedFramesAreInMemory s.table s.device.memory_size → (m : Machine) → IsReachable m → MachineRelation s m
       → MayAccessFrame (owner_of s.table) (lent_to s.table) client frame offset count → IsStable (IsUnowned (4096 * frame.0 + offset) count) s.device
   open_free s client frame offset count owners m was is opens =
-      laws.client_bytes_free is.uses m s.device was is.driver_relation.state_relation client frame offset count (owners frame client (open_owned (owner_of s.table) (lent_to s.table) client frame offset count opens)).1
+      laws.accessible_bytes_are_unowned is.uses m s.device was is.driver_relation.state_relation client frame offset count (owners frame client (open_owned (owner_of s.table) (lent_to s.table) client frame offset count opens)).1
       (as_told s m is (λ owner lent. MayAccessFrame owner lent client frame offset count) opens)
 
 -- ---- a server whose adapter is on
@@ -298,12 +298,12 @@ module _ (laws : PrerequisiteLaws) where
   -- ---- trouble that isn't lost
 
   untroubled : (s : ServerState) → InCallInvariant s → (m : AbstractState) (port : Port) → LosesNoPortError (told_by s.device m.ports) (still s m) (ports_of s) s.device port
-  untroubled s k m port = laws.calls.ordinary port (still s m) s.device [] (told_by s.device m.ports) (ports_of s) k.adapter_is_on refl (All-nil (DoesNotWrite Ghc)) (All-nil (ClearsNoError port))
+  untroubled s k m port = laws.calls.ordinary_accesses_lose_no_error port (still s m) s.device [] (told_by s.device m.ports) (ports_of s) k.adapter_is_on refl (All-nil (DoesNotWrite Ghc)) (All-nil (ClearsNoError port))
 
   one_untroubled : (s : ServerState) → InCallInvariant s → (new : Device) (access : Access) → IsOfBytes access → Does access s.device new → (m : AbstractState) (port : Port)
       → LosesNoPortError (told_by s.device m.ports) (still s m) (ports_of s) new port
   one_untroubled s k new access its does m port =
-      laws.calls.ordinary port (still s m) new (access ∷ []) (told_by s.device m.ports) (ports_of s) k.adapter_is_on (new, does, refl)
+      laws.calls.ordinary_accesses_lose_no_error port (still s m) new (access ∷ []) (told_by s.device m.ports) (ports_of s) k.adapter_is_on (new, does, refl)
       (All-cons (DoesNotWrite Ghc) access [] (bytes_spare_host access its) (All-nil (DoesNotWrite Ghc)))
       (All-cons (ClearsNoError port) access [] (bytes_clear_none port access its) (All-nil (ClearsNoError port)))
 
@@ -314,18 +314,18 @@ module _ (laws : PrerequisiteLaws) where
     served = by_one IsServiceAccess access s.device new (bytes_serve access its) does
 
     same : SameAdapter s.device new
-    same = laws.looks.access_same access s.device new does
+    same = laws.port_event_laws.access_keeps_adapter access s.device new does
 
-    silent : (port : ℕ) → probe_result_of s.ports port ≢ Unready Dead → GainsNoMove port Identify s.device new
+    silent : (port : ℕ) → probe_result_of s.probe_results port ≢ Unready Dead → GainsNoMove port Identify s.device new
     silent port other =
-        let grows = laws.looks.tape.access_grows access s.device new does in
-        let none = not_own (probe_result_of s.ports port) (used_for s.slots port 0) (k.machine_relation.uses port 0) Identify other (k.machine_relation.are_uses_of port 0) in
-        (grows.0, grows.1, laws.slots.page_asked k.machine_relation.uses k.machine access s.device new port Identify grows.0 k.reached k.machine_relation.driver_relation.state_relation does grows.1 refl (λ own. absurd (none own)))
+        let grows = laws.port_event_laws.tape.access_grows access s.device new does in
+        let none = not_own (probe_result_of s.probe_results port) (used_for s.slots port 0) (k.machine_relation.uses port 0) Identify other (k.machine_relation.are_uses_of port 0) in
+        (grows.0, grows.1, laws.slots.page_needs_a_command k.machine_relation.uses k.machine access s.device new port Identify grows.0 k.reached k.machine_relation.driver_relation.state_relation does grows.1 refl (λ own. absurd (none own)))
 
-    ports_on : (port : ℕ) → port < 4 → PortInvariant s.wanted s.ports port new
+    ports_on : (port : ℕ) → port < 4 → PortInvariant s.wanted s.probe_results port new
     ports_on port below =
-        port_on laws s.wanted s.ports port s.device new same k.adapter_is_on served (λ unready. bytes_leave laws access s.device new its k.adapter_is_on does port) (silent port)
-        (laws.port_error.halts_access k.machine_relation.uses k.machine (port_at port) access s.device new k.reached k.machine_relation.driver_relation.state_relation (bytes_spare_commands (port_at port) access its) does) (k.port_invariant port below)
+        port_on laws s.wanted s.probe_results port s.device new same k.adapter_is_on served (λ unready. bytes_leave laws access s.device new its k.adapter_is_on does port) (silent port)
+        (laws.port_error.halt_of_taken_stays_over_access k.machine_relation.uses k.machine (port_at port) access s.device new k.reached k.machine_relation.driver_relation.state_relation (bytes_spare_commands (port_at port) access its) does) (k.port_invariant port below)
 
     -- what is stored for slots stays
     commands_on : (port slot : ℕ) (used : SlotUse) → used_for s.slots port slot ≡ Some used → HasStoredCommand used.queued new port slot
@@ -336,21 +336,21 @@ module _ (laws : PrerequisiteLaws) where
         record {
           command = h.command;
           places = h.places;
-          stored = laws.slots.stored_access k.machine_relation.uses k.machine (port_at port) slot h.command h.places access s.device new k.reached k.machine_relation.driver_relation.state_relation k.adapter_is_on.no_reset leaves.st_is_not_cleared leaves.clb_is_not_written leaves.table_is_not_stored_to does h.stored;
-          kind = h.kind;
+          stored = laws.slots.stored_stays_over_access k.machine_relation.uses k.machine (port_at port) slot h.command h.places access s.device new k.reached k.machine_relation.driver_relation.state_relation k.adapter_is_on.no_reset leaves.st_is_not_cleared leaves.clb_is_not_written leaves.table_is_not_stored_to does h.stored;
+          is_queued_as_given = h.is_queued_as_given;
         }
 
     -- a machine that spares the book
     kept_with : (steps : List Step) → AllEnabled k.machine steps → MachineRelation (record s { device = new }) (after k.machine steps) → InCallInvariant (record s { device = new })
-    kept_with steps may stands = kept_on laws s new k (laws.looking.services_on s.device new k.adapter_is_on served) same ports_on commands_on steps may stands
+    kept_with steps may stands = kept_on laws s new k (laws.look_laws.service_keeps_adapter_on s.device new k.adapter_is_on served) same ports_on commands_on steps may stands
 
   -- ---- the device's steps
 
   pub device_kept : (s : ServerState) (new : Device) → InCallInvariant s → Steps s.device new → InCallInvariant (record s { device = new })
   device_kept s new k steps =
-      let x = (laws.basic.device_adds (driver_state_of k.machine_relation.uses k.machine_relation.parked s.device) new steps).simulates k.machine k.reached k.machine_relation.driver_relation in
+      let x = (laws.steps_and_accesses.device_steps_are_simulated (driver_state_of k.machine_relation.uses k.machine_relation.awaiting_disposition s.device) new steps).simulates k.machine k.reached k.machine_relation.driver_relation in
       kept_with s k new (Loading 0 []) tt (loads_above 0 []) (none_loaded s.device new steps) x.0 x.1
-      (machine_on laws s new k.machine x.0 k.machine_relation x.3.only x.2)
+      (machine_on laws s new k.machine x.0 k.machine_relation x.3.all_steps_are_devices x.2)
 
   -- ---- events
 
@@ -363,22 +363,22 @@ module _ (laws : PrerequisiteLaws) where
     settled_invariant = record { in_call_invariant = device_kept s new k.in_call_invariant moves; nothing_is_due = k.nothing_is_due };
     extends_history = device_event laws s new (record {
       holds = holding (record s { device = new }) (device_kept s new k.in_call_invariant moves);
-      port_error = λ m are port. laws.calls.ordinary_steps port (still s m) new (told_by s.device m.ports) (ports_of s) k.in_call_invariant.adapter_is_on moves;
+      port_error = λ m are port. laws.calls.steps_lose_no_error port (still s m) new (told_by s.device m.ports) (ports_of s) k.in_call_invariant.adapter_is_on moves;
     }) step asked moves;
   }
 
   pub undone_adds : (s : ServerState) (step : DeviceStep) → SettledInvariant s → ExtendsSettled s s (Told step) (Stepped false)
   undone_adds s step k = record { settled_invariant = k; extends_history = undone_event laws s (stays s k.in_call_invariant) step }
 
-  pub state_adds : (s : ServerState) (port : Port) → SettledInvariant s → ExtendsSettled s s (State port) (Shown ((ports_of s).state port))
+  pub state_adds : (s : ServerState) (port : Port) → SettledInvariant s → ExtendsSettled s s (State port) (PortStateShown ((ports_of s).state port))
   state_adds s port k = record { settled_invariant = k; extends_history = state_event laws s (stays s k.in_call_invariant) port }
 
   pub store_refused : (s : ServerState) (client : ClientId) (frame : Frame) (offset : ℕ) (bytes : List ℕ) (fault : MemFault) → SettledInvariant s
-      → IsFirstMemFault (owner_of s.table) (lent_to s.table) client frame offset (length bytes) fault → ExtendsSettled s s (StoreAt client frame offset bytes) (store_said (Err fault))
+      → IsFirstMemFault (owner_of s.table) (lent_to s.table) client frame offset (length bytes) fault → ExtendsSettled s s (StoreAt client frame offset bytes) (store_result (Err fault))
   store_refused s client frame offset bytes fault k is = record { settled_invariant = k; extends_history = store_refused_event laws s (stays s k.in_call_invariant) client frame offset bytes fault is }
 
   pub load_refused : (s : ServerState) (client : ClientId) (frame : Frame) (offset count : ℕ) (bytes : List ℕ) (fault : MemFault) → SettledInvariant s
-      → IsFirstMemFault (owner_of s.table) (lent_to s.table) client frame offset count fault → ExtendsSettled s s (LoadAt client frame offset count) (load_said (Err fault) bytes)
+      → IsFirstMemFault (owner_of s.table) (lent_to s.table) client frame offset count fault → ExtendsSettled s s (LoadAt client frame offset count) (load_result (Err fault) bytes)
   load_refused s client frame offset count bytes fault k is = record { settled_invariant = k; extends_history = load_refused_event laws s (stays s k.in_call_invariant) client frame offset count bytes fault is }
 
   pub revoke_refused : (s : ServerState) (client : ClientId) (number : ℕ) → SettledInvariant s → (HasRow client number s.grants → ⊥) → ExtendsSettled s s (RevokeOf client number) (WasRevoked None)
@@ -407,7 +407,7 @@ module _ (laws : PrerequisiteLaws) where
         let x = store_ends laws s new client frame offset bytes opens stores k.machine k.reached k.machine_relation in
         kept_with s k new (Storing (4096 * frame.0 + offset) bytes) tt above stores (Store client frame offset bytes ∷ x.0.steps) x.0.steps_are_enabled x.1
       where
-        owned : (DRIVER_FRAMES ≤ frame.0) × (4096 * frame.0 + 4096 ≤ s.device.size)
+        owned : (DRIVER_FRAMES ≤ frame.0) × (4096 * frame.0 + 4096 ≤ s.device.memory_size)
         owned = k.owned_frames_are_clients frame client (open_owned laws (owner_of s.table) (lent_to s.table) client frame offset (length bytes) opens)
 
         above : StoresAbove (Storing (4096 * frame.0 + offset) bytes)
@@ -419,13 +419,13 @@ module _ (laws : PrerequisiteLaws) where
     goes : InCallInvariant (record s { device = new }) → (access : Access) → IsOfBytes access → Does access s.device new → GoesTo s new
     goes then_kept access its does = record { holds = holding (record s { device = new }) then_kept; port_error = λ m are port. one_untroubled s k new access its does m port }
 
-    pub load_adds : Loads (4096 * frame.0 + offset) bytes s.device new → ExtendsSettled s (record s { device = new }) (LoadAt client frame offset (length bytes)) (load_said (Ok tt) bytes)
+    pub load_adds : Loads (4096 * frame.0 + offset) bytes s.device new → ExtendsSettled s (record s { device = new }) (LoadAt client frame offset (length bytes)) (load_result (Ok tt) bytes)
     load_adds loads = record {
       settled_invariant = record { in_call_invariant = load_kept loads; nothing_is_due = t.nothing_is_due };
       extends_history = load_event laws s new (goes (load_kept loads) (Loading (4096 * frame.0 + offset) bytes) tt loads) client frame offset bytes opens loads;
     }
 
-    pub store_adds : Stores (4096 * frame.0 + offset) bytes s.device new → ExtendsSettled s (record s { device = new }) (StoreAt client frame offset bytes) (store_said (Ok tt))
+    pub store_adds : Stores (4096 * frame.0 + offset) bytes s.device new → ExtendsSettled s (record s { device = new }) (StoreAt client frame offset bytes) (store_result (Ok tt))
     store_adds stores = record {
       settled_invariant = record { in_call_invariant = store_kept stores; nothing_is_due = t.nothing_is_due };
       extends_history = store_event laws s new (goes (store_kept stores) (Storing (4096 * frame.0 + offset) bytes) tt stores) client frame offset bytes opens stores;
@@ -434,7 +434,7 @@ module _ (laws : PrerequisiteLaws) where
   -- of so many bytes
   pub load_of : (s : ServerState) (new : Device) (client : ClientId) (frame : Frame) (offset count : ℕ) (bytes : List ℕ) → SettledInvariant s → length bytes ≡ count
       → MayAccessFrame (owner_of s.table) (lent_to s.table) client frame offset count → Loads (4096 * frame.0 + offset) bytes s.device new
-      → ExtendsSettled s (record s { device = new }) (LoadAt client frame offset count) (load_said (Ok tt) bytes)
+      → ExtendsSettled s (record s { device = new }) (LoadAt client frame offset count) (load_result (Ok tt) bytes)
   load_of s new client frame offset count bytes k long opens loads =
       let here : MayAccessFrame (owner_of s.table) (lent_to s.table) client frame offset (length bytes) = subst (λ (n : ℕ). MayAccessFrame (owner_of s.table) (lent_to s.table) client frame offset n) (sym long) opens in
-      subst (λ (n : ℕ). ExtendsSettled s (record s { device = new }) (LoadAt client frame offset n) (load_said (Ok tt) bytes)) long (load_adds s new client frame offset bytes k here loads)
+      subst (λ (n : ℕ). ExtendsSettled s (record s { device = new }) (LoadAt client frame offset n) (load_result (Ok tt) bytes)) long (load_adds s new client frame offset bytes k here loads)

@@ -16,14 +16,14 @@ use Rattle.commands.specs.Batches.{PlacedTask}
 use Rattle.commands.specs.declared.ncq.Task.{Task}
 use Rattle.host_boot.specs.TakeOver.{probe_result_of}
 use Rattle.host_boot.specs.declared.ProbeResult.{ProbeResult}
-use Rattle.refinement.specs.Relation.{HaveSlots}
+use Rattle.refinement.specs.Relation.{HaveSlotsUnlessParked}
 use Rattle.refinement.specs.Slots.{Serves, SlotState, SlotStates, is_serving, set_slot_state, serving_count}
-use Rattle.request_queue.specs.BookEntries.{BookEntry, BookIsInOrder, IsAccepted, as_unanswered, unanswered_of, has_id, issued_entry, update_if_id}
+use Rattle.request_queue.specs.BookEntries.{BookEntry, BookIsWellFormed, IsWellFormedEntry, as_unanswered, unanswered_of, has_id, issued_request, update_if_id}
 use Rattle.slots.specs.SlotUses.{IsLowestFree, IsTaken, PortSlots}
 use Rattle.slots.specs.declared.SlotUse.{SlotUse}
 use Rattle.server_history.specs.Prerequisites.{PrerequisiteLaws}
 use Rattle.server_history.specs.IssuingAndAnswering.{PutsInSlot, PutsInSlots, use_for}
-use Rattle.server_history.specs.ServerState.{InCallInvariant, IsUsedAs, RevokedMarkInvariant, ServerState, SlotsInvariant, StandsAlone, mode_at, mode_in, slot_state_of, slots_at, state_of, usable_slots_of, used_for, with_slot}
+use Rattle.server_history.specs.ServerState.{InCallInvariant, SlotUseAgreesUnlessDead, RevokedMarkInvariant, ServerState, SlotsInvariant, IsLoneSlot0, mode_at, mode_in, slot_state_of, slots_at, state_of, usable_slots_of, used_for, with_slot}
 use Rattle.server_history.proofs.state.ChangedRequests.{all_changed}
 use Rattle.server_history.proofs.state.DueRequests.{same_book}
 use Rattle.server_history.proofs.state.FirstMembers.{first_here, nowhere}
@@ -43,26 +43,26 @@ slot_uses slots port slot = slot_state_of (used_for slots port slot)
 pub record HasItsRequest (book : List BookEntry) (port : ℕ) (used : SlotUse) : Type 0 where
   pub request : BookEntry
   pub there : Contains book request
-  pub id_is : request.entry.id ≡ used.id
-  pub port_is : request.entry.port.0 ≡ port
-  pub issued : request.entry.issued ≡ true
+  pub id_is : request.request.id ≡ used.id
+  pub port_is : request.request.port.0 ≡ port
+  pub issued : request.request.issued ≡ true
 
 -- What of `InCallInvariant` speaks of neither device nor machine; and each used slot has its request, so that on a ready
 -- port no more slots are used than requests are issued.
 pub record BookAndSlotsInvariant (s : ServerState) : Type 0 where
-  pub modes : (port : ℕ) → state_of (probe_result_of s.ports port) ≡ ReadyState → (port < 4) × (usable_slots_of (probe_result_of s.ports port) (mode_at s.modes port) ≡ (mode_at s.modes port).usable)
-      × (1 ≤ (mode_at s.modes port).usable) × ((mode_at s.modes port).usable ≤ 32)
+  pub modes : (port : ℕ) → state_of (probe_result_of s.probe_results port) ≡ ReadyState → (port < 4) × (usable_slots_of (probe_result_of s.probe_results port) (mode_at s.modes port) ≡ (mode_at s.modes port).usable_slots)
+      × (1 ≤ (mode_at s.modes port).usable_slots) × ((mode_at s.modes port).usable_slots ≤ 32)
   pub four : length s.slots ≡ 4
-  pub slots : (port : ℕ) → port < 4 → SlotsInvariant s.ports s.modes s.slots port
-  pub kinds : (port : Port) (slot : ℕ) (used : SlotUse) (e : BookEntry) → used_for s.slots port.0 slot ≡ Some used → Contains s.book e → e.entry.id ≡ used.id → used.queued ≡ not (is_plain (mode_in s port) e.entry.op)
-  pub alone : (port slot : ℕ) (used : SlotUse) → used_for s.slots port slot ≡ Some used → used.queued ≡ false → StandsAlone s.slots port slot
+  pub slots : (port : ℕ) → port < 4 → SlotsInvariant s.probe_results s.modes s.slots port
+  pub kinds : (port : Port) (slot : ℕ) (used : SlotUse) (e : BookEntry) → used_for s.slots port.0 slot ≡ Some used → Contains s.book e → e.request.id ≡ used.id → used.queued ≡ not (is_plain (mode_in s port) e.request.op)
+  pub alone : (port slot : ℕ) (used : SlotUse) → used_for s.slots port slot ≡ Some used → used.queued ≡ false → IsLoneSlot0 s.slots port slot
   pub served : (port slot : ℕ) (used : SlotUse) → used_for s.slots port slot ≡ Some used → HasItsRequest s.book port used
-  pub counted : (port : Port) → state_of (probe_result_of s.ports port.0) ≡ ReadyState → serving_count (slot_uses s.slots) port.0 (mode_in s port).usable ≤ issued_count (unanswered_of s.book) port
-  pub accepted : All (IsAccepted s.table) s.book
-  pub ordered : BookIsInOrder s.book
+  pub counted : (port : Port) → state_of (probe_result_of s.probe_results port.0) ≡ ReadyState → serving_count (slot_uses s.slots) port.0 (mode_in s port).usable_slots ≤ issued_count (unanswered_of s.book) port
+  pub accepted : All (IsWellFormedEntry s.table) s.book
+  pub ordered : BookIsWellFormed s.book
   pub marked : All (RevokedMarkInvariant s.grants) s.book
-  pub handed_out : All (λ e. e.entry.id.0 ≤ s.last_id) s.book
-  pub ready : All (λ e. state_of (probe_result_of s.ports e.entry.port.0) ≡ ReadyState) s.book
+  pub handed_out : All (λ e. e.request.id.0 ≤ s.last_id) s.book
+  pub ready : All (λ e. state_of (probe_result_of s.probe_results e.request.port.0) ≡ ReadyState) s.book
 
 -- where the slots' uses are the same, as many serve
 serving_alike : (uses other : SlotStates) (port : ℕ) → ((slot : ℕ) → uses port slot ≡ other port slot) → (n : ℕ) → serving_count uses port n ≡ serving_count other port n
@@ -74,8 +74,8 @@ serving_alike uses other port same (suc n) =
 pub book_and_slots : PrerequisiteLaws → (s : ServerState) → InCallInvariant s → BookAndSlotsInvariant s
 book_and_slots laws s k = record {
   modes = λ port ready. let low = (ready_found s port k ready).0 in let fit = (its_mode s port k low).0 in (low, usable_ready s port k ready, fit.0, fit.1);
-  four = k.four_slots;
-  slots = k.slots;
+  four = k.slots_are_of_four_ports;
+  slots = k.slots_invariant;
   kinds = k.slots_queue_as_asked;
   alone = k.plain_stands_alone;
   served = λ port slot used is.
@@ -83,18 +83,18 @@ book_and_slots laws s k = record {
       let x = served_request s k.machine port slot k.machine_relation ready used.id (serves_used s k.machine port k.machine_relation ready slot used is) in
       record { request = x.request; there = x.there; id_is = x.id_is; port_is = x.port_is; issued = sym x.entry.issued ∙ x.issued };
   counted = λ port ready. let n = as_many port ready in omega (arith, n);
-  accepted = k.requests_are_accepted;
-  ordered = k.book_is_in_order;
+  accepted = k.entries_are_well_formed;
+  ordered = k.book_is_well_formed;
   marked = k.revoked_marks_agree;
   handed_out = k.ids_were_handed_out;
   ready = k.requests_are_of_ready_ports;
 }
   where
-    as_many : (port : Port) → state_of (probe_result_of s.ports port.0) ≡ ReadyState → serving_count (slot_uses s.slots) port.0 (mode_in s port).usable ≡ issued_count (unanswered_of s.book) port
+    as_many : (port : Port) → state_of (probe_result_of s.probe_results port.0) ≡ ReadyState → serving_count (slot_uses s.slots) port.0 (mode_in s port).usable_slots ≡ issued_count (unanswered_of s.book) port
     as_many port ready =
-        serving_alike (slot_uses s.slots) k.machine_relation.uses port.0 (λ slot. sym (ready_use s k.machine port.0 k.machine_relation ready slot)) (mode_in s port).usable
-        ∙ laws.recovery.counted k.machine_relation.uses k.machine s.device k.reached k.machine_relation.driver_relation.state_relation port (none_kept s k.machine port k.machine_relation (not_dead s port.0 ready)) (mode_in s port).usable
-        (subst (λ (ids : List RequestId). HaveSlots k.machine_relation.uses k.machine port.0 ids) (k.machine_relation.unparked port.0 (not_dead s port.0 ready)) (k.machine_relation.driver_relation.have_slots port.0))
+        serving_alike (slot_uses s.slots) k.machine_relation.uses port.0 (λ slot. sym (ready_use s k.machine port.0 k.machine_relation ready slot)) (mode_in s port).usable_slots
+        ∙ laws.recovery.serving_slots_are_issued_count k.machine_relation.uses k.machine s.device k.reached k.machine_relation.driver_relation.state_relation port (none_kept s k.machine port k.machine_relation (not_dead s port.0 ready)) (mode_in s port).usable_slots
+        (subst (λ (ids : List RequestId). HaveSlotsUnlessParked k.machine_relation.uses k.machine port.0 ids) (k.machine_relation.only_dead_ports_park port.0 (not_dead s port.0 ready)) (k.machine_relation.driver_relation.have_slots port.0))
         (λ slot id serves.
         let u = used_serves s k.machine port.0 k.machine_relation ready slot id serves in
         subst (λ (n : ℕ). slot < n) (usable_ready s port.0 k ready) (used_low s port.0 slot u.0 k (ready_found s port.0 k ready).0 u.1))
@@ -114,75 +114,75 @@ all_serve uses port most each (suc n) few =
     subst (λ (k : ℕ). suc n ≤ k) (sym (cond-true (is_serving (uses port n)) (suc (serving_count uses port n)) (serving_count uses port n) (each n (omega (arith, few)))))
     (let before = all_serve uses port most each n (omega (arith, few)) in omega (arith, before))
 
-module _ (s : ServerState) (port : Port) (k : BookAndSlotsInvariant s) (e : BookEntry) (here : Contains s.book e) (port_is : e.entry.port ≡ port) (due : IsDue (mode_in s port) (unanswered_of s.book) (as_unanswered e.entry)) where
+module _ (s : ServerState) (port : Port) (k : BookAndSlotsInvariant s) (e : BookEntry) (here : Contains s.book e) (port_is : e.request.port ≡ port) (due : IsDue (mode_in s port) (unanswered_of s.book) (as_unanswered e.request)) where
   -- how its port takes commands
   abbrev due_mode : QueueMode
   due_mode = mode_in s port
 
-  port_same : e.entry.port.0 ≡ port.0
+  port_same : e.request.port.0 ≡ port.0
   port_same = ap (λ (p : Port). p.0) port_is
 
-  pub due_ready : state_of (probe_result_of s.ports port.0) ≡ ReadyState
-  due_ready = subst (λ (q : ℕ). state_of (probe_result_of s.ports q) ≡ ReadyState) port_same (All-contains (λ (x : BookEntry). state_of (probe_result_of s.ports x.entry.port.0) ≡ ReadyState) s.book e k.ready here)
+  pub due_ready : state_of (probe_result_of s.probe_results port.0) ≡ ReadyState
+  due_ready = subst (λ (q : ℕ). state_of (probe_result_of s.probe_results q) ≡ ReadyState) port_same (All-contains (λ (x : BookEntry). state_of (probe_result_of s.probe_results x.request.port.0) ≡ ReadyState) s.book e k.ready here)
 
   pub due_low : port.0 < 4
   due_low = (k.modes port.0 due_ready).0
 
-  pub due_waits : e.entry.issued ≡ false
-  due_waits = not_true e.entry.issued (and_parts _ _ due.nothing_blocks).0
+  pub due_waits : e.request.issued ≡ false
+  due_waits = not_true e.request.issued (and_parts _ _ due.nothing_blocks).0
 
   -- an issued request of the port holds it back, if either is plain
-  holds : (other : Unanswered) → other.port.0 ≡ port.0 → other.issued ≡ true → (is_plain due_mode e.entry.op ≡ true) ⊎ (is_plain due_mode other.op ≡ true) → waits_for due_mode (as_unanswered e.entry) other ≡ true
+  holds : (other : Unanswered) → other.port.0 ≡ port.0 → other.issued ≡ true → (is_plain due_mode e.request.op ≡ true) ⊎ (is_plain due_mode other.op ≡ true) → waits_for due_mode (as_unanswered e.request) other ≡ true
   holds other own issued plain =
-      ap (λ (b : Bool). b && kept) (eq-eqb other.port.0 e.entry.port.0 (own ∙ sym port_same)) ∙ by (is_plain due_mode e.entry.op) plain
+      ap (λ (b : Bool). b && kept) (eq-eqb other.port.0 e.request.port.0 (own ∙ sym port_same)) ∙ by (is_plain due_mode e.request.op) plain
     where
       kept : Bool
-      kept = if is_plain due_mode e.entry.op then other.issued || nat_lt other.id.0 e.entry.id.0 else (is_plain due_mode other.op && other.issued) || (nat_lt other.id.0 e.entry.id.0 && (is_plain due_mode other.op || are_conflicting other (as_unanswered e.entry)))
+      kept = if is_plain due_mode e.request.op then other.issued || nat_lt other.id.0 e.request.id.0 else (is_plain due_mode other.op && other.issued) || (nat_lt other.id.0 e.request.id.0 && (is_plain due_mode other.op || are_conflicting other (as_unanswered e.request)))
 
       by : (b : Bool) → (b ≡ true) ⊎ (is_plain due_mode other.op ≡ true) →
-          (if b then other.issued || nat_lt other.id.0 e.entry.id.0 else (is_plain due_mode other.op && other.issued) || (nat_lt other.id.0 e.entry.id.0 && (is_plain due_mode other.op || are_conflicting other (as_unanswered e.entry)))) ≡ true
-      by true it = ap (λ (x : Bool). x || nat_lt other.id.0 e.entry.id.0) issued
+          (if b then other.issued || nat_lt other.id.0 e.request.id.0 else (is_plain due_mode other.op && other.issued) || (nat_lt other.id.0 e.request.id.0 && (is_plain due_mode other.op || are_conflicting other (as_unanswered e.request)))) ≡ true
+      by true it = ap (λ (x : Bool). x || nat_lt other.id.0 e.request.id.0) issued
       by false (inl queued) = absurd (false≢true queued)
       by false (inr its) =
-          ap (λ (x : Bool). (x && other.issued) || (nat_lt other.id.0 e.entry.id.0 && (x || are_conflicting other (as_unanswered e.entry)))) its
-          ∙ ap (λ (x : Bool). x || (nat_lt other.id.0 e.entry.id.0 && (true || are_conflicting other (as_unanswered e.entry)))) issued
+          ap (λ (x : Bool). (x && other.issued) || (nat_lt other.id.0 e.request.id.0 && (x || are_conflicting other (as_unanswered e.request)))) its
+          ∙ ap (λ (x : Bool). x || (nat_lt other.id.0 e.request.id.0 && (true || are_conflicting other (as_unanswered e.request)))) issued
 
   -- so no slot of the port is used for a plain request, and none at all where this one is plain
-  pub none_beside : (n : ℕ) (u : SlotUse) → used_for s.slots port.0 n ≡ Some u → (is_plain due_mode e.entry.op ≡ true) ⊎ (u.queued ≡ false) → ⊥
-  none_beside n u used plain = false≢true (sym (not_true _ (and_parts _ _ due.nothing_blocks).1) ∙ some_in (waits_for due_mode (as_unanswered e.entry)) (unanswered_of s.book) (as_unanswered x.request.entry)
-      (into_map (λ (h : BookEntry). as_unanswered h.entry) s.book x.request x.there)
-      (holds (as_unanswered x.request.entry) x.port_is x.issued (⊎_elim (λ it. inl it) (λ its. inr (plain_of its)) plain)))
+  pub none_beside : (n : ℕ) (u : SlotUse) → used_for s.slots port.0 n ≡ Some u → (is_plain due_mode e.request.op ≡ true) ⊎ (u.queued ≡ false) → ⊥
+  none_beside n u used plain = false≢true (sym (not_true _ (and_parts _ _ due.nothing_blocks).1) ∙ some_in (waits_for due_mode (as_unanswered e.request)) (unanswered_of s.book) (as_unanswered x.request.request)
+      (into_map (λ (h : BookEntry). as_unanswered h.request) s.book x.request x.there)
+      (holds (as_unanswered x.request.request) x.port_is x.issued (⊎_elim (λ it. inl it) (λ its. inr (plain_of its)) plain)))
     where
       x : HasItsRequest s.book port.0 u
       x = k.served port.0 n u used
 
-      plain_of : u.queued ≡ false → is_plain due_mode x.request.entry.op ≡ true
-      plain_of its = not_false (is_plain due_mode x.request.entry.op) (sym (k.kinds port n u x.request used x.there x.id_is) ∙ its)
+      plain_of : u.queued ≡ false → is_plain due_mode x.request.request.op ≡ true
+      plain_of its = not_false (is_plain due_mode x.request.request.op) (sym (k.kinds port n u x.request used x.there x.id_is) ∙ its)
 
   -- not all usable slots are taken
-  pub never_full : ((slot : ℕ) → slot < (slots_at s.slots port.0).usable → IsTaken (slots_at s.slots port.0) slot) → ⊥
+  pub never_full : ((slot : ℕ) → slot < (slots_at s.slots port.0).usable_count → IsTaken (slots_at s.slots port.0) slot) → ⊥
   never_full all = ⊎_elim
-      (λ (plain : is_plain due_mode e.entry.op ≡ true). let some = (k.modes port.0 due_ready).2 in let u = taken 0 some in none_beside 0 u.0 u.1 (inl plain))
-      (λ (queued : is_plain due_mode e.entry.op ≡ false).
+      (λ (plain : is_plain due_mode e.request.op ≡ true). let some = (k.modes port.0 due_ready).2 in let u = taken 0 some in none_beside 0 u.0 u.1 (inl plain))
+      (λ (queued : is_plain due_mode e.request.op ≡ false).
       let left = due.slot_is_left queued in
       let most = k.counted port due_ready in
-      let many = all_serve (slot_uses s.slots) port.0 due_mode.usable (λ slot small. let u = taken slot small in ap (λ (used : Option SlotUse). is_serving (slot_state_of used)) u.1) due_mode.usable (omega arith) in
+      let many = all_serve (slot_uses s.slots) port.0 due_mode.usable_slots (λ slot small. let u = taken slot small in ap (λ (used : Option SlotUse). is_serving (slot_state_of used)) u.1) due_mode.usable_slots (omega arith) in
       let same = ap (λ (p : Port). issued_count (unanswered_of s.book) p) port_is in
       omega (arith, left, most, many, same))
-      (cases_Bool (is_plain due_mode e.entry.op))
+      (cases_Bool (is_plain due_mode e.request.op))
     where
-      taken : (slot : ℕ) → slot < due_mode.usable → (u : SlotUse) × (used_for s.slots port.0 slot ≡ Some u)
-      taken slot small = taken_used (used_for s.slots port.0 slot) (all slot (subst (λ (n : ℕ). slot < n) (sym (k.slots port.0 due_low).usable) small))
+      taken : (slot : ℕ) → slot < due_mode.usable_slots → (u : SlotUse) × (used_for s.slots port.0 slot ≡ Some u)
+      taken slot small = taken_used (used_for s.slots port.0 slot) (all slot (subst (λ (n : ℕ). slot < n) (sym (k.slots port.0 due_low).usable_count_is_of_mode) small))
 
   module _ (slot : ℕ) (lowest : IsLowestFree (slots_at s.slots port.0) slot) where
     -- the lowest free slot is usable, and slot 0 for a plain one
-    pub lowest_usable : slot < due_mode.usable
-    lowest_usable = subst (λ (n : ℕ). slot < n) (k.slots port.0 due_low).usable lowest.0
+    pub lowest_usable : slot < due_mode.usable_slots
+    lowest_usable = subst (λ (n : ℕ). slot < n) (k.slots port.0 due_low).usable_count_is_of_mode lowest.0
 
     pub lowest_small : slot < 32
     lowest_small = let few = (k.modes port.0 due_ready).3 in let small = lowest_usable in omega (arith, few, small)
 
-    pub lowest_head : is_plain due_mode e.entry.op ≡ true → slot ≡ 0
+    pub lowest_head : is_plain due_mode e.request.op ≡ true → slot ≡ 0
     lowest_head plain = ⊎_elim
         (λ (head : slot ≡ 0). head)
         (λ (other : slot ≢ 0). let u = taken_used (used_for s.slots port.0 0) (lowest.2 0 (omega (arith, other))) in absurd (none_beside 0 u.0 u.1 (inl plain)))
@@ -297,31 +297,31 @@ module _ (laws : PrerequisiteLaws) (s new : ServerState) (port : Port) (id : Req
   slots_then = with_slot s.slots port.0 slot its_use
 
   abbrev book_then : List BookEntry
-  book_then = map (update_if_id id issued_entry) s.book
+  book_then = map (update_if_id id issued_request) s.book
 
-  pub put_ready : state_of (probe_result_of s.ports port.0) ≡ ReadyState
+  pub put_ready : state_of (probe_result_of s.probe_results port.0) ≡ ReadyState
   put_ready = due_ready s port k e one.is_in_book one.port_is one.due
 
   low : port.0 < 4
   low = (k.modes port.0 put_ready).0
 
-  pub put_usable : slot < put_mode.usable
+  pub put_usable : slot < put_mode.usable_slots
   put_usable = lowest_usable s port k e one.is_in_book one.port_is one.due slot one.lowest
 
-  pub put_head : is_plain put_mode e.entry.op ≡ true → slot ≡ 0
+  pub put_head : is_plain put_mode e.request.op ≡ true → slot ≡ 0
   put_head = lowest_head s port k e one.is_in_book one.port_is one.due slot one.lowest
 
-  slot_low : slot < usable_slots_of (probe_result_of s.ports port.0) (mode_at s.modes port.0)
+  slot_low : slot < usable_slots_of (probe_result_of s.probe_results port.0) (mode_at s.modes port.0)
   slot_low = subst (λ (n : ℕ). slot < n) (sym (k.modes port.0 put_ready).1) put_usable
 
-  few : usable_slots_of (probe_result_of s.ports port.0) (mode_at s.modes port.0) ≤ 32
+  few : usable_slots_of (probe_result_of s.probe_results port.0) (mode_at s.modes port.0) ≤ 32
   few = let same = (k.modes port.0 put_ready).1 in let most = (k.modes port.0 put_ready).3 in omega (arith, same, most)
 
   in_list : port.0 < length s.slots
   in_list = let f = k.four in let l = low in omega (arith, f, l)
 
-  in_places : slot < length (slots_at s.slots port.0).places
-  in_places = let p = (k.slots port.0 low).places in let small = one.slot_is_below_32 in omega (arith, p, small)
+  in_places : slot < length (slots_at s.slots port.0).slot_uses
+  in_places = let p = (k.slots port.0 low).has_32_slots in let small = one.slot_is_below_32 in omega (arith, p, small)
 
   pub its_use_placed : used_for slots_then port.0 slot ≡ its_use
   its_use_placed = placed_same s.slots port.0 slot its_use in_list in_places
@@ -330,8 +330,8 @@ module _ (laws : PrerequisiteLaws) (s new : ServerState) (port : Port) (id : Req
   other_uses_placed q n other = placed_other s.slots port.0 slot its_use in_list in_places q n other
 
   -- where the uses agree with the slots, they do with this one serving its request
-  pub put_slot_placed : (found : List ProbeResult) (uses : SlotStates) → ((q n : ℕ) → IsUsedAs (probe_result_of found q) (used_for s.slots q n) (uses q n))
-      → (q n : ℕ) → IsUsedAs (probe_result_of found q) (used_for slots_then q n) (set_slot_state uses port.0 slot (Serves e.entry.id) q n)
+  pub put_slot_placed : (found : List ProbeResult) (uses : SlotStates) → ((q n : ℕ) → SlotUseAgreesUnlessDead (probe_result_of found q) (used_for s.slots q n) (uses q n))
+      → (q n : ℕ) → SlotUseAgreesUnlessDead (probe_result_of found q) (used_for slots_then q n) (set_slot_state uses port.0 slot (Serves e.request.id) q n)
   put_slot_placed found uses was = placed_uses s.slots port.0 slot its_use in_list in_places laws found uses was
 
   its_there : (q n : ℕ) (used : SlotUse) → q ≡ port.0 → n ≡ slot → used_for slots_then q n ≡ Some used → use_for put_mode e ≡ used
@@ -342,59 +342,59 @@ module _ (laws : PrerequisiteLaws) (s new : ServerState) (port : Port) (id : Req
   was_used q n used other is = sym (other_uses_placed q n other) ∙ is
 
   -- what the update leaves of a request
-  op_same : (x : BookEntry) → (update_if_id id issued_entry x).entry.op ≡ x.entry.op
+  op_same : (x : BookEntry) → (update_if_id id issued_request x).request.op ≡ x.request.op
   op_same x = by (has_id id x)
     where
-      by : (b : Bool) → (if b then record x { entry = issued_entry x.entry } else x).entry.op ≡ x.entry.op
+      by : (b : Bool) → (if b then record x { request = issued_request x.request } else x).request.op ≡ x.request.op
       by true = refl
       by false = refl
 
-  id_same : (x : BookEntry) → (update_if_id id issued_entry x).entry.id ≡ x.entry.id
+  id_same : (x : BookEntry) → (update_if_id id issued_request x).request.id ≡ x.request.id
   id_same x = by (has_id id x)
     where
-      by : (b : Bool) → (if b then record x { entry = issued_entry x.entry } else x).entry.id ≡ x.entry.id
+      by : (b : Bool) → (if b then record x { request = issued_request x.request } else x).request.id ≡ x.request.id
       by true = refl
       by false = refl
 
-  port_same_then : (x : BookEntry) → (update_if_id id issued_entry x).entry.port ≡ x.entry.port
+  port_same_then : (x : BookEntry) → (update_if_id id issued_request x).request.port ≡ x.request.port
   port_same_then x = by (has_id id x)
     where
-      by : (b : Bool) → (if b then record x { entry = issued_entry x.entry } else x).entry.port ≡ x.entry.port
+      by : (b : Bool) → (if b then record x { request = issued_request x.request } else x).request.port ≡ x.request.port
       by true = refl
       by false = refl
 
-  issued_still : (x : BookEntry) → x.entry.issued ≡ true → (update_if_id id issued_entry x).entry.issued ≡ true
+  issued_still : (x : BookEntry) → x.request.issued ≡ true → (update_if_id id issued_request x).request.issued ≡ true
   issued_still x is = by (has_id id x)
     where
-      by : (b : Bool) → (if b then record x { entry = issued_entry x.entry } else x).entry.issued ≡ true
+      by : (b : Bool) → (if b then record x { request = issued_request x.request } else x).request.issued ≡ true
       by true = refl
       by false = is
 
-  e_issued : update_if_id id issued_entry e ≡ record e { entry = issued_entry e.entry }
-  e_issued = cond-true (has_id id e) (record e { entry = issued_entry e.entry }) e (eq-eqb e.entry.id.0 id.0 (ap (λ (r : RequestId). r.0) one.id_is))
+  e_issued : update_if_id id issued_request e ≡ record e { request = issued_request e.request }
+  e_issued = cond-true (has_id id e) (record e { request = issued_request e.request }) e (eq-eqb e.request.id.0 id.0 (ap (λ (r : RequestId). r.0) one.id_is))
 
-  kinds_then : (q : Port) (n : ℕ) (used : SlotUse) (h : BookEntry) → used_for slots_then q.0 n ≡ Some used → Contains book_then h → h.entry.id ≡ used.id → used.queued ≡ not (is_plain (mode_in s q) h.entry.op)
+  kinds_then : (q : Port) (n : ℕ) (used : SlotUse) (h : BookEntry) → used_for slots_then q.0 n ≡ Some used → Contains book_then h → h.request.id ≡ used.id → used.queued ≡ not (is_plain (mode_in s q) h.request.op)
   kinds_then q n used h is there same = ⊎_elim
       (λ (its : (q.0 ≡ port.0) × (n ≡ slot)).
       let alike : use_for put_mode e ≡ used = its_there q.0 n used its.0 its.1 is in
-      let one_is : old.0 ≡ e = laws.one s.book old.0 e k.ordered old.1 one.is_in_book (sym (id_same old.0) ∙ sym (ap (λ (x : BookEntry). x.entry.id) old.2) ∙ same ∙ ap (λ (u : SlotUse). u.id) (sym alike)) in
-      ap (λ (u : SlotUse). u.queued) (sym alike) ∙ ap (λ (o : Op). not (is_plain put_mode o)) (ap (λ (x : BookEntry). x.entry.op) (sym one_is) ∙ sym (op_same old.0) ∙ ap (λ (x : BookEntry). x.entry.op) (sym old.2))
-      ∙ ap (λ (p : ℕ). not (is_plain (mode_at s.modes p) h.entry.op)) (sym its.0))
+      let one_is : old.0 ≡ e = laws.an_id_is_one_entry s.book old.0 e k.ordered old.1 one.is_in_book (sym (id_same old.0) ∙ sym (ap (λ (x : BookEntry). x.request.id) old.2) ∙ same ∙ ap (λ (u : SlotUse). u.id) (sym alike)) in
+      ap (λ (u : SlotUse). u.queued) (sym alike) ∙ ap (λ (o : Op). not (is_plain put_mode o)) (ap (λ (x : BookEntry). x.request.op) (sym one_is) ∙ sym (op_same old.0) ∙ ap (λ (x : BookEntry). x.request.op) (sym old.2))
+      ∙ ap (λ (p : ℕ). not (is_plain (mode_at s.modes p) h.request.op)) (sym its.0))
       (λ (other : AreApart port.0 slot q.0 n).
-      k.kinds q n used old.0 (was_used q.0 n used other is) old.1 (sym (id_same old.0) ∙ sym (ap (λ (x : BookEntry). x.entry.id) old.2) ∙ same)
-      ∙ ap (λ (o : Op). not (is_plain (mode_in s q) o)) (sym (op_same old.0) ∙ ap (λ (x : BookEntry). x.entry.op) (sym old.2)))
+      k.kinds q n used old.0 (was_used q.0 n used other is) old.1 (sym (id_same old.0) ∙ sym (ap (λ (x : BookEntry). x.request.id) old.2) ∙ same)
+      ∙ ap (λ (o : Op). not (is_plain (mode_in s q) o)) (sym (op_same old.0) ∙ ap (λ (x : BookEntry). x.request.op) (sym old.2)))
       (its_or_other port.0 slot q.0 n)
     where
-      old : (x : BookEntry) × Contains s.book x × (h ≡ update_if_id id issued_entry x)
-      old = map_in (update_if_id id issued_entry) s.book h there
+      old : (x : BookEntry) × Contains s.book x × (h ≡ update_if_id id issued_request x)
+      old = map_in (update_if_id id issued_request) s.book h there
 
-  none_with : (n : ℕ) (u : SlotUse) → used_for s.slots port.0 n ≡ Some u → (is_plain put_mode e.entry.op ≡ true) ⊎ (u.queued ≡ false) → ⊥
+  none_with : (n : ℕ) (u : SlotUse) → used_for s.slots port.0 n ≡ Some u → (is_plain put_mode e.request.op ≡ true) ⊎ (u.queued ≡ false) → ⊥
   none_with = none_beside s port k e one.is_in_book one.port_is one.due
 
-  alone_then : (q n : ℕ) (used : SlotUse) → used_for slots_then q n ≡ Some used → used.queued ≡ false → StandsAlone slots_then q n
+  alone_then : (q n : ℕ) (used : SlotUse) → used_for slots_then q n ≡ Some used → used.queued ≡ false → IsLoneSlot0 slots_then q n
   alone_then q n used is plain = ⊎_elim
       (λ (its : (q ≡ port.0) × (n ≡ slot)).
-      let its_plain : is_plain put_mode e.entry.op ≡ true = not_false (is_plain put_mode e.entry.op) (ap (λ (u : SlotUse). u.queued) (its_there q n used its.0 its.1 is) ∙ plain) in
+      let its_plain : is_plain put_mode e.request.op ≡ true = not_false (is_plain put_mode e.request.op) (ap (λ (u : SlotUse). u.queued) (its_there q n used its.0 its.1 is) ∙ plain) in
       let head : slot ≡ 0 = put_head its_plain in (
         its.1 ∙ head,
         λ other ne. none_else q other (λ u used_now.
@@ -421,35 +421,35 @@ module _ (laws : PrerequisiteLaws) (s new : ServerState) (port : Port) (id : Req
       (λ (its : (q ≡ port.0) × (n ≡ slot)).
       let alike : use_for put_mode e ≡ used = its_there q n used its.0 its.1 is in
       record {
-        request = update_if_id id issued_entry e;
-        there = into_map (update_if_id id issued_entry) s.book e one.is_in_book;
+        request = update_if_id id issued_request e;
+        there = into_map (update_if_id id issued_request) s.book e one.is_in_book;
         id_is = id_same e ∙ ap (λ (u : SlotUse). u.id) alike;
         port_is = ap (λ (p : Port). p.0) (port_same_then e ∙ one.port_is) ∙ sym its.0;
-        issued = ap (λ (x : BookEntry). x.entry.issued) e_issued;
+        issued = ap (λ (x : BookEntry). x.request.issued) e_issued;
       })
       (λ (other : AreApart port.0 slot q n).
       let x = k.served q n used (was_used q n used other is) in
       record {
-        request = update_if_id id issued_entry x.request;
-        there = into_map (update_if_id id issued_entry) s.book x.request x.there;
+        request = update_if_id id issued_request x.request;
+        there = into_map (update_if_id id issued_request) s.book x.request x.there;
         id_is = id_same x.request ∙ x.id_is;
         port_is = ap (λ (p : Port). p.0) (port_same_then x.request) ∙ x.port_is;
         issued = issued_still x.request x.issued;
       })
       (its_or_other port.0 slot q n)
 
-  counted_then : (q : Port) → state_of (probe_result_of s.ports q.0) ≡ ReadyState → serving_count (slot_uses slots_then) q.0 (mode_in s q).usable ≤ issued_count (unanswered_of book_then) q
+  counted_then : (q : Port) → state_of (probe_result_of s.probe_results q.0) ≡ ReadyState → serving_count (slot_uses slots_then) q.0 (mode_in s q).usable_slots ≤ issued_count (unanswered_of book_then) q
   counted_then q ready =
-      subst (λ (us : List Unanswered). serving_count (slot_uses slots_then) q.0 (mode_in s q).usable ≤ issued_count us q) (sym (laws.asks_issued s.book id)) (⊎_elim
+      subst (λ (us : List Unanswered). serving_count (slot_uses slots_then) q.0 (mode_in s q).usable_slots ≤ issued_count us q) (sym (laws.unanswered_after_issue s.book id)) (⊎_elim
       (λ (its : q.0 ≡ port.0).
-      let more = serving_more (slot_uses s.slots) (slot_uses slots_then) q.0 slot (λ n ne. ap slot_state_of (other_uses_placed q.0 n (λ same here. ne here))) (mode_in s q).usable in
+      let more = serving_more (slot_uses s.slots) (slot_uses slots_then) q.0 slot (λ n ne. ap slot_state_of (other_uses_placed q.0 n (λ same here. ne here))) (mode_in s q).usable_slots in
       let most = k.counted q ready in
       let added : suc (issued_count (unanswered_of s.book) q) ≤ issued_count (with_issued id (unanswered_of s.book)) q =
       subst (λ (i : RequestId). suc (issued_count (unanswered_of s.book) q) ≤ issued_count (with_issued i (unanswered_of s.book)) q) one.id_is
-      (issued_count_adds q (as_unanswered e.entry) (unanswered_of s.book) (into_map (λ (x : BookEntry). as_unanswered x.entry) s.book e one.is_in_book) (one.port_is ∙ ap (λ (n : ℕ). record { 0 = n }) (sym its)) (due_waits s port k e one.is_in_book one.port_is one.due)) in
+      (issued_count_adds q (as_unanswered e.request) (unanswered_of s.book) (into_map (λ (x : BookEntry). as_unanswered x.request) s.book e one.is_in_book) (one.port_is ∙ ap (λ (n : ℕ). record { 0 = n }) (sym its)) (due_waits s port k e one.is_in_book one.port_is one.due)) in
       omega (arith, more, most, added))
       (λ (other : q.0 ≢ port.0).
-      let same = serving_alike (slot_uses slots_then) (slot_uses s.slots) q.0 (λ n. ap slot_state_of (other_uses_placed q.0 n (λ is here. other is))) (mode_in s q).usable in
+      let same = serving_alike (slot_uses slots_then) (slot_uses s.slots) q.0 (λ n. ap slot_state_of (other_uses_placed q.0 n (λ is here. other is))) (mode_in s q).usable_slots in
       let most = k.counted q ready in
       let more = issued_count_grows q id (unanswered_of s.book) in
       omega (arith, same, most, more))
@@ -459,17 +459,17 @@ module _ (laws : PrerequisiteLaws) (s new : ServerState) (port : Port) (id : Req
   pub put_keeps : BookAndSlotsInvariant new
   put_keeps = subst BookAndSlotsInvariant (sym one.server_is) (record {
     modes = k.modes;
-    four = placed_four s.ports s.modes s.slots port.0 slot its_use k.four low slot_low few k.slots;
-    slots = placed_has s.ports s.modes s.slots port.0 slot its_use k.four low slot_low few k.slots;
+    four = placed_four s.probe_results s.modes s.slots port.0 slot its_use k.four low slot_low few k.slots;
+    slots = placed_has s.probe_results s.modes s.slots port.0 slot its_use k.four low slot_low few k.slots;
     kinds = kinds_then;
     alone = alone_then;
     served = served_then;
     counted = counted_then;
-    accepted = laws.still_issued s.table s.book id k.accepted;
-    ordered = laws.issued s.book id k.ordered (e, one.is_in_book, one.id_is, due_waits s port k e one.is_in_book one.port_is one.due);
-    marked = all_changed id issued_entry (RevokedMarkInvariant s.grants) (issued_marked s.grants) s.book k.marked;
-    handed_out = all_changed id issued_entry (λ y. y.entry.id.0 ≤ s.last_id) (λ y a. a) s.book k.handed_out;
-    ready = all_changed id issued_entry (λ y. state_of (probe_result_of s.ports y.entry.port.0) ≡ ReadyState) (λ y a. a) s.book k.ready;
+    accepted = laws.issuing_keeps_entries_well_formed s.table s.book id k.accepted;
+    ordered = laws.issuing_keeps_book_well_formed s.book id k.ordered (e, one.is_in_book, one.id_is, due_waits s port k e one.is_in_book one.port_is one.due);
+    marked = all_changed id issued_request (RevokedMarkInvariant s.grants) (issued_marked s.grants) s.book k.marked;
+    handed_out = all_changed id issued_request (λ y. y.request.id.0 ≤ s.last_id) (λ y a. a) s.book k.handed_out;
+    ready = all_changed id issued_request (λ y. state_of (probe_result_of s.probe_results y.request.port.0) ≡ ReadyState) (λ y a. a) s.book k.ready;
   })
 
 -- ---- one after another
@@ -501,7 +501,7 @@ module _ (laws : PrerequisiteLaws) (port : Port) where
   puts_more (first ∷ ids) [] s mid new id t puts one = absurd puts
 
   -- where one is put in a slot, the port is ready
-  pub puts_ready : (id : RequestId) (ids : List RequestId) (tasks : List PlacedTask) (s new : ServerState) → BookAndSlotsInvariant s → PutsInSlots port (id ∷ ids) tasks s new → state_of (probe_result_of s.ports port.0) ≡ ReadyState
+  pub puts_ready : (id : RequestId) (ids : List RequestId) (tasks : List PlacedTask) (s new : ServerState) → BookAndSlotsInvariant s → PutsInSlots port (id ∷ ids) tasks s new → state_of (probe_result_of s.probe_results port.0) ≡ ReadyState
   puts_ready id ids [] s new k more = absurd more
   puts_ready id ids (t ∷ tasks) s new k (mid, one, more) = put_ready laws s mid port id t k one
 
@@ -571,34 +571,34 @@ module _ (laws : PrerequisiteLaws) (port : Port) where
 
   -- ---- each of them waits until its turn comes
 
-  puts_wait : (ids : List RequestId) (tasks : List PlacedTask) (s new : ServerState) → BookAndSlotsInvariant s → PutsInSlots port ids tasks s new → (id : RequestId) → Contains ids id → (e : BookEntry) → Contains s.book e → e.entry.id ≡ id → e.entry.issued ≡ false
+  puts_wait : (ids : List RequestId) (tasks : List PlacedTask) (s new : ServerState) → BookAndSlotsInvariant s → PutsInSlots port ids tasks s new → (id : RequestId) → Contains ids id → (e : BookEntry) → Contains s.book e → e.request.id ≡ id → e.request.issued ≡ false
   puts_wait [] tasks s new k more id there e here its = absurd (nowhere id there)
   puts_wait (first ∷ ids) (t ∷ tasks) s new k (mid, one, more) id there e here its = ⊎_elim
       (λ (same : id ≡ first).
-      let it : one.request ≡ e = laws.one s.book one.request e k.ordered one.is_in_book here (one.id_is ∙ sym same ∙ sym its) in
-      subst (λ (x : BookEntry). x.entry.issued ≡ false) it (not_true one.request.entry.issued (and_parts _ _ one.due.nothing_blocks).0))
+      let it : one.request ≡ e = laws.an_id_is_one_entry s.book one.request e k.ordered one.is_in_book here (one.id_is ∙ sym same ∙ sym its) in
+      subst (λ (x : BookEntry). x.request.issued ≡ false) it (not_true one.request.request.issued (and_parts _ _ one.due.nothing_blocks).0))
       (λ (later : Contains ids id).
-      let moved : Contains mid.book (update_if_id first issued_entry e) = subst (λ (n : ServerState). Contains n.book (update_if_id first issued_entry e)) (sym one.server_is) (into_map (update_if_id first issued_entry) s.book e here) in
-      let waits : (update_if_id first issued_entry e).entry.issued ≡ false = puts_wait ids tasks mid new (put_keeps laws s mid port first t k one) more id later (update_if_id first issued_entry e) moved (id_same laws s mid port first t k one e ∙ its) in
+      let moved : Contains mid.book (update_if_id first issued_request e) = subst (λ (n : ServerState). Contains n.book (update_if_id first issued_request e)) (sym one.server_is) (into_map (update_if_id first issued_request) s.book e here) in
+      let waits : (update_if_id first issued_request e).request.issued ≡ false = puts_wait ids tasks mid new (put_keeps laws s mid port first t k one) more id later (update_if_id first issued_request e) moved (id_same laws s mid port first t k one e ∙ its) in
       still e (has_id first e) refl waits)
       (contains_cases first ids id there)
     where
-      still : (e : BookEntry) (b : Bool) → has_id first e ≡ b → (update_if_id first issued_entry e).entry.issued ≡ false → e.entry.issued ≡ false
-      still e true is waits = absurd (false≢true (sym waits ∙ ap (λ (x : BookEntry). x.entry.issued) (cond-true (has_id first e) (record e { entry = issued_entry e.entry }) e is)))
-      still e false is waits = sym (ap (λ (x : BookEntry). x.entry.issued) (cond-false (has_id first e) (record e { entry = issued_entry e.entry }) e is)) ∙ waits
+      still : (e : BookEntry) (b : Bool) → has_id first e ≡ b → (update_if_id first issued_request e).request.issued ≡ false → e.request.issued ≡ false
+      still e true is waits = absurd (false≢true (sym waits ∙ ap (λ (x : BookEntry). x.request.issued) (cond-true (has_id first e) (record e { request = issued_request e.request }) e is)))
+      still e false is waits = sym (ap (λ (x : BookEntry). x.request.issued) (cond-false (has_id first e) (record e { request = issued_request e.request }) e is)) ∙ waits
   puts_wait (first ∷ ids) [] s new k more id there e here its = absurd more
 
   -- so none is put in two slots
   pub never_again : (first : RequestId) (t : PlacedTask) (ids : List RequestId) (tasks : List PlacedTask) (s mid new : ServerState) → BookAndSlotsInvariant s → PutsInSlot port first t s mid → PutsInSlots port ids tasks mid new → Contains ids first → ⊥
-  never_again first t ids tasks s mid new k one more there = false≢true (sym waits ∙ ap (λ (x : BookEntry). x.entry.issued) now)
+  never_again first t ids tasks s mid new k one more there = false≢true (sym waits ∙ ap (λ (x : BookEntry). x.request.issued) now)
     where
       e : BookEntry
       e = one.request
 
-      now : update_if_id first issued_entry e ≡ record e { entry = issued_entry e.entry }
-      now = cond-true (has_id first e) (record e { entry = issued_entry e.entry }) e (eq-eqb e.entry.id.0 first.0 (ap (λ (r : RequestId). r.0) one.id_is))
+      now : update_if_id first issued_request e ≡ record e { request = issued_request e.request }
+      now = cond-true (has_id first e) (record e { request = issued_request e.request }) e (eq-eqb e.request.id.0 first.0 (ap (λ (r : RequestId). r.0) one.id_is))
 
-      waits : (update_if_id first issued_entry e).entry.issued ≡ false
-      waits = puts_wait ids tasks mid new (put_keeps laws s mid port first t k one) more first there (update_if_id first issued_entry e)
-          (subst (λ (n : ServerState). Contains n.book (update_if_id first issued_entry e)) (sym one.server_is) (into_map (update_if_id first issued_entry) s.book e one.is_in_book))
-          (ap (λ (x : BookEntry). x.entry.id) now ∙ one.id_is)
+      waits : (update_if_id first issued_request e).request.issued ≡ false
+      waits = puts_wait ids tasks mid new (put_keeps laws s mid port first t k one) more first there (update_if_id first issued_request e)
+          (subst (λ (n : ServerState). Contains n.book (update_if_id first issued_request e)) (sym one.server_is) (into_map (update_if_id first issued_request) s.book e one.is_in_book))
+          (ap (λ (x : BookEntry). x.request.id) now ∙ one.id_is)

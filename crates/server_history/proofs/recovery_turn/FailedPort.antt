@@ -8,9 +8,9 @@ use Rattle.hba_regs.specs.declared.reg.PortReg.TheVariants.{Ci, Sact}
 use Rattle.adapter.specs.Access.Access.{Reading}
 use Rattle.adapter.specs.Device.{Device}
 use Rattle.adapter.specs.Rules.{IsOn}
-use Rattle.refinement.specs.Fragments.{RelatesWith, AnyUse, IsSimulated}
+use Rattle.refinement.specs.Fragments.{SomeMachineAgreesWith, AnySlotStates, IsSimulated}
 use Rattle.refinement.specs.PortFacts.{IsFaulted}
-use Rattle.error_recovery.specs.Recovery.{PlainUsesSlot0, PlainIsSlot0, MayRecover}
+use Rattle.error_recovery.specs.Recovery.{PlainUsesSlot0, PlainIsSlot0, PortMayRecover}
 use Rattle.driver_history.specs.PortInvariants.{EngineRuns}
 use Rattle.host_boot.specs.TakeOver.{StillBacksProbeResult, probe_result_of, wanted_of}
 use Rattle.host_boot.specs.declared.ProbeResult.{ProbeResult}
@@ -19,7 +19,7 @@ use Rattle.port_control.specs.PortEvents.{IsEventAccess, TakesEvent}
 use Rattle.port_control.specs.declared.events.PortEvent.TheVariants.{TaskFileError}
 use Rattle.slots.specs.declared.SlotUse.{SlotUse}
 use Rattle.server_history.specs.Prerequisites.{PrerequisiteLaws}
-use Rattle.server_history.specs.ServerState.{ServerState, InCallInvariant, StandsAlone, slots_at, state_of, used_for}
+use Rattle.server_history.specs.ServerState.{ServerState, InCallInvariant, IsLoneSlot0, slots_at, state_of, used_for}
 use Rattle.server_history.specs.ErrorHandling.{AreAllQueuedAs}
 use Rattle.server_history.specs.IssuingAndAnswering.{IsMaskOf}
 use Rattle.server_history.proofs.plain_calls.Looks.{finding_kept, looking_kept}
@@ -27,13 +27,13 @@ use Rattle.server_history.proofs.state.TransferAccesses.{both_read}
 use Rattle.server_history.proofs.state.PortSlots.{busy_used, free_unused, ready_found, used_or_not}
 
 -- COMRESET isn't being sent
-released : (s : ServerState) (port : Port) → InCallInvariant s → state_of (probe_result_of s.ports port.0) ≡ ReadyState → (s.device.port port.0).sctl_det ≡ 0
+released : (s : ServerState) (port : Port) → InCallInvariant s → state_of (probe_result_of s.probe_results port.0) ≡ ReadyState → (s.device.port port.0).sctl_det ≡ 0
 released s port k ready =
     let r = ready_found s port.0 k ready in
     (subst (λ (f : ProbeResult). StillBacksProbeResult (wanted_of s.wanted port.0) f port.0 s.device) r.1.1 (k.port_invariant port.0 r.0).probe_result_is_backed).1.no_comreset
 
-module _ (laws : PrerequisiteLaws) (s : ServerState) (seen found : Device) (port : Port) (mask done : ℕ) (k : InCallInvariant s) (ready : state_of (probe_result_of s.ports port.0) ≡ ReadyState)
-    (l : TakesEvent port TaskFileError s.device seen) (looks : IsSimulated (IsEventAccess port) AnyUse s.device seen) (finds : ReadsDone port mask done seen found) where
+module _ (laws : PrerequisiteLaws) (s : ServerState) (seen found : Device) (port : Port) (mask done : ℕ) (k : InCallInvariant s) (ready : state_of (probe_result_of s.probe_results port.0) ≡ ReadyState)
+    (l : TakesEvent port TaskFileError s.device seen) (looks : IsSimulated (IsEventAccess port) AnySlotStates s.device seen) (finds : ReadsDone port mask done seen found) where
   low : port.0 < 4
   low = (ready_found s port.0 k ready).0
 
@@ -45,35 +45,35 @@ module _ (laws : PrerequisiteLaws) (s : ServerState) (seen found : Device) (port
 
   -- it runs, before and after
   was : EngineRuns port.0 s.device
-  was = (k.port_invariant port.0 low).engine_runs ready
+  was = (k.port_invariant port.0 low).ready_engine_runs ready
 
   then_runs : EngineRuns port.0 seen
-  then_runs = (seen_kept.port_invariant port.0 low).engine_runs ready
+  then_runs = (seen_kept.port_invariant port.0 low).ready_engine_runs ready
 
   runs : EngineRuns port.0 found
-  runs = (found_kept.port_invariant port.0 low).engine_runs ready
+  runs = (found_kept.port_invariant port.0 low).ready_engine_runs ready
 
   first : IsFaulted (seen.port port.0).halt × ((seen.port port.0).notes.last_ssts % 16 ≡ 3)
-  first = laws.looking.fails_look port s.device seen k.adapter_is_on l was.st (λ _. was.faults_are_recorded)
+  first = laws.look_laws.look_finds_fault_halted port s.device seen k.adapter_is_on l was.st_is_set (λ _. was.faults_are_recorded)
 
   halted : IsFaulted (found.port port.0).halt × ((found.port port.0).notes.last_ssts % 16 ≡ 3)
   halted =
       let r = both_read port mask done seen found finds in
       let mid = r.0 in
       let access = Reading (Px port Ci) finds.issued in
-      let a = laws.looking.fails_reads port Ci finds.issued seen mid seen_kept.adapter_is_on r.1 (λ e. absurd cc) then_runs.st (λ _. then_runs.faults_are_recorded) first.0 in
-      let on : IsOn mid = laws.looks.access_on access seen mid seen_kept.adapter_is_on (λ v e. absurd cc) r.1 in
-      let st = ((laws.looks.access_controls port access seen mid seen_kept.adapter_is_on.no_reset r.1).command tt).0 ∙ then_runs.st in
-      let recorded = laws.looks.access_recorded port access seen mid tt tt r.1 (λ _. then_runs.faults_are_recorded) in
-      let b = laws.looking.fails_reads port Sact finds.active mid found on r.2 (λ e. absurd cc) st recorded a.0 in
+      let a = laws.look_laws.reading_keeps_fault_halted port Ci finds.issued seen mid seen_kept.adapter_is_on r.1 (λ e. absurd cc) then_runs.st_is_set (λ _. then_runs.faults_are_recorded) first.0 in
+      let on : IsOn mid = laws.port_event_laws.access_keeps_on access seen mid seen_kept.adapter_is_on (λ v e. absurd cc) r.1 in
+      let st = ((laws.port_event_laws.access_controls port access seen mid seen_kept.adapter_is_on.no_reset r.1).command tt).0 ∙ then_runs.st_is_set in
+      let recorded = laws.port_event_laws.access_keeps_fault_record port access seen mid tt tt r.1 (λ _. then_runs.faults_are_recorded) in
+      let b = laws.look_laws.reading_keeps_fault_halted port Sact finds.active mid found on r.2 (λ e. absurd cc) st recorded a.0 in
       (b.0, ap (λ (n : ℕ). n % 16) (b.1 ∙ a.1) ∙ first.1)
 
-  pub may_recover : MayRecover port.0 found
+  pub may_recover : PortMayRecover port.0 found
   may_recover = record {
-    st = runs.st;
-    cr = runs.cr;
-    fre = runs.fre;
-    bases = runs.bases;
+    st_is_set = runs.st_is_set;
+    cr_is_set = runs.cr_is_set;
+    fre_is_set = runs.fre_is_set;
+    areas_are_in_place = runs.bases_are_programmed;
     no_comreset = released (record s { device = found }) port found_kept ready;
     link_was_seen = halted.1;
     faults_are_on_record = runs.faults_are_recorded;
@@ -81,15 +81,15 @@ module _ (laws : PrerequisiteLaws) (s : ServerState) (seen found : Device) (port
   }
 
 -- of plain commands a port has one alone
-pub fits_for : (s : ServerState) (port : Port) (queued : Bool) (k : InCallInvariant s) → state_of (probe_result_of s.ports port.0) ≡ ReadyState
-    → ((slot : ℕ) (used : SlotUse) → used_for s.slots port.0 slot ≡ Some used → used.queued ≡ queued) → RelatesWith (PlainUsesSlot0 queued port.0) s.device
+pub fits_for : (s : ServerState) (port : Port) (queued : Bool) (k : InCallInvariant s) → state_of (probe_result_of s.probe_results port.0) ≡ ReadyState
+    → ((slot : ℕ) (used : SlotUse) → used_for s.slots port.0 slot ≡ Some used → used.queued ≡ queued) → SomeMachineAgreesWith (PlainUsesSlot0 queued port.0) s.device
 fits_for s port queued k ready kinds = (
   k.machine_relation.uses,
   (λ plain slot other. ⊎_elim
       (λ x. absurd (other (k.plain_stands_alone port.0 slot x.0 x.1 (kinds slot x.0 x.1 ∙ plain)).0))
       (λ none. free_unused s k.machine port.0 k.machine_relation ready slot none)
       (used_or_not (used_for s.slots port.0 slot))),
-  record { machine = k.machine; parked = k.machine_relation.parked; reached = k.reached; driver_relation = k.machine_relation.driver_relation },
+  record { machine = k.machine; parked = k.machine_relation.awaiting_disposition; reached = k.reached; driver_relation = k.machine_relation.driver_relation },
 )
 
 -- where a slot has a plain command, so it is of each used one
@@ -101,7 +101,7 @@ one_plain s port slot other used its k is there plain = ⊎_elim
     (λ (ne : other ≢ 0). let z : None ≡ Some its = sym (alone.1 other ne) ∙ there in absurd cc)
     (cases_eq other 0)
   where
-    alone : StandsAlone s.slots port slot
+    alone : IsLoneSlot0 s.slots port slot
     alone = k.plain_stands_alone port slot used is plain
 
 -- the used slots of a port have queued commands, or plain ones

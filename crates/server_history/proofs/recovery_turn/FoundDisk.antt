@@ -14,8 +14,8 @@ use Rattle.adapter.specs.Access.{Access, DoesAll, Writes}
 use Rattle.adapter.specs.Access.Access.{Reading, Writing}
 use Rattle.adapter.specs.Device.{Device, DevicePort}
 use Rattle.adapter.specs.Rules.{IsOn}
-use Rattle.refinement.specs.Fragments.{TapeGrows, IsPortAccessWriting, IsDrivenBy, SparesOtherPorts}
-use Rattle.refinement.specs.Driver.{IsBacked}
+use Rattle.refinement.specs.Fragments.{TapeGrows, ReadsPortOrWrites, IsDrivenBy, SparesOtherPorts}
+use Rattle.refinement.specs.Driver.{TapeBacksSteps}
 use Rattle.block_machine.specs.Events.{ShowsDisk, changes_disk}
 use Rattle.block_machine.specs.State.{Machine}
 use Rattle.block_machine.specs.Steps.{Step}
@@ -26,7 +26,7 @@ use Rattle.host_boot.specs.declared.ProbeResult.TheVariants.{Ready, Unready, Uns
 use Rattle.identify.specs.declared.wanted.Wanted.{Wanted}
 use Rattle.port_boot.specs.States.{BacksState, EndsBeforeStart, EndsAfterStart, BringsReady, BringsUpPort, IsBeforeStart, IsAfterStart, IsBootAccess, ShownDiskIsIn, IsStateOfFault}
 use Rattle.identify.specs.Wanted.{serial_of}
-use Rattle.port_control.specs.Ports.{FindsLink, HasLink, IsPlacingRegister, SeesResetFault, ReadsUntil}
+use Rattle.port_control.specs.Ports.{FindsLinkAndClearsErrors, HasLink, IsPlacingRegister, SeesResetFault, ReadsUntil}
 use Rattle.port_control.specs.declared.PortFault.{PortFault}
 use Rattle.port_control.specs.declared.PortFault.TheVariants.{NoDevice, Busy, EngineStuck, NotAta}
 use Rattle.server_history.specs.Prerequisites.{PrerequisiteLaws}
@@ -49,30 +49,30 @@ module _ (laws : PrerequisiteLaws) (port : Port) where
   own_then : (placed sent ended seen : Device) → IsOn placed → Writes (Px port Sctl) 1 placed sent → Writes (Px port Sctl) 0 sent ended → ReadsUntil port Ssts HasLink ended seen → ShownDiskIsIn (seen.port port.0)
   own_then placed sent ended seen on sends ends sees =
       let waits = sees.waits.reads in
-      laws.recovery.own_on port.0 (Writing (Px port Sctl) 0 ∷ (waits.accesses ++ Reading (Px port Ssts) sees.value ∷ [])) sent seen
-      (ended, ends, laws.basic.does_append waits.accesses (Reading (Px port Ssts) sees.value ∷ []) ended sees.waited seen waits.all_are_done (seen, sees.reads, refl))
+      laws.recovery.shown_disk_stays_in port.0 (Writing (Px port Sctl) 0 ∷ (waits.accesses ++ Reading (Px port Ssts) sees.value ∷ [])) sent seen
+      (ended, ends, laws.steps_and_accesses.does_append waits.accesses (Reading (Px port Ssts) sees.value ∷ []) ended sees.waited seen waits.all_are_done (seen, sees.reads, refl))
       (λ shows. let z : 0 ≡ 3 = sym none ∙ shows in absurd (omega (arith, z)))
     where
       none : (sent.port port.0).ssts_det ≡ 0
-      none = ap (λ (p : DevicePort). p.ssts_det) (laws.looks.put port Sctl 1 placed sent sends on.no_reset).port_is_written
+      none = ap (λ (p : DevicePort). p.ssts_det) (laws.port_event_laws.write_changes_port_register port Sctl 1 placed sent sends on.no_reset).port_is_written
 
   -- COMRESET was sent, and the link was found
-  found_then : (old placed sent ended linked new : Device) → IsOn old → IsDrivenBy (IsPortAccessWriting IsPlacingRegister port) old placed → Writes (Px port Sctl) 1 placed sent → Writes (Px port Sctl) 0 sent ended
-      → FindsLink port ended linked → IsDrivenBy (IsBeside port) linked new → SeesDevice port old new
+  found_then : (old placed sent ended linked new : Device) → IsOn old → IsDrivenBy (ReadsPortOrWrites IsPlacingRegister port) old placed → Writes (Px port Sctl) 1 placed sent → Writes (Px port Sctl) 0 sent ended
+      → FindsLinkAndClearsErrors port ended linked → IsDrivenBy (IsBeside port) linked new → SeesDevice port old new
   found_then old placed sent ended linked new on places sends ends found rest =
-      let waited = (resetting laws port old placed sent ended found.sees.waited places sends ends (without laws port Ssts _ found.sees.count ended found.sees.waited found.sees.waits)).driven in
-      let there = laws.of_on port old found.sees.waited on (record { accesses = waited.accesses; all_are_done = waited.all_are_done; accesses_are_of_kind = All-weaker (IsBootAccess port) (SparesOtherPorts port) (laws.booting_of port) waited.accesses waited.accesses_are_of_kind }) in
+      let waited = (resetting laws port old placed sent ended found.reads_until_link.waited places sends ends (without laws port Ssts _ found.reads_until_link.count ended found.reads_until_link.waited found.reads_until_link.waits)).driven in
+      let there = laws.one_port_keeps_adapter_on port old found.reads_until_link.waited on (record { accesses = waited.accesses; all_are_done = waited.all_are_done; accesses_are_of_kind = All-weaker (IsBootAccess port) (SparesOtherPorts port) (laws.boot_access_is_of_port port) waited.accesses waited.accesses_are_of_kind }) in
       record {
-        seen = found.seen;
-        early = (resetting laws port old placed sent ended found.seen places sends ends (until laws port Ssts _ ended found.seen found.sees)).driven;
-        shows = sym (laws.looks.shown_after port Ssts found.sees.value found.sees.waited found.seen there.no_reset found.sees.reads) ∙ found.sees.shown;
-        own = own_then placed sent ended found.seen (laws.of_on port old placed on (driven_as (IsPortAccessWriting IsPlacingRegister port) (SparesOtherPorts port) old placed (λ access is. laws.booting_of port access (placing_boots laws port access is)) places)) sends ends found.sees;
-        late = cleared_then laws port found.seen linked new found.clears rest;
+        seen = found.after_link_is_seen;
+        early = (resetting laws port old placed sent ended found.after_link_is_seen places sends ends (until laws port Ssts _ ended found.after_link_is_seen found.reads_until_link)).driven;
+        shows = sym (laws.port_event_laws.shown_after port Ssts found.reads_until_link.value found.reads_until_link.waited found.after_link_is_seen there.no_reset found.reads_until_link.reads) ∙ found.reads_until_link.shown;
+        own = own_then placed sent ended found.after_link_is_seen (laws.one_port_keeps_adapter_on port old placed on (driven_as (ReadsPortOrWrites IsPlacingRegister port) (SparesOtherPorts port) old placed (λ access is. laws.boot_access_is_of_port port access (placing_boots laws port access is)) places)) sends ends found.reads_until_link;
+        late = cleared_then laws port found.after_link_is_seen linked new found.clears rest;
       }
 
   -- the port was started, and what came then
   started : (old up new : Device) → IsOn old → BringsUpPort port old up → IsDrivenBy (IsBeside port) up new → SeesDevice port old new
-  started old up new on g rest = found_then old g.placed g.resets.sent g.resets.ended g.resets.does_rest.linked new on g.places g.resets.sends g.resets.ends g.resets.does_rest.links
+  started old up new on g rest = found_then old g.placed g.resets.sent g.resets.ended g.resets.does_rest.linked new on g.places g.resets.sends g.resets.ends g.resets.does_rest.finds_link
       (started_then laws port old up new g rest)
 
   -- it wasn't started, but looked at, with a fault that isn't a missing device
@@ -81,8 +81,8 @@ module _ (laws : PrerequisiteLaws) (port : Port) where
     where
       by : (fault : PortFault) → IsStateOfFault state fault → SeesResetFault port fault g.resets.ended new → SeesDevice port old new
       by NoDevice told l = absurd (other told)
-      by Busy told l = found_then old g.placed g.resets.sent g.resets.ended l.linked new on g.places g.resets.sends g.resets.ends l.links (without laws port Tfd _ MOST_READINGS l.linked new l.waits)
-      by (NotAta signature) told l = found_then old g.placed g.resets.sent g.resets.ended l.linked new on g.places g.resets.sends g.resets.ends l.links (linked_then laws port signature g.resets.ended new l)
+      by Busy told l = found_then old g.placed g.resets.sent g.resets.ended l.linked new on g.places g.resets.sends g.resets.ends l.finds_link (without laws port Tfd _ MOST_READINGS l.linked new l.waits)
+      by (NotAta signature) told l = found_then old g.placed g.resets.sent g.resets.ended l.linked new on g.places g.resets.sends g.resets.ends l.finds_link (linked_then laws port signature g.resets.ended new l)
       by EngineStuck told l = absurd l
 
   -- a port that isn't ready, by the way that it went
@@ -124,30 +124,30 @@ pub record SeesOver (port : Port) (old asked new : Device) : Type 0 where
   pub later : TapeGrows seen new
 
 pub booted_sees : (laws : PrerequisiteLaws) (port : Port) (wanted : Wanted) (booted : Booted) (accesses : List Access) (old d new : Device) → IsOn old → DoesAll accesses old d → All (SparesOtherPorts port) accesses
-    → (b : RebootsPort wanted port booted d new) → ShowsDisk (state_of booted.found) → SeesOver port old b.surveyed new
+    → (b : RebootsPort wanted port booted d new) → ShowsDisk (state_of booted.found) → SeesOver port old b.device_after_survey new
 booted_sees laws port wanted booted accesses old d new on does of b shows = record {
   seen = sees.seen;
   accesses = until ++ sees.early.accesses;
-  does = laws.basic.does_append until sees.early.accesses old b.surveyed sees.seen asked sees.early.all_are_done;
+  does = laws.steps_and_accesses.does_append until sees.early.accesses old b.device_after_survey sees.seen asked sees.early.all_are_done;
   shows = sees.shows;
   own = sees.own;
-  before = grows_over laws until old b.surveyed asked;
-  since = laws.looks.tape.grows_more b.surveyed sees.seen new (grows_over laws sees.early.accesses b.surveyed sees.seen sees.early.all_are_done) late;
+  before = grows_over laws until old b.device_after_survey asked;
+  since = laws.port_event_laws.tape.growth_is_transitive b.device_after_survey sees.seen new (grows_over laws sees.early.accesses b.device_after_survey sees.seen sees.early.all_are_done) late;
   later = late;
 }
   where
-    made : IsDrivenBy (IsCapPiOrBootAccess port) d b.surveyed
+    made : IsDrivenBy (IsCapPiOrBootAccess port) d b.device_after_survey
     made = b.surveys.is_driven
 
     until : List Access
     until = accesses ++ made.accesses
 
-    asked : DoesAll until old b.surveyed
-    asked = laws.basic.does_append accesses made.accesses old d b.surveyed does made.all_are_done
+    asked : DoesAll until old b.device_after_survey
+    asked = laws.steps_and_accesses.does_append accesses made.accesses old d b.device_after_survey does made.all_are_done
 
-    sees : SeesDevice port b.surveyed new
-    sees = boot_sees laws port wanted booted.found b.surveyed new
-        (laws.of_on port old b.surveyed on (record { accesses = until; all_are_done = asked; accesses_are_of_kind = All-append (SparesOtherPorts port) accesses made.accesses of (All-weaker (IsCapPiOrBootAccess port) (SparesOtherPorts port) (laws.recovery.start_of port) made.accesses made.accesses_are_of_kind) }))
+    sees : SeesDevice port b.device_after_survey new
+    sees = boot_sees laws port wanted booted.found b.device_after_survey new
+        (laws.one_port_keeps_adapter_on port old b.device_after_survey on (record { accesses = until; all_are_done = asked; accesses_are_of_kind = All-append (SparesOtherPorts port) accesses made.accesses of (All-weaker (IsCapPiOrBootAccess port) (SparesOtherPorts port) (laws.recovery.boot_start_access_is_of_port port) made.accesses made.accesses_are_of_kind) }))
         b.boots shows
 
     late : TapeGrows sees.seen new
@@ -155,8 +155,8 @@ booted_sees laws port wanted booted accesses old d new on does of b shows = reco
 
 -- The machine had a disk in the port then, or one went or came, where the device went on after the boot.
 pub booted_had : (laws : PrerequisiteLaws) (port : Port) (s : ServerState) (wanted : Wanted) (booted : Booted) (accesses : List Access) (d new end : Device) → IsOn s.device → DoesAll accesses s.device d → All (SparesOtherPorts port) accesses
-    → (b : RebootsPort wanted port booted d new) → ShowsDisk (state_of booted.found) → TapeGrows new end → (m : Machine) → MachineRelation s m → (steps : List Step) → IsBacked s.device end m steps
+    → (b : RebootsPort wanted port booted d new) → ShowsDisk (state_of booted.found) → TapeGrows new end → (m : Machine) → MachineRelation s m → (steps : List Step) → TapeBacksSteps s.device end m steps
     → (m.present port ≡ true) ⊎ (list_any (changes_disk port) steps ≡ true)
 booted_had laws port s wanted booted accesses d new end on does of b shows later m stands steps backed =
     let sees = booted_sees laws port wanted booted accesses s.device d new on does of b shows in
-    had_disk laws port s sees.seen end m sees.accesses sees.does (sees.own sees.shows) stands (laws.looks.tape.grows_more sees.seen new end sees.later later) steps backed
+    had_disk laws port s sees.seen end m sees.accesses sees.does (sees.own sees.shows) stands (laws.port_event_laws.tape.growth_is_transitive sees.seen new end sees.later later) steps backed

@@ -14,7 +14,7 @@ use Rattle.ata_types.specs.declared.request.Outcome.TheVariants as outcome
 use Rattle.ata_types.specs.declared.request.Reply.{Reply}
 use Rattle.ata_types.specs.declared.request.RequestId.{RequestId}
 use Rattle.adapter.specs.Device.{DevicePort}
-use Rattle.refinement.specs.Fragments.{AnyUse, IsSimulated}
+use Rattle.refinement.specs.Fragments.{AnySlotStates, IsSimulated}
 use Rattle.block_machine.specs.Events.{IsIssuedIn, NoneStaysIssued, answers_of, issues_id}
 use Rattle.block_machine.specs.Histories.{IsReachable}
 use Rattle.block_machine.specs.Expected.{after}
@@ -37,7 +37,7 @@ use Rattle.server_history.specs.Prerequisites.{PrerequisiteLaws}
 use Rattle.server_history.specs.ErrorHandling.{HasResolved, HandlesPortError, requests_of}
 use Rattle.server_history.specs.IssuingAndAnswering.{AllByDeviceOrIssue, ok_answers_of}
 use Rattle.server_history.specs.ServerState.{ServerState, InCallInvariant, MachineRelation, mode_in, no_slots, state_of, used_for}
-use Rattle.server_history.specs.Turns.{IsOfTurn, abstract_state_of}
+use Rattle.server_history.specs.Turns.{IsTurnOrDeviceStep, abstract_state_of}
 use Rattle.server_history.proofs.state.AnswerSteps.{answered_in, no_answer, no_answer_issuing}
 use Rattle.server_history.proofs.recovery_turn.MendedPort.{interrupted}
 use Rattle.server_history.proofs.recovery_turn.DecidedSteps.{DecidesTurn, failed_named, nobody}
@@ -80,7 +80,7 @@ issued_before laws mode port m (Issue its x ∷ steps) only e here issued =
     by true is = refl
     by false is = is
 issued_before laws mode port m (step ∷ steps) only e here issued =
-    let l = laws.basic.found_before (after m steps).book (after m (step ∷ steps)).book e (laws.basic.spares (after m steps) (step ∷ []) (tt, only.0)).book here in
+    let l = laws.steps_and_accesses.found_before (after m steps).book (after m (step ∷ steps)).book e (laws.steps_and_accesses.device_steps_spare_book (after m steps) (step ∷ []) (tt, only.0)).book here in
     ⊎_elim
     (λ (before : IsIssuedIn l.0.request.id steps). inl (by (issues_id e.request.id step) (subst (λ (id : RequestId). IsIssuedIn id steps) (sym (ap (λ q. q.id) l.2.request)) before)))
     (λ was. inr (was.0, was.1, was.2 ∙ sym l.2.request, was.3))
@@ -159,11 +159,11 @@ abbrev failed_id : Option failed_request.FailedRequest → ℕ
 failed_id None = 0
 failed_id (Some failed) = failed.id.0
 
-module _ (laws : PrerequisiteLaws) (port : Port) (replies : List Reply) (old new : ServerState) (k : InCallInvariant old) (ready : state_of (probe_result_of old.ports port.0) ≡ ReadyState) (r : HandlesPortError port replies old new)
-    (looks : IsSimulated (IsEventAccess port) AnyUse old.device r.settled.error_handled.seen) (kept : InCallInvariant r.mid) (evident : IsEvident port replies old new r) (m : Machine) (reached : IsReachable m) (is : MachineRelation old m)
-    (d : DecidesTurn port replies old new r (evidence_by r.settled) m) where
-  abbrev a : HasResolved port r.later old r.mid
-  a = r.settled
+module _ (laws : PrerequisiteLaws) (port : Port) (replies : List Reply) (old new : ServerState) (k : InCallInvariant old) (ready : state_of (probe_result_of old.probe_results port.0) ≡ ReadyState) (r : HandlesPortError port replies old new)
+    (looks : IsSimulated (IsEventAccess port) AnySlotStates old.device r.has_resolved.error_handled.device_after_look) (kept : InCallInvariant r.server_after_resolving) (evident : IsEvident port replies old new r) (m : Machine) (reached : IsReachable m) (is : MachineRelation old m)
+    (d : DecidesTurn port replies old new r (evidence_by r.has_resolved) m) where
+  abbrev a : HasResolved port r.later_replies old r.server_after_resolving
+  a = r.has_resolved
 
   abbrev base : List Step
   base = until_issues d.dispositions
@@ -174,28 +174,28 @@ module _ (laws : PrerequisiteLaws) (port : Port) (replies : List Reply) (old new
   low = (ready_found old port.0 k ready).0
 
   -- once the fates are met, no slot is used
-  unused : (slot : ℕ) → used_for r.mid.slots port.0 slot ≡ None
+  unused : (slot : ℕ) → used_for r.server_after_resolving.slots port.0 slot ≡ None
   unused slot =
-      let then_kept = mid_kept laws port r.later old r.mid k ready a looks in
-      let four = then_kept.four_slots in
+      let then_kept = mid_kept laws port r.later_replies old r.server_after_resolving k ready a looks in
+      let four = then_kept.slots_are_of_four_ports in
       ap (λ (s : ServerState). used_for s.slots port.0 slot) a.server_is
-      ∙ ap (λ (slots : PortSlots). use_at slots slot) (get_or-set_same a.mid.slots port.0 a.slots no_slots (let small = low in omega (arith, small, four))) ∙ a.has_no_used_slot.free slot
+      ∙ ap (λ (slots : PortSlots). use_at slots slot) (get_or-set_same a.server_after_handling.slots port.0 a.slots no_slots (let small = low in omega (arith, small, four))) ∙ a.has_no_used_slot.all_slots_are_free slot
 
   none_issued : (e : Pending) → Contains (after m base).book e → e.request.port ≡ port → e.issued ≡ true → ⊥
   none_issued e here own issued =
-      let w = at_right EntryRelation r.mid.book (after m base).book d.dispositions.stands.book e here in
-      let number : w.0.entry.port.0 ≡ port.0 = ap (λ (q : Port). q.0) (sym w.2.port ∙ own) in
-      let is_ready = ap (λ (q : ℕ). state_of (probe_result_of r.mid.ports q)) (sym number) ∙ of_ready r.mid kept w.0 w.1 in
-      let h : HasSlot r.mid port e.request.id = issued_has r.mid (after m base) port d.dispositions.stands kept is_ready e here own issued in
+      let w = at_right EntryRelation r.server_after_resolving.book (after m base).book d.dispositions.stands.book e here in
+      let number : w.0.request.port.0 ≡ port.0 = ap (λ (q : Port). q.0) (sym w.2.port ∙ own) in
+      let is_ready = ap (λ (q : ℕ). state_of (probe_result_of r.server_after_resolving.probe_results q)) (sym number) ∙ of_ready r.server_after_resolving kept w.0 w.1 in
+      let h : HasSlot r.server_after_resolving port e.request.id = issued_has r.server_after_resolving (after m base) port d.dispositions.stands kept is_ready e here own issued in
       let z : None ≡ Some h.used = sym (unused h.slot) ∙ h.used_is in absurd cc
 
   pub anew : NoneStaysIssued d.steps (after m d.steps) port
   anew e here own issued =
-      let all : after m d.steps ≡ after (after m base) d.issuing.steps = ap (after m) d.steps_are ∙ laws.basic.joined m d.issuing.steps base in
+      let all : after m d.steps ≡ after (after m base) d.issuing.steps = ap (after m) d.steps_are ∙ laws.steps_and_accesses.after_joins m d.issuing.steps base in
       subst (IsIssuedIn e.request.id) (sym d.steps_are) (⊎_elim
       (λ now. issued_late e.request.id d.issuing.steps base now)
       (λ was. absurd (none_issued was.0 was.1 (ap (λ q. q.port) was.2 ∙ own) was.3))
-      (issued_before laws (mode_in r.mid port) port (after m base) d.issuing.steps d.issuing.only e (subst (λ (n : Machine). Contains n.book e) all here) issued))
+      (issued_before laws (mode_in r.server_after_resolving port) port (after m base) d.issuing.steps d.issuing.only e (subst (λ (n : Machine). Contains n.book e) all here) issued))
 
   -- ---- one fault is told at most
 
@@ -206,20 +206,20 @@ module _ (laws : PrerequisiteLaws) (port : Port) (replies : List Reply) (old new
   differ : AreDifferent (answers_of d.dispositions.dispositions)
   differ = still_differ d.dispositions.tells.answers (answers_of d.dispositions.dispositions) d.dispositions.tells.is_permutation (told_differ port d.dispositions.tells.answers
       (All-weaker (Contains d.dispositions.tells.answers) (λ x. x.0.request.port ≡ port)
-      (λ x here. All-contains (IsOfTurn port) d.steps (Answer x.0 x.1) d.own (fate_there x.0 x.1 (answers_there d.dispositions.dispositions x (Contains-permutation d.dispositions.tells.answers (answers_of d.dispositions.dispositions) x d.dispositions.tells.is_permutation here))))
+      (λ x here. All-contains (IsTurnOrDeviceStep port) d.steps (Answer x.0 x.1) d.own (fate_there x.0 x.1 (answers_there d.dispositions.dispositions x (Contains-permutation d.dispositions.tells.answers (answers_of d.dispositions.dispositions) x d.dispositions.tells.is_permutation here))))
       d.dispositions.tells.answers (All-contains_itself d.dispositions.tells.answers))
       d.dispositions.tells.ordered)
 
   named : (e : Pending) (o : Outcome) → Contains d.dispositions.dispositions (Answer e o) → tells_fault port (Answer e o) ≡ true → e.request.id.0 ≡ failed_id a.failed
-  named e o here tells = by (why a.failed a.revalidation w.0.entry o w.3)
+  named e o here tells = by (why a.failed a.revalidation w.0.request o w.3)
     where
-      w : (request : BookEntry) × Contains (requests_of port a.mid.book) request × EntryRelation request e × (disposition_of a.failed a.revalidation request.entry ≡ Complete o)
+      w : (request : BookEntry) × Contains (requests_of port a.server_after_handling.book) request × EntryRelation request e × (disposition_of a.failed a.revalidation request.request ≡ Complete o)
       w = d.dispositions.answered e o here
 
       no : (other : Outcome) → o ≡ other → tells_fault port (Answer e other) ≡ false → ⊥
       no other same none = false≢true (sym none ∙ ap (λ (y : Outcome). tells_fault port (Answer e y)) (sym same) ∙ tells)
 
-      by : Why a.failed a.revalidation w.0.entry o → e.request.id.0 ≡ failed_id a.failed
+      by : Why a.failed a.revalidation w.0.request o → e.request.id.0 ≡ failed_id a.failed
       by (inl y) = ap (λ (i : RequestId). i.0) w.2.id ∙ sym y.2 ∙ ap failed_id (sym y.1)
       by (inr (inl y)) = absurd (no outcome.Aborted y.3 refl)
       by (inr (inr (inl y))) = absurd (no outcome.Unplugged y.1 refl)
@@ -234,15 +234,15 @@ module _ (laws : PrerequisiteLaws) (port : Port) (replies : List Reply) (old new
       (cases_Bool (tells_fault port (Answer e o))))
     where
       not_named : (e : Pending) (o : Outcome) → Contains d.dispositions.dispositions (Answer e o) → tells_fault port (Answer e o) ≡ true → ⊥
-      not_named e o here tells = by (why a.failed a.revalidation w.0.entry o w.3)
+      not_named e o here tells = by (why a.failed a.revalidation w.0.request o w.3)
         where
-          w : (request : BookEntry) × Contains (requests_of port a.mid.book) request × EntryRelation request e × (disposition_of a.failed a.revalidation request.entry ≡ Complete o)
+          w : (request : BookEntry) × Contains (requests_of port a.server_after_handling.book) request × EntryRelation request e × (disposition_of a.failed a.revalidation request.request ≡ Complete o)
           w = d.dispositions.answered e o here
 
           no : (other : Outcome) → o ≡ other → tells_fault port (Answer e other) ≡ false → ⊥
           no other same none = false≢true (sym none ∙ ap (λ (y : Outcome). tells_fault port (Answer e y)) (sym same) ∙ tells)
 
-          by : Why a.failed a.revalidation w.0.entry o → ⊥
+          by : Why a.failed a.revalidation w.0.request o → ⊥
           by (inl y) = let z : None ≡ Some y.0 = sym nobody ∙ y.1 in cc
           by (inr (inl y)) = no outcome.Aborted y.3 refl
           by (inr (inr (inl y))) = no outcome.Unplugged y.1 refl
@@ -254,7 +254,7 @@ module _ (laws : PrerequisiteLaws) (port : Port) (replies : List Reply) (old new
 
   counted : count_by (tells_fault port) d.steps ≡ count_by (tells_fault port) d.dispositions.dispositions
   counted =
-      let issuing = silent d.issuing.steps (λ e o here. absurd (no_answer_issuing (mode_in r.mid port) port d.issuing.steps d.issuing.only e o here)) in
+      let issuing = silent d.issuing.steps (λ e o here. absurd (no_answer_issuing (mode_in r.server_after_resolving port) port d.issuing.steps d.issuing.only e o here)) in
       let middle = silent d.dispositions.middle (λ e o here. absurd (no_answer d.dispositions.middle d.dispositions.middle_only e o here)) in
       let ended = silent (ok_answers_of d.dispositions.ended) (λ e o here. (answered_in d.dispositions.ended e o here).1) in
       let first = silent d.dispositions.first (λ e o here. absurd (no_answer d.dispositions.first d.dispositions.first_only e o here)) in
@@ -271,7 +271,7 @@ module _ (laws : PrerequisiteLaws) (port : Port) (replies : List Reply) (old new
   shown = old.device.port port.0
 
   -- an error that was fatal was a failure
-  fatal : Contains (evidence_by a).fatal port → Contains (evidence_by a).failed port × (count_by (tells_fault port) d.steps ≡ 0)
+  fatal : Contains (evidence_by a).showing_fatal_error port → Contains (evidence_by a).showing_error port × (count_by (tells_fault port) d.steps ≡ 0)
   fatal here = (
     is_failure a.error_handled.port_error here,
     counted ∙ untold (nobody laws port replies old new k ready r looks kept (λ failed. nowhere port (subst (λ (t : PortError). Contains (fatal_of port t shown) port) failed here))),
@@ -291,10 +291,10 @@ module _ (laws : PrerequisiteLaws) (port : Port) (replies : List Reply) (old new
   pub serves_ready : a.error_handled.port_error ≢ TimedOut → ServicesReadyPort (abstract_state_of old m) (evidence_by a) d.steps (abstract_state_of new (after m d.steps)) port
   serves_ready unhung = record {
     answers_ended = heeding laws port replies old new k ready r looks kept evident m reached is d;
-    none_is_left = λ here. d.emptied (gone_is port shown a.error_handled.port_error unhung here);
-    others_are_told_alike = λ here. d.told (gone_is port shown a.error_handled.port_error unhung here);
-    is_interrupted = λ _. interrupted laws port replies old new k ready r looks kept;
-    none_stays_issued = λ _. anew;
+    link_change_leaves_none = λ here. d.emptied (gone_is port shown a.error_handled.port_error unhung here);
+    link_change_tells_alike = λ here. d.told (gone_is port shown a.error_handled.port_error unhung here);
+    trouble_interrupts = λ _. interrupted laws port replies old new k ready r looks kept;
+    trouble_leaves_none_issued = λ _. anew;
     one_fault_at_most = single;
     fatal_tells_no_fault = fatal;
     shown_disk_was_in_or_came = evident.had m is d.steps d.backed;

@@ -7,11 +7,11 @@ use Rattle.ata_types.specs.declared.request.Reply.{Reply}
 use Rattle.hba_regs.specs.declared.reg.PortReg.TheVariants.{Ci, Cmd, Ie, Is, Sact, Sctl, Serr}
 use Rattle.hba_regs.specs.declared.reg.Reg.{Reg}
 use Rattle.hba_regs.specs.declared.reg.Reg.TheVariants.{Ghc, Px}
-use Rattle.adapter.specs.Access.{Access, named_causes}
+use Rattle.adapter.specs.Access.{Access, named_causes_mask}
 use Rattle.adapter.specs.Access.Access.{Loading, Reading, Storing, Writing}
 use Rattle.adapter.specs.Device.{Device}
 use Rattle.adapter.specs.Rules.{IsOn}
-use Rattle.refinement.specs.Fragments.{AnyUse, IsDrivenBy, IsSimulated, SparesOtherPorts}
+use Rattle.refinement.specs.Fragments.{AnySlotStates, IsDrivenBy, IsSimulated, SparesOtherPorts}
 use Rattle.server_history.proofs.state.DrivenAccesses.{by_then, driven_as}
 use Rattle.block_machine.specs.State.{Machine}
 use Rattle.disk_page.specs.PageRequests.{IsPageAccess}
@@ -33,7 +33,7 @@ use Rattle.port_control.specs.PortEvents.{IsEventAccess}
 use Rattle.request_queue.specs.BookEntries.{unanswered_of, due_ids}
 use Rattle.identify.specs.declared.wanted.Wanted.{Wanted}
 use Rattle.server_history.specs.Prerequisites.{PrerequisiteLaws}
-use Rattle.server_history.specs.ErrorHandling.{IsRevalidated, IsErrorHandled, HasResolved, HandlesPortError}
+use Rattle.server_history.specs.ErrorHandling.{IsFoundAfterError, IsErrorHandled, HasResolved, HandlesPortError}
 use Rattle.commands.specs.Batches.{IsBatchAccess}
 use Rattle.server_history.specs.ServerState.{ServerState, InCallInvariant, mode_in, ports_of, state_of}
 use Rattle.server_history.specs.Turns.{joint_state_of}
@@ -96,14 +96,14 @@ asking_leaves port (Storing at bytes) is = (tt, tt, tt, tt, stays_on (Storing at
 
 module _ (laws : PrerequisiteLaws) (port : Port) (old asked mid new : Device) (on : IsOn asked) (way : BringsReady port asked mid) (later : IsDrivenBy (LeavesTrouble port) mid new) where
   pub ready_up_on : IsOn way.up
-  ready_up_on = laws.of_on port asked way.up on (driven_as (IsBootAccess port) (SparesOtherPorts port) asked way.up (λ access x. laws.booting_of port access x) (up_driven laws port asked way.up way.brings_up))
+  ready_up_on = laws.one_port_keeps_adapter_on port asked way.up on (driven_as (IsBootAccess port) (SparesOtherPorts port) asked way.up (λ access x. laws.boot_access_is_of_port port access x) (up_driven laws port asked way.up way.brings_up))
 
   -- what came since ST was set leaves what the port shows
   pub ready_since : IsDrivenBy (LeavesTrouble port) way.up new
   ready_since =
       by_then laws (driven_as (IsPageAccess port) (LeavesTrouble port) way.up way.asks_disk.asked (asking_leaves port) way.asks_disk.asks)
       (by_then laws
-      (record { accesses = Writing (Px port Ie) named_causes ∷ []; all_are_done = (mid, way.asks_disk.tells, refl); accesses_are_of_kind = All-cons (LeavesTrouble port) (Writing (Px port Ie) named_causes) [] (ie_apart port named_causes) (All-nil (LeavesTrouble port)) })
+      (record { accesses = Writing (Px port Ie) named_causes_mask ∷ []; all_are_done = (mid, way.asks_disk.enables_interrupts, refl); accesses_are_of_kind = All-cons (LeavesTrouble port) (Writing (Px port Ie) named_causes_mask) [] (ie_apart port named_causes_mask) (All-nil (LeavesTrouble port)) })
       later)
 
   pub ready_shows : HidesNoTrouble port.0 old new
@@ -113,80 +113,80 @@ module _ (laws : PrerequisiteLaws) (port : Port) (old asked mid new : Device) (o
 
 module _ (laws : PrerequisiteLaws) (port : Port) (low : port.0 < 4) (wanted : Wanted) (info : DiskInfo) (booted : Booted) (old d mid new : Device) (on : IsOn d) (b : RebootsPort wanted port booted d mid) (found : booted.found ≡ Ready info)
     (later : IsDrivenBy (LeavesTrouble port) mid new) where
-  pub boot_asked_on : IsOn b.surveyed
-  boot_asked_on = laws.of_on port d b.surveyed on (driven_as (IsCapPiOrBootAccess port) (SparesOtherPorts port) d b.surveyed (λ access s. (start_part laws port low access s).1) b.surveys.is_driven)
+  pub boot_asked_on : IsOn b.device_after_survey
+  boot_asked_on = laws.one_port_keeps_adapter_on port d b.device_after_survey on (driven_as (IsCapPiOrBootAccess port) (SparesOtherPorts port) d b.device_after_survey (λ access s. (start_part laws port low access s).1) b.surveys.is_driven)
 
-  pub boot_ends : EndsReady (serial_of wanted) port info b.surveyed mid
-  boot_ends = subst (λ (f : ProbeResult). BootsStopped wanted port f b.surveyed mid) found b.boots
+  pub boot_ends : EndsReady (serial_of wanted) port info b.device_after_survey mid
+  boot_ends = subst (λ (f : ProbeResult). BootsStopped wanted port f b.device_after_survey mid) found b.boots
 
-  abbrev boot_way : BringsReady port b.surveyed mid
+  abbrev boot_way : BringsReady port b.device_after_survey mid
   boot_way = boot_ends.brings_ready
 
   pub boot_shows : HidesNoTrouble port.0 old new
-  boot_shows = ready_shows laws port old b.surveyed mid new boot_asked_on boot_way later
+  boot_shows = ready_shows laws port old b.device_after_survey mid new boot_asked_on boot_way later
 
 -- ---- the whole
 
-module _ (laws : PrerequisiteLaws) (port : Port) (replies : List Reply) (old new : ServerState) (k : InCallInvariant old) (ready : state_of (probe_result_of old.ports port.0) ≡ ReadyState) (r : HandlesPortError port replies old new)
-    (looks : IsSimulated (IsEventAccess port) AnyUse old.device r.settled.error_handled.seen) (kept : InCallInvariant r.mid) (t : TurnParts port replies old new r) where
-  abbrev a : HasResolved port r.later old r.mid
-  a = r.settled
+module _ (laws : PrerequisiteLaws) (port : Port) (replies : List Reply) (old new : ServerState) (k : InCallInvariant old) (ready : state_of (probe_result_of old.probe_results port.0) ≡ ReadyState) (r : HandlesPortError port replies old new)
+    (looks : IsSimulated (IsEventAccess port) AnySlotStates old.device r.has_resolved.error_handled.device_after_look) (kept : InCallInvariant r.server_after_resolving) (t : TurnParts port replies old new r) where
+  abbrev a : HasResolved port r.later_replies old r.server_after_resolving
+  a = r.has_resolved
 
-  abbrev x : IsErrorHandled port old a.mid a.device
+  abbrev x : IsErrorHandled port old a.server_after_handling a.device_after_handling
   x = a.error_handled
 
   low : port.0 < 4
   low = (ready_found old port.0 k ready).0
 
   -- what is issued leaves what the port shows
-  pub issuing : IsDrivenBy (LeavesTrouble port) r.mid.device new.device
-  issuing = driven_as (IsBatchAccess port) (LeavesTrouble port) r.mid.device new.device (issuing_leaves port port) (each_driven laws port (due_ids (mode_in r.mid port) port (unanswered_of r.mid.book)) r.mid new r.issued)
+  pub issuing : IsDrivenBy (LeavesTrouble port) r.server_after_resolving.device new.device
+  issuing = driven_as (IsBatchAccess port) (LeavesTrouble port) r.server_after_resolving.device new.device (issuing_leaves port port) (each_driven laws port (due_ids (mode_in r.server_after_resolving port) port (unanswered_of r.server_after_resolving.book)) r.server_after_resolving new r.issued)
 
   -- the adapter is on when the port was recovered
-  pub recovered_driven : IsDrivenBy (SparesOtherPorts port) old.device a.device
-  recovered_driven = by_then laws (driven_as (IsEarlyPart port) (SparesOtherPorts port) old.device a.mid.device (λ access is. is.0.1) t.early)
-      (record { accesses = x.handling.accesses; all_are_done = t.does; accesses_are_of_kind = All-weaker (IsPart port) (SparesOtherPorts port) (λ access is. is.1) x.handling.accesses t.kinds })
+  pub recovered_driven : IsDrivenBy (SparesOtherPorts port) old.device a.device_after_handling
+  recovered_driven = by_then laws (driven_as (IsEarlyPart port) (SparesOtherPorts port) old.device a.server_after_handling.device (λ access is. is.0.1) t.early)
+      (record { accesses = x.recovers_or_stops.accesses; all_are_done = t.does; accesses_are_of_kind = All-weaker (IsPart port) (SparesOtherPorts port) (λ access is. is.1) x.recovers_or_stops.accesses t.kinds })
 
-  pub recovered_on : IsOn a.device
-  recovered_on = laws.of_on port old.device a.device k.adapter_is_on recovered_driven
+  pub recovered_on : IsOn a.device_after_handling
+  recovered_on = laws.one_port_keeps_adapter_on port old.device a.device_after_handling k.adapter_is_on recovered_driven
 
   -- a port that runs again
   module _ (token : _) (is : x.result.next ≡ next.Running token) where
-    again_is : IsRevalidated (wanted_of old.wanted port.0) port x.port_error a.disk_before (next.Running token) a.device r.mid.device a.found
-    again_is = subst (λ (n : Next). IsRevalidated (wanted_of old.wanted port.0) port x.port_error a.disk_before n a.device r.mid.device a.found) is a.is_revalidated
+    again_is : IsFoundAfterError (wanted_of old.wanted port.0) port x.port_error a.disk_before (next.Running token) a.device_after_handling r.server_after_resolving.device a.found
+    again_is = subst (λ (n : Next). IsFoundAfterError (wanted_of old.wanted port.0) port x.port_error a.disk_before n a.device_after_handling r.server_after_resolving.device a.found) is a.is_found_after_error
 
-    pub again : RunsAgain x.queued port.0 a.mid.device a.device
-    again = (subst (λ (n : Next). EndsAsNext x.queued port n a.mid.device a.device) is x.handling.leaves.ends_as_next).1
+    pub again : RunsAgain x.queued port.0 a.server_after_handling.device a.device_after_handling
+    again = (subst (λ (n : Next). EndsAsNext x.queued port n a.server_after_handling.device a.device_after_handling) is x.recovers_or_stops.leaves.ends_as_next).1
 
-    pub then_issuing : IsDrivenBy (LeavesTrouble port) a.device new.device
+    pub then_issuing : IsDrivenBy (LeavesTrouble port) a.device_after_handling new.device
     then_issuing = subst (λ (d : Device). IsDrivenBy (LeavesTrouble port) d new.device) again_is.1 issuing
 
     runs_shows : HidesNoTrouble port.0 old.device new.device
-    runs_shows = shown_more port.0 old.device a.mid.device a.device new.device again.hides_no_trouble (grows_over laws x.handling.accesses a.mid.device a.device t.does) again.st_set_in_call
-        (shows_over laws port then_issuing.accesses a.device new.device recovered_on then_issuing.accesses_are_of_kind then_issuing.all_are_done)
+    runs_shows = shown_more port.0 old.device a.server_after_handling.device a.device_after_handling new.device again.hides_no_trouble (grows_over laws x.recovers_or_stops.accesses a.server_after_handling.device a.device_after_handling t.does) again.st_set_in_call
+        (shows_over laws port then_issuing.accesses a.device_after_handling new.device recovered_on then_issuing.accesses_are_of_kind then_issuing.all_are_done)
 
   -- one that was booted
   module _ (token : _) (is : x.result.next ≡ next.Restart token) (is_ready : (ports_of new).state port ≡ ReadyState) where
     pub info : (info : DiskInfo) × (a.found ≡ Ready info)
     info = ready_info laws port replies old new k ready r looks kept is_ready
 
-    pub again_booted : (booted : Booted) × (booted.found ≡ a.found) × RebootsPort (wanted_of old.wanted port.0) port booted a.device r.mid.device
+    pub again_booted : (booted : Booted) × (booted.found ≡ a.found) × RebootsPort (wanted_of old.wanted port.0) port booted a.device_after_handling r.server_after_resolving.device
     again_booted =
-        let after : IsRevalidated (wanted_of old.wanted port.0) port x.port_error a.disk_before (next.Restart token) a.device r.mid.device a.found =
-        subst (λ (n : Next). IsRevalidated (wanted_of old.wanted port.0) port x.port_error a.disk_before n a.device r.mid.device a.found) is a.is_revalidated in (
+        let after : IsFoundAfterError (wanted_of old.wanted port.0) port x.port_error a.disk_before (next.Restart token) a.device_after_handling r.server_after_resolving.device a.found =
+        subst (λ (n : Next). IsFoundAfterError (wanted_of old.wanted port.0) port x.port_error a.disk_before n a.device_after_handling r.server_after_resolving.device a.found) is a.is_found_after_error in (
           after.0,
           after.1,
           ⊎_elim
-              (λ (boots : RebootsPort (wanted_of old.wanted port.0) port after.0 a.device r.mid.device). boots)
+              (λ (boots : RebootsPort (wanted_of old.wanted port.0) port after.0 a.device_after_handling r.server_after_resolving.device). boots)
               (λ absent. let z : Unready AbsentState ≡ Ready info.0 = sym absent.is ∙ after.1 ∙ info.1 in absurd cc)
-              (boots_or_absent x.port_error (wanted_of old.wanted port.0) port after.0 a.device r.mid.device after.2),
+              (boots_or_absent x.port_error (wanted_of old.wanted port.0) port after.0 a.device_after_handling r.server_after_resolving.device after.2),
         )
 
     abbrev pub asked : Device
-    asked = again_booted.2.surveyed
+    asked = again_booted.2.device_after_survey
 
     its_shows : HidesNoTrouble port.0 old.device new.device
-    its_shows = boot_shows laws port low (wanted_of old.wanted port.0) info.0 again_booted.0 old.device a.device r.mid.device new.device recovered_on again_booted.2 (again_booted.1 ∙ info.1) issuing
+    its_shows = boot_shows laws port low (wanted_of old.wanted port.0) info.0 again_booted.0 old.device a.device_after_handling r.server_after_resolving.device new.device recovered_on again_booted.2 (again_booted.1 ∙ info.1) issuing
 
   shows : (ports_of new).state port ≡ ReadyState → HidesNoTrouble port.0 old.device new.device
   shows is_ready = by x.result.next refl
@@ -201,9 +201,9 @@ module _ (laws : PrerequisiteLaws) (port : Port) (replies : List Reply) (old new
   -- the port was interrupted
   pub lasting : (m : Machine) → LosesNoPortError (evidence_by a) (joint_state_of old m) (ports_of new) new.device port
   lasting m = record {
-    errors = λ _ _. inl (interrupted laws port replies old new k ready r looks kept);
-    changes = λ _ _. inl (interrupted laws port replies old new k ready r looks kept);
-    fault = λ is_ready g. (shows is_ready).fault_is_shown g;
-    fatal = λ is_ready g. (shows is_ready).fatal_is_shown g;
-    disk = λ is_ready g. (shows is_ready).plug_is_shown g;
+    errors_are_handled_or_shown = λ _ _. inl (interrupted laws port replies old new k ready r looks kept);
+    changes_are_handled_or_shown = λ _ _. inl (interrupted laws port replies old new k ready r looks kept);
+    new_fault_is_shown = λ is_ready g. (shows is_ready).fault_is_shown g;
+    new_fatal_is_shown = λ is_ready g. (shows is_ready).fatal_is_shown g;
+    new_plug_event_is_shown = λ is_ready g. (shows is_ready).plug_is_shown g;
   }

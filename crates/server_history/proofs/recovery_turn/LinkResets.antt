@@ -10,17 +10,17 @@ use Rattle.hba_regs.specs.declared.reg.PortReg.{PortReg}
 use Rattle.hba_regs.specs.declared.reg.PortReg.TheVariants.{Cmd, Clb, Clbu, Fb, Fbu, Ie, Is, Sctl, Serr, Sig, Ssts, Tfd, Ci}
 use Rattle.hba_regs.specs.declared.reg.Reg.{Reg}
 use Rattle.hba_regs.specs.declared.reg.Reg.TheVariants.{Px}
-use Rattle.adapter.specs.Access.{Access, Does, Reads, Writes, named_causes}
+use Rattle.adapter.specs.Access.{Access, Does, Reads, Writes, named_causes_mask}
 use Rattle.adapter.specs.Access.Access.{Loading, Reading, Storing, Writing}
 use Rattle.adapter.specs.Device.{Device}
-use Rattle.refinement.specs.Fragments.{IsPortAccessWriting, IsDrivenBy}
-use Rattle.refinement.specs.Links.{DoesNotWrite}
+use Rattle.refinement.specs.Fragments.{ReadsPortOrWrites, IsDrivenBy}
+use Rattle.refinement.specs.PreservedParts.{DoesNotWrite}
 use Rattle.server_history.proofs.state.DrivenAccesses.{by_none, by_then, driven_as}
 use Rattle.disk_page.specs.PageRequests.{IsPageAccess}
 use Rattle.driver_history.specs.AccessTrace.{ResetsLink}
 use Rattle.error_recovery.specs.Recovery.{IsRecoveryRegister, IsRecoveryAccess}
 use Rattle.port_boot.specs.States.{EndsBeforeStart, EndsAfterStart, BringsReady, BringsUpPort, IsBootRegister, IsBootAccess}
-use Rattle.port_control.specs.Ports.{ClearsErrors, FindsLink, FindsSignature, IsPlacingRegister, SeesResetFault, IsVainReading, ReadsUntil, ReadsInVain, IsCommandRegister}
+use Rattle.port_control.specs.Ports.{ClearsErrors, FindsLinkAndClearsErrors, FindsSignature, IsPlacingRegister, SeesResetFault, IsVainReading, ReadsUntil, ReadsInVain, IsCommandRegister}
 use Rattle.port_control.specs.declared.PortFault.{PortFault}
 use Rattle.port_control.specs.declared.PortFault.TheVariants.{NoDevice, Busy, EngineStuck, NotAta}
 use Rattle.server_history.specs.Prerequisites.{PrerequisiteLaws}
@@ -36,13 +36,13 @@ resets_more port early part late r spared = record {
   before = early ++ r.before;
   between = r.between;
   later = r.later ++ late;
-  sending = r.sending;
-  ending = r.ending;
+  comreset_value = r.comreset_value;
+  end_of_comreset_value = r.end_of_comreset_value;
   accesses_are_split =
       ap (λ (list : List Access). early ++ (list ++ late)) r.accesses_are_split
-      ∙ ap (λ (list : List Access). early ++ list) (append_assoc r.before (Writing (Px port Sctl) r.sending ∷ (r.between ++ (Writing (Px port Sctl) r.ending ∷ r.later))) late)
-      ∙ ap (λ (list : List Access). early ++ (r.before ++ (Writing (Px port Sctl) r.sending ∷ list))) (append_assoc r.between (Writing (Px port Sctl) r.ending ∷ r.later) late)
-      ∙ sym (append_assoc early r.before (Writing (Px port Sctl) r.sending ∷ (r.between ++ (Writing (Px port Sctl) r.ending ∷ (r.later ++ late)))));
+      ∙ ap (λ (list : List Access). early ++ list) (append_assoc r.before (Writing (Px port Sctl) r.comreset_value ∷ (r.between ++ (Writing (Px port Sctl) r.end_of_comreset_value ∷ r.later))) late)
+      ∙ ap (λ (list : List Access). early ++ (r.before ++ (Writing (Px port Sctl) r.comreset_value ∷ list))) (append_assoc r.between (Writing (Px port Sctl) r.end_of_comreset_value ∷ r.later) late)
+      ∙ sym (append_assoc early r.before (Writing (Px port Sctl) r.comreset_value ∷ (r.between ++ (Writing (Px port Sctl) r.end_of_comreset_value ∷ (r.later ++ late)))));
   sends_comreset = r.sends_comreset;
   ends_comreset = r.ends_comreset;
   sctl_is_unwritten_between = r.sctl_is_unwritten_between;
@@ -62,7 +62,7 @@ apart : (port at : Port) (r other : PortReg) → r ≢ other → Px at r ≢ Px 
 apart port at r other ne same = ne cc
 
 module _ (laws : PrerequisiteLaws) (port : Port) where
-  control_beside : (Such : PortReg → Type 0) → ((r : PortReg) → Such r → IsBootRegister r × (r ≢ Sctl)) → (access : Access) → IsPortAccessWriting Such port access → IsBeside port access
+  control_beside : (Such : PortReg → Type 0) → ((r : PortReg) → Such r → IsBootRegister r × (r ≢ Sctl)) → (access : Access) → ReadsPortOrWrites Such port access → IsBeside port access
   control_beside Such each (Reading (Px at r) v) is = (inl is, tt)
   control_beside Such each (Reading r v) is = absurd is
   control_beside Such each (Writing (Px at r) v) is = let e = each r is.1 in (inl (is.0, e.0), apart port at r Sctl e.1)
@@ -83,7 +83,7 @@ module _ (laws : PrerequisiteLaws) (port : Port) where
       no (inr (inr (inr (inl x)))) same = let z : Fb ≡ Sctl = sym x ∙ same in absurd cc
       no (inr (inr (inr (inr x)))) same = let z : Fbu ≡ Sctl = sym x ∙ same in absurd cc
 
-  pub placing_boots : (access : Access) → IsPortAccessWriting IsPlacingRegister port access → IsBootAccess port access
+  pub placing_boots : (access : Access) → ReadsPortOrWrites IsPlacingRegister port access → IsBootAccess port access
   placing_boots access is = (control_beside IsPlacingRegister placing_beside access is).0
 
   asking_beside : (access : Access) → IsPageAccess port access → IsBeside port access
@@ -93,7 +93,7 @@ module _ (laws : PrerequisiteLaws) (port : Port) where
   asking_beside (Storing at bytes) is = (inr is, tt)
 
   unread : (r : PortReg) (Sees : ℕ → Type 0) (access : Access) → IsVainReading port r Sees access → IsBeside port access
-  unread r Sees (Reading at v) is = (inl (subst (λ (x : Reg). IsPortAccessWriting IsBootRegister port (Reading x v)) (sym is.0) refl), tt)
+  unread r Sees (Reading at v) is = (inl (subst (λ (x : Reg). ReadsPortOrWrites IsBootRegister port (Reading x v)) (sym is.0) refl), tt)
   unread r Sees (Writing at v) is = absurd is
   unread r Sees (Loading at bytes) is = absurd is
   unread r Sees (Storing at bytes) is = absurd is
@@ -116,31 +116,31 @@ module _ (laws : PrerequisiteLaws) (port : Port) where
 
   clearing : (old new : Device) → ClearsErrors port old new → IsDrivenBy (IsBeside port) old new
   clearing old new c = by_then laws
-      (write_one Serr 0xffffffff old c.between (inr (inl (inr (inl refl)))) (λ e. let z : Serr ≡ Sctl = e in cc) c.errors)
-      (write_one Is 0xffffffff c.between new (inr (inl (inr (inr refl)))) (λ e. let z : Is ≡ Sctl = e in cc) c.causes)
+      (write_one Serr 0xffffffff old c.between (inr (inl (inr (inl refl)))) (λ e. let z : Serr ≡ Sctl = e in cc) c.clears_serr)
+      (write_one Is 0xffffffff c.between new (inr (inl (inr (inr refl)))) (λ e. let z : Is ≡ Sctl = e in cc) c.clears_is)
 
   -- where a device was seen, errors are cleared, and this comes then
   pub cleared_then : (old mid new : Device) → ClearsErrors port old mid → IsDrivenBy (IsBeside port) mid new → IsDrivenBy (IsBeside port) old new
   cleared_then old mid new c rest = by_then laws (clearing old mid c) rest
 
-  linking : (old new : Device) → FindsLink port old new → IsDrivenBy (IsBeside port) old new
-  linking old new l = by_then laws (until Ssts _ old l.seen l.sees) (clearing l.seen new l.clears)
+  linking : (old new : Device) → FindsLinkAndClearsErrors port old new → IsDrivenBy (IsBeside port) old new
+  linking old new l = by_then laws (until Ssts _ old l.after_link_is_seen l.reads_until_link) (clearing l.after_link_is_seen new l.clears)
 
   -- what comes once the link was found, and the errors were cleared
   pub linked_then : (signature : ℕ) (old new : Device) → (f : FindsSignature port signature old new) → IsDrivenBy (IsBeside port) f.linked new
   linked_then signature old new f = by_then laws (until Tfd _ f.linked f.idle f.waits) (read_one Sig signature f.idle new f.reads)
 
   signing : (signature : ℕ) (old new : Device) → FindsSignature port signature old new → IsDrivenBy (IsBeside port) old new
-  signing signature old new f = by_then laws (linking old f.linked f.links) (linked_then signature old new f)
+  signing signature old new f = by_then laws (linking old f.linked f.finds_link) (linked_then signature old new f)
 
   looking : (fault : PortFault) (old new : Device) → SeesResetFault port fault old new → IsDrivenBy (IsBeside port) old new
   looking NoDevice old new l = without Ssts _ MOST_READINGS old new l
-  looking Busy old new l = by_then laws (linking old l.linked l.links) (without Tfd _ MOST_READINGS l.linked new l.waits)
+  looking Busy old new l = by_then laws (linking old l.linked l.finds_link) (without Tfd _ MOST_READINGS l.linked new l.waits)
   looking (NotAta signature) old new l = signing signature old new l
   looking EngineStuck old new l = absurd l
 
-  pub commanding : (old new : Device) → IsDrivenBy (IsPortAccessWriting IsCommandRegister port) old new → IsDrivenBy (IsBeside port) old new
-  commanding old new driven = driven_as (IsPortAccessWriting IsCommandRegister port) (IsBeside port) old new (control_beside IsCommandRegister command_beside) driven
+  pub commanding : (old new : Device) → IsDrivenBy (ReadsPortOrWrites IsCommandRegister port) old new → IsDrivenBy (IsBeside port) old new
+  commanding old new driven = driven_as (ReadsPortOrWrites IsCommandRegister port) (IsBeside port) old new (control_beside IsCommandRegister command_beside) driven
 
   asking : (old new : Device) → IsDrivenBy (IsPageAccess port) old new → IsDrivenBy (IsBeside port) old new
   asking old new driven = driven_as (IsPageAccess port) (IsBeside port) old new asking_beside driven
@@ -151,20 +151,20 @@ module _ (laws : PrerequisiteLaws) (port : Port) where
 
   -- what comes once a port was started that is ready then, or stopped
   pub ready_then : (old new : Device) (g : BringsReady port old new) → IsDrivenBy (IsBeside port) g.up new
-  ready_then old new g = by_then laws (asking g.up g.asks_disk.asked g.asks_disk.asks) (write_one Ie named_causes g.asks_disk.asked new (inr (inr refl)) (λ e. let z : Ie ≡ Sctl = e in cc) g.asks_disk.tells)
+  ready_then old new g = by_then laws (asking g.up g.asks_disk.asked g.asks_disk.asks) (write_one Ie named_causes_mask g.asks_disk.asked new (inr (inr refl)) (λ e. let z : Ie ≡ Sctl = e in cc) g.asks_disk.enables_interrupts)
 
   pub late_then : (old new : Device) (g : EndsAfterStart port old new) → IsDrivenBy (IsBeside port) g.up new
   late_then old new g = by_then laws (asking g.up g.asks_then_stops.asked g.asks_then_stops.asks) (commanding g.asks_then_stops.asked new g.asks_then_stops.stops)
 
   -- ---- the whole
 
-  pub resetting : (old placed sent ended new : Device) → IsDrivenBy (IsPortAccessWriting IsPlacingRegister port) old placed → Writes (Px port Sctl) 1 placed sent → Writes (Px port Sctl) 0 sent ended → IsDrivenBy (IsBeside port) ended new → ResetsBy port old new
+  pub resetting : (old placed sent ended new : Device) → IsDrivenBy (ReadsPortOrWrites IsPlacingRegister port) old placed → Writes (Px port Sctl) 1 placed sent → Writes (Px port Sctl) 0 sent ended → IsDrivenBy (IsBeside port) ended new → ResetsBy port old new
   resetting old placed sent ended new places sends ends rest = record {
     driven = record {
       accesses = places.accesses ++ list;
-      all_are_done = laws.basic.does_append places.accesses list old placed new places.all_are_done (sent, sends, (ended, ends, rest.all_are_done));
+      all_are_done = laws.steps_and_accesses.does_append places.accesses list old placed new places.all_are_done (sent, sends, (ended, ends, rest.all_are_done));
       accesses_are_of_kind = All-append (IsBootAccess port) places.accesses list
-          (All-weaker (IsPortAccessWriting IsPlacingRegister port) (IsBootAccess port) placing_boots places.accesses places.accesses_are_of_kind)
+          (All-weaker (ReadsPortOrWrites IsPlacingRegister port) (IsBootAccess port) placing_boots places.accesses places.accesses_are_of_kind)
           (All-cons (IsBootAccess port) (Writing (Px port Sctl) 1) (Writing (Px port Sctl) 0 ∷ rest.accesses) (inl (refl, inr (inl (inl refl))))
           (All-cons (IsBootAccess port) (Writing (Px port Sctl) 0) rest.accesses (inl (refl, inr (inl (inl refl)))) (All-weaker (IsBeside port) (IsBootAccess port) (λ access is. is.0) rest.accesses rest.accesses_are_of_kind)));
     };
@@ -172,8 +172,8 @@ module _ (laws : PrerequisiteLaws) (port : Port) where
       before = places.accesses;
       between = [];
       later = rest.accesses;
-      sending = 1;
-      ending = 0;
+      comreset_value = 1;
+      end_of_comreset_value = 0;
       accesses_are_split = refl;
       sends_comreset = refl;
       ends_comreset = refl;
@@ -186,7 +186,7 @@ module _ (laws : PrerequisiteLaws) (port : Port) where
       list = Writing (Px port Sctl) 1 ∷ Writing (Px port Sctl) 0 ∷ rest.accesses
 
   getting_up : (old up new : Device) → BringsUpPort port old up → IsDrivenBy (IsBeside port) up new → ResetsBy port old new
-  getting_up old up new g rest = resetting old g.placed g.resets.sent g.resets.ended new g.places g.resets.sends g.resets.ends (by_then laws (linking g.resets.ended g.resets.does_rest.linked g.resets.does_rest.links) (started_then old up new g rest))
+  getting_up old up new g rest = resetting old g.placed g.resets.sent g.resets.ended new g.places g.resets.sends g.resets.ends (by_then laws (linking g.resets.ended g.resets.does_rest.linked g.resets.does_rest.finds_link) (started_then old up new g rest))
 
   pub ready_resets : (old new : Device) → BringsReady port old new → ResetsBy port old new
   ready_resets old new g = getting_up old g.up new g.brings_up (ready_then old new g)
@@ -202,7 +202,7 @@ module _ (laws : PrerequisiteLaws) (port : Port) where
 
   -- ---- recovery
 
-  control_spares : (Such : PortReg → Type 0) → ((r : PortReg) → Such r → r ≢ Sctl) → (access : Access) → IsPortAccessWriting Such port access → DoesNotWrite (Px port Sctl) access
+  control_spares : (Such : PortReg → Type 0) → ((r : PortReg) → Such r → r ≢ Sctl) → (access : Access) → ReadsPortOrWrites Such port access → DoesNotWrite (Px port Sctl) access
   control_spares Such each (Reading r v) is = tt
   control_spares Such each (Writing (Px at r) v) is = apart port at r Sctl (each r is.1)
   control_spares Such each (Writing r v) is = absurd is

@@ -9,10 +9,10 @@ use Rattle.adapter.specs.Access.Access.{Reading, Writing}
 use Rattle.adapter.specs.Device.{Device, DevicePort}
 use Rattle.adapter.specs.Rules.{IsOn}
 use Rattle.refinement.specs.Fragments.{TapeGrows}
-use Rattle.refinement.specs.Errors.{IsFatalOf}
+use Rattle.refinement.specs.Errors.{IsFatalErrorOf}
 use Rattle.refinement.specs.PortFacts.{IsFaultOf}
-use Rattle.refinement.specs.Links.{IsPlugEvent}
-use Rattle.driver_history.specs.Evidence.{TapeGainsEntry, ShowsChange, ShowsFailure, ShowsLoss}
+use Rattle.refinement.specs.PreservedParts.{IsPlugEvent}
+use Rattle.driver_history.specs.Evidence.{TapeGainsEntry, ShowsLinkChange, ShowsFailure, ShowsLoss}
 use Rattle.error_recovery.specs.Evidence.{ShowsFatal}
 use Rattle.port_control.specs.PortEvents.{TakesEvent}
 use Rattle.port_control.specs.declared.events.PortEvent.{PortEvent}
@@ -31,11 +31,11 @@ module _ (laws : PrerequisiteLaws) (port : Port) (old seen new : Device) (on : I
   p = old.port port.0
 
   -- what came since PxIS was read
-  since_read : (told : PortEvent) (l : TakesEvent port told old seen) → TapeGrows l.seen new
+  since_read : (told : PortEvent) (l : TakesEvent port told old seen) → TapeGrows l.after_is_read new
   since_read told l =
-      laws.looks.tape.grows_more l.seen l.cleared new (laws.looks.tape.access_grows (Writing (Px port Is) l.causes) l.seen l.cleared l.clears)
-      (laws.looks.tape.grows_more l.cleared l.acknowledged new (laws.looks.tape.access_grows (Writing reg.Is l.port_mask) l.cleared l.acknowledged l.acknowledges)
-      (laws.looks.tape.grows_more l.acknowledged seen new (laws.looks.tape.access_grows (Reading (Px port Ssts) l.status) l.acknowledged seen l.reads_status) later))
+      laws.port_event_laws.tape.growth_is_transitive l.after_is_read l.cleared new (laws.port_event_laws.tape.access_grows (Writing (Px port Is) l.causes) l.after_is_read l.cleared l.clears)
+      (laws.port_event_laws.tape.growth_is_transitive l.cleared l.acknowledged new (laws.port_event_laws.tape.access_grows (Writing reg.Is l.port_mask) l.cleared l.acknowledged l.acknowledges)
+      (laws.port_event_laws.tape.growth_is_transitive l.acknowledged seen new (laws.port_event_laws.tape.access_grows (Reading (Px port Ssts) l.status) l.acknowledged seen l.reads_status) later))
 
   -- ---- failures
 
@@ -46,7 +46,7 @@ module _ (laws : PrerequisiteLaws) (port : Port) (old seen new : Device) (on : I
   failed_all TimedOut shows = is_named_if (shows_failure p) port (failure_shows p shows)
 
   pub failed_only : (t : PortError) → ErrorIsFound port t old seen → Contains (failed_of port t p) port
-      → ShowsFailure p ⊎ (TapeGainsEntry (IsFaultOf port.0) old new ⊎ TapeGainsEntry (IsFatalOf port.0) old new)
+      → ShowsFailure p ⊎ (TapeGainsEntry (IsFaultOf port.0) old new ⊎ TapeGainsEntry (IsFatalErrorOf port.0) old new)
   failed_only TaskFileError l here = errors_shown laws port look.TaskFileError old seen l on (inl refl) new (since_read look.TaskFileError l)
   failed_only FatalError l here = errors_shown laws port look.FatalError old seen l on (inr refl) new (since_read look.FatalError l)
   failed_only LinkChanged l here = inl (unfailed p (named_if_is (shows_failure p) port here))
@@ -60,7 +60,7 @@ module _ (laws : PrerequisiteLaws) (port : Port) (old seen new : Device) (on : I
   fatal_all LinkChanged l fatal = is_named_if (shows_fatal p) port (fatal_shows p fatal)
   fatal_all TimedOut same fatal = is_named_if (shows_fatal p) port (fatal_shows p fatal)
 
-  pub fatal_only : (t : PortError) → ErrorIsFound port t old seen → Contains (fatal_of port t p) port → ShowsFatal p ⊎ TapeGainsEntry (IsFatalOf port.0) old new
+  pub fatal_only : (t : PortError) → ErrorIsFound port t old seen → Contains (fatal_of port t p) port → ShowsFatal p ⊎ TapeGainsEntry (IsFatalErrorOf port.0) old new
   fatal_only TaskFileError l here = absurd (nowhere port here)
   fatal_only FatalError l here = fatal_shown laws port look.FatalError old seen l on refl new (since_read look.FatalError l)
   fatal_only LinkChanged l here = inl (unfatal p (named_if_is (shows_fatal p) port here))
@@ -83,7 +83,7 @@ module _ (laws : PrerequisiteLaws) (port : Port) (old seen new : Device) (on : I
 
   -- a change that was there to tell, a missing device, or a disk that went or came
   abbrev pub IsLoss : Type 0
-  IsLoss = ShowsChange p ⊎ ((p.ssts_det ≢ 3) ⊎ TapeGainsEntry (IsPlugEvent port.0) old new)
+  IsLoss = ShowsLinkChange p ⊎ ((p.ssts_det ≢ 3) ⊎ TapeGainsEntry (IsPlugEvent port.0) old new)
 
   pub loss : (t : PortError) → ErrorIsFound port t old seen → t ≡ LinkChanged → IsLoss
   loss TaskFileError l lost = let z : TaskFileError ≡ LinkChanged = lost in absurd cc

@@ -4,10 +4,10 @@ use Rattle.ata_types.specs.declared.Port.{Port}
 use Rattle.ata_types.specs.declared.PortState.TheVariants.{Ready as ReadyState}
 use Rattle.ata_types.specs.declared.request.Reply.{Reply}
 use Rattle.adapter.specs.declared.access.DeviceStep.{DeviceStep}
-use Rattle.refinement.specs.Fragments.{AnyUse, IsSimulated}
+use Rattle.refinement.specs.Fragments.{AnySlotStates, IsSimulated}
 use Rattle.block_machine.specs.Events.{AreStepsOfCall, UnpluggedLostDisk, Tick}
 use Rattle.block_machine.specs.Histories.{IsReachable}
-use Rattle.block_machine.specs.Ports.{SameDisk}
+use Rattle.block_machine.specs.Ports.{SameSerialAndSize}
 use Rattle.block_machine.specs.State.{Machine}
 use Rattle.host_boot.specs.TakeOver.{probe_result_of}
 use Rattle.port_control.specs.PortEvents.{IsEventAccess}
@@ -26,11 +26,11 @@ use Rattle.server_history.proofs.dispositions.FateReasons.{belong_tick}
 use Rattle.server_history.proofs.recovery_turn.RebootedPort.{restarts}
 use Rattle.server_history.proofs.recovery_turn.TurnParts.{evidence_by, faults_of}
 
-module _ (laws : PrerequisiteLaws) (port : Port) (replies : List Reply) (old new : ServerState) (k : InCallInvariant old) (ready : state_of (probe_result_of old.ports port.0) ≡ ReadyState) (r : HandlesPortError port replies old new)
-    (looks : IsSimulated (IsEventAccess port) AnyUse old.device r.settled.error_handled.seen) (kept : InCallInvariant r.mid) (evident : IsEvident port replies old new r) (m : Machine) (reached : IsReachable m) (is : MachineRelation old m)
-    (d : DecidesTurn port replies old new r (evidence_by r.settled) m) (hung : r.settled.error_handled.port_error ≡ TimedOut) where
-  abbrev a : HasResolved port r.later old r.mid
-  a = r.settled
+module _ (laws : PrerequisiteLaws) (port : Port) (replies : List Reply) (old new : ServerState) (k : InCallInvariant old) (ready : state_of (probe_result_of old.probe_results port.0) ≡ ReadyState) (r : HandlesPortError port replies old new)
+    (looks : IsSimulated (IsEventAccess port) AnySlotStates old.device r.has_resolved.error_handled.device_after_look) (kept : InCallInvariant r.server_after_resolving) (evident : IsEvident port replies old new r) (m : Machine) (reached : IsReachable m) (is : MachineRelation old m)
+    (d : DecidesTurn port replies old new r (evidence_by r.has_resolved) m) (hung : r.has_resolved.error_handled.port_error ≡ TimedOut) where
+  abbrev a : HasResolved port r.later_replies old r.server_after_resolving
+  a = r.has_resolved
 
   unlost : a.error_handled.port_error ≢ LinkChanged
   unlost lost = let z : TimedOut ≡ LinkChanged = sym hung ∙ lost in cc
@@ -50,13 +50,13 @@ module _ (laws : PrerequisiteLaws) (port : Port) (replies : List Reply) (old new
         λ dead. told.0 (dead_found laws port replies old new k ready r looks kept (own ∙ dead)),
         λ is_ready same.
             let i = ready_info laws port replies old new k ready r looks kept (own ∙ is_ready) in
-            ⊎_elim unlost (λ other. other i.0 i.1 (disk_same laws port replies old new k ready r looks kept i.0 i.1 (subst (SameDisk (ports_of old) (ports_of new)) why.1 same))) told.1,
+            ⊎_elim unlost (λ other. other i.0 i.1 (disk_same laws port replies old new k ready r looks kept i.0 i.1 (subst (SameSerialAndSize (ports_of old) (ports_of new)) why.1 same))) told.1,
       )
 
   restarted : RestartsPort port evident.accesses old new m (evidence_by a) d.steps
   restarted = record {
-    finds = found_by_masks laws port replies old new k ready r looks kept evident m reached is d;
-    boots = restarts laws port replies old new k ready r looks kept evident unfailed unlost;
+    finds_done = found_by_masks laws port replies old new k ready r looks kept evident m reached is d;
+    is_dead_or_link_is_reset = restarts laws port replies old new k ready r looks kept evident unfailed unlost;
     answers_ended = heeding laws port replies old new k ready r looks kept evident m reached is d;
     is_interrupted = interrupted laws port replies old new k ready r looks kept;
     none_stays_issued = anew laws port replies old new k ready r looks kept evident m reached is d;

@@ -11,7 +11,7 @@ use Rattle.block_machine.specs.DueRequests.{mark_waiting, requests_of_port, with
 use Rattle.block_machine.specs.declared.due.Unanswered.{Unanswered}
 use Rattle.server_history.proofs.state.ListMembers.{map_in}
 use Rattle.host_boot.specs.declared.ProbeResult.TheVariants.{Unserved}
-use Rattle.request_queue.specs.BookEntries.{BookEntry, BookIsInOrder, as_unanswered, unanswered_of, due_ids, is_of_port}
+use Rattle.request_queue.specs.BookEntries.{BookEntry, BookIsWellFormed, as_unanswered, unanswered_of, due_ids, is_of_port}
 use Rattle.request_queue.specs.Dispositions.{BookAndLoans, AreResolved, IsResolved, disposition_of}
 use Rattle.request_queue.specs.declared.PendingRequest.{PendingRequest}
 use Rattle.request_queue.specs.declared.disposition.Disposition.{Disposition}
@@ -97,86 +97,86 @@ module _ (q : Port) (id : RequestId) where
 
 module _ (laws : PrerequisiteLaws) (q : Port) where
   -- one request met its fate
-  one_apart : (e : BookEntry) (disposition : Disposition) (replies : List Reply) (old new : BookAndLoans) → IsResolved e disposition replies old new → IsNoneOf q e.entry.id (unanswered_of old.book)
+  one_apart : (e : BookEntry) (disposition : Disposition) (replies : List Reply) (old new : BookAndLoans) → IsResolved e disposition replies old new → IsNoneOf q e.request.id (unanswered_of old.book)
       → (requests_of_port q (unanswered_of new.book) ≡ requests_of_port q (unanswered_of old.book)) × ((id : RequestId) → IsNoneOf q id (unanswered_of old.book) → IsNoneOf q id (unanswered_of new.book))
   one_apart e Wait replies old new meets none =
       let same : unanswered_of new.book ≡ unanswered_of old.book = ap (λ (h : BookAndLoans). unanswered_of h.book) meets.1 in
       (ap (requests_of_port q) same, λ id is. subst (IsNoneOf q id) (sym same) is)
   one_apart e Requeue replies old new meets none =
-      let same : unanswered_of new.book ≡ with_waiting e.entry.id (unanswered_of old.book) = ap (λ (h : BookAndLoans). unanswered_of h.book) meets.1 ∙ laws.asks_requeued old.book e.entry.id in
-      (ap (requests_of_port q) same ∙ waiting_apart q e.entry.id (unanswered_of old.book) none, λ id is. subst (IsNoneOf q id) (sym same) (waiting_none q e.entry.id id (unanswered_of old.book) is))
+      let same : unanswered_of new.book ≡ with_waiting e.request.id (unanswered_of old.book) = ap (λ (h : BookAndLoans). unanswered_of h.book) meets.1 ∙ laws.unanswered_after_requeue old.book e.request.id in
+      (ap (requests_of_port q) same ∙ waiting_apart q e.request.id (unanswered_of old.book) none, λ id is. subst (IsNoneOf q id) (sym same) (waiting_none q e.request.id id (unanswered_of old.book) is))
   one_apart e (Complete outcome) replies old new meets none =
-      let same : unanswered_of new.book ≡ without_request e.entry.id (unanswered_of old.book) = ap unanswered_of meets.1 ∙ laws.asks_answered old.book e.entry.id in
-      (ap (requests_of_port q) same ∙ none_apart q e.entry.id (unanswered_of old.book) none, λ id is. subst (IsNoneOf q id) (sym same) (none_none q e.entry.id id (unanswered_of old.book) is))
+      let same : unanswered_of new.book ≡ without_request e.request.id (unanswered_of old.book) = ap unanswered_of meets.1 ∙ laws.unanswered_after_answer old.book e.request.id in
+      (ap (requests_of_port q) same ∙ none_apart q e.request.id (unanswered_of old.book) none, λ id is. subst (IsNoneOf q id) (sym same) (none_none q e.request.id id (unanswered_of old.book) is))
 
   -- and so did these
-  pub fates_apart : (disposition : PendingRequest → Disposition) (requests : List BookEntry) (replies : List Reply) (old new : BookAndLoans) → AreResolved disposition requests replies old new → All (λ (e : BookEntry). IsNoneOf q e.entry.id (unanswered_of old.book)) requests
+  pub fates_apart : (disposition : PendingRequest → Disposition) (requests : List BookEntry) (replies : List Reply) (old new : BookAndLoans) → AreResolved disposition requests replies old new → All (λ (e : BookEntry). IsNoneOf q e.request.id (unanswered_of old.book)) requests
       → requests_of_port q (unanswered_of new.book) ≡ requests_of_port q (unanswered_of old.book)
   fates_apart disposition [] replies old new meets none = ap (λ (h : BookAndLoans). requests_of_port q (unanswered_of h.book)) meets.1
   fates_apart disposition (e ∷ requests) replies old new (mid, its, later, split, one, more) none =
-      let x = one_apart e (disposition e.entry) its old mid one (All-head (λ (e : BookEntry). IsNoneOf q e.entry.id (unanswered_of old.book)) e requests none) in
+      let x = one_apart e (disposition e.request) its old mid one (All-head (λ (e : BookEntry). IsNoneOf q e.request.id (unanswered_of old.book)) e requests none) in
       fates_apart disposition requests later mid new more
-      (All-weaker (λ (e : BookEntry). IsNoneOf q e.entry.id (unanswered_of old.book)) (λ (e : BookEntry). IsNoneOf q e.entry.id (unanswered_of mid.book)) (λ e is. x.1 e.entry.id is) requests
-      (All-tail (λ (e : BookEntry). IsNoneOf q e.entry.id (unanswered_of old.book)) e requests none))
+      (All-weaker (λ (e : BookEntry). IsNoneOf q e.request.id (unanswered_of old.book)) (λ (e : BookEntry). IsNoneOf q e.request.id (unanswered_of mid.book)) (λ e is. x.1 e.request.id is) requests
+      (All-tail (λ (e : BookEntry). IsNoneOf q e.request.id (unanswered_of old.book)) e requests none))
       ∙ x.0
 
   -- no request of one port has the id of one of another
-  pub none_of_one : (port : Port) (book : List BookEntry) → q ≢ port → BookIsInOrder book → (e : BookEntry) → Contains book e × (e.entry.port ≡ port) → IsNoneOf q e.entry.id (unanswered_of book)
-  none_of_one port book ne order e its = All-weaker (Contains (unanswered_of book)) (λ (r : Unanswered). r.port ≡ q → r.id ≢ e.entry.id) (λ r there is same.
-      let y = map_in (λ (x : BookEntry). as_unanswered x.entry) book r there in
-      let one : y.0 ≡ e = laws.one book y.0 e order y.1 its.0 (sym (ap (λ (u : Unanswered). u.id) y.2) ∙ same) in
-      ne (sym is ∙ ap (λ (u : Unanswered). u.port) y.2 ∙ ap (λ (x : BookEntry). x.entry.port) one ∙ its.1)) (unanswered_of book) (All-contains_itself (unanswered_of book))
+  pub none_of_one : (port : Port) (book : List BookEntry) → q ≢ port → BookIsWellFormed book → (e : BookEntry) → Contains book e × (e.request.port ≡ port) → IsNoneOf q e.request.id (unanswered_of book)
+  none_of_one port book ne order e its = All-weaker (Contains (unanswered_of book)) (λ (r : Unanswered). r.port ≡ q → r.id ≢ e.request.id) (λ r there is same.
+      let y = map_in (λ (x : BookEntry). as_unanswered x.request) book r there in
+      let one : y.0 ≡ e = laws.an_id_is_one_entry book y.0 e order y.1 its.0 (sym (ap (λ (u : Unanswered). u.id) y.2) ∙ same) in
+      ne (sym is ∙ ap (λ (u : Unanswered). u.port) y.2 ∙ ap (λ (x : BookEntry). x.request.port) one ∙ its.1)) (unanswered_of book) (All-contains_itself (unanswered_of book))
 
-  pub none_of_port : (port : Port) (book : List BookEntry) → q ≢ port → BookIsInOrder book → All (λ (e : BookEntry). IsNoneOf q e.entry.id (unanswered_of book)) (requests_of port book)
+  pub none_of_port : (port : Port) (book : List BookEntry) → q ≢ port → BookIsWellFormed book → All (λ (e : BookEntry). IsNoneOf q e.request.id (unanswered_of book)) (requests_of port book)
   none_of_port port book ne order =
-      All-weaker (Contains (requests_of port book)) (λ (e : BookEntry). IsNoneOf q e.entry.id (unanswered_of book)) (λ e here. none_of_one port book ne order e (booked e here, its_port e here)) (requests_of port book)
+      All-weaker (Contains (requests_of port book)) (λ (e : BookEntry). IsNoneOf q e.request.id (unanswered_of book)) (λ e here. none_of_one port book ne order e (booked e here, its_port e here)) (requests_of port book)
       (All-contains_itself (requests_of port book))
     where
-      its_port : (e : BookEntry) → Contains (requests_of port book) e → e.entry.port ≡ port
-      its_port e here = ap (λ (n : ℕ). record { 0 = n }) (eqb-true e.entry.port.0 port.0 (All-contains (λ (x : BookEntry). is_of_port port x.entry ≡ true) (requests_of port book) e (filter_passes (λ (x : BookEntry). is_of_port port x.entry) book) here))
+      its_port : (e : BookEntry) → Contains (requests_of port book) e → e.request.port ≡ port
+      its_port e here = ap (λ (n : ℕ). record { 0 = n }) (eqb-true e.request.port.0 port.0 (All-contains (λ (x : BookEntry). is_of_port port x.request ≡ true) (requests_of port book) e (filter_passes (λ (x : BookEntry). is_of_port port x.request) book) here))
 
       booked : (e : BookEntry) → Contains (requests_of port book) e → Contains book e
-      booked e here = All-contains (Contains book) (requests_of port book) e (All-filter (λ (x : BookEntry). is_of_port port x.entry) (Contains book) book (All-contains_itself book)) here
+      booked e here = All-contains (Contains book) (requests_of port book) e (All-filter (λ (x : BookEntry). is_of_port port x.request) (Contains book) book (All-contains_itself book)) here
 
 -- ---- the whole
 
-module _ (laws : PrerequisiteLaws) (port : Port) (replies : List Reply) (old new : ServerState) (k : InCallInvariant old) (r : HandlesPortError port replies old new) (kept : InCallInvariant r.mid) where
-  abbrev a : HasResolved port r.later old r.mid
-  a = r.settled
+module _ (laws : PrerequisiteLaws) (port : Port) (replies : List Reply) (old new : ServerState) (k : InCallInvariant old) (r : HandlesPortError port replies old new) (kept : InCallInvariant r.server_after_resolving) where
+  abbrev a : HasResolved port r.later_replies old r.server_after_resolving
+  a = r.has_resolved
 
-  abbrev x : IsErrorHandled port old a.mid a.device
+  abbrev x : IsErrorHandled port old a.server_after_handling a.device_after_handling
   x = a.error_handled
 
   abbrev from : ServerState
-  from = record old { device = x.found }
+  from = record old { device = x.device_after_read }
 
   abbrev ids : List RequestId
-  ids = due_ids (mode_in r.mid port) port (unanswered_of r.mid.book)
+  ids = due_ids (mode_in r.server_after_resolving port) port (unanswered_of r.server_after_resolving.book)
 
   -- but for device, loans, slots and book, the server was as before while requests were answered that were done
-  answered_as : a.mid ≡ record from { table = a.mid.table; slots = a.mid.slots; book = a.mid.book }
-  answered_as = answers_settings laws port x.done x.requests from a.mid x.answers_each
+  answered_as : a.server_after_handling ≡ record from { table = a.server_after_handling.table; slots = a.server_after_handling.slots; book = a.server_after_handling.book }
+  answered_as = answers_settings laws port x.done x.requests from a.server_after_handling x.answers_each
 
-  issued_as : new ≡ record r.mid { device = new.device; slots = new.slots; book = new.book }
-  issued_as = each_settings laws port ids r.mid new r.issued
+  issued_as : new ≡ record r.server_after_resolving { device = new.device; slots = new.slots; book = new.book }
+  issued_as = each_settings laws port ids r.server_after_resolving new r.issued
 
-  other_of : {X : Type 0} (list : ServerState → List X) (d : X) (put : X) → list r.mid ≡ set (list a.mid) port.0 put → list new ≡ list r.mid → list a.mid ≡ list old → (q : ℕ) → q ≢ port.0 → get_or (list new) q d ≡ get_or (list old) q d
+  other_of : {X : Type 0} (list : ServerState → List X) (d : X) (put : X) → list r.server_after_resolving ≡ set (list a.server_after_handling) port.0 put → list new ≡ list r.server_after_resolving → list a.server_after_handling ≡ list old → (q : ℕ) → q ≢ port.0 → get_or (list new) q d ≡ get_or (list old) q d
   other_of {X} list d put is later early q ne =
-      ap (λ (xs : List X). get_or xs q d) (later ∙ is) ∙ get_or-set_other (list a.mid) port.0 q put d ne ∙ ap (λ (xs : List X). get_or xs q d) early
+      ap (λ (xs : List X). get_or xs q d) (later ∙ is) ∙ get_or-set_other (list a.server_after_handling) port.0 q put d ne ∙ ap (λ (xs : List X). get_or xs q d) early
 
   pub leaves_others : LeavesOthers port old new
   leaves_others = record {
     grants = ap (λ (n : ServerState). n.grants) issued_as ∙ ap (λ (n : ServerState). n.grants) a.server_is ∙ ap (λ (n : ServerState). n.grants) answered_as;
     wanted = ap (λ (n : ServerState). n.wanted) issued_as ∙ ap (λ (n : ServerState). n.wanted) a.server_is ∙ ap (λ (n : ServerState). n.wanted) answered_as;
     last_id = ap (λ (n : ServerState). n.last_id) issued_as ∙ ap (λ (n : ServerState). n.last_id) a.server_is ∙ ap (λ (n : ServerState). n.last_id) answered_as;
-    found = other_of (λ (n : ServerState). n.ports) Unserved a.found (ap (λ (n : ServerState). n.ports) a.server_is) (ap (λ (n : ServerState). n.ports) issued_as) (ap (λ (n : ServerState). n.ports) answered_as);
-    remembered = other_of (λ (n : ServerState). n.remembered) None (Some a.disk_before) (ap (λ (n : ServerState). n.remembered) a.server_is) (ap (λ (n : ServerState). n.remembered) issued_as) (ap (λ (n : ServerState). n.remembered) answered_as);
-    modes = other_of (λ (n : ServerState). n.modes) plain_mode a.mode (ap (λ (n : ServerState). n.modes) a.server_is) (ap (λ (n : ServerState). n.modes) issued_as) (ap (λ (n : ServerState). n.modes) answered_as);
-    slots = λ q ne. each_slots laws port ids r.mid new r.issued q ne ∙ ap (λ (n : ServerState). slots_at n.slots q) a.server_is ∙ get_or-set_other a.mid.slots port.0 q a.slots no_slots ne
-        ∙ answers_slots laws port x.done x.requests from a.mid x.answers_each q ne;
-    book = λ q ne.
-        each_apart laws port ids r.mid new kept.book_is_in_order r.issued q ne
+    other_probe_results_are_same = other_of (λ (n : ServerState). n.probe_results) Unserved a.found (ap (λ (n : ServerState). n.probe_results) a.server_is) (ap (λ (n : ServerState). n.probe_results) issued_as) (ap (λ (n : ServerState). n.probe_results) answered_as);
+    other_remembered_are_same = other_of (λ (n : ServerState). n.remembered) None (Some a.disk_before) (ap (λ (n : ServerState). n.remembered) a.server_is) (ap (λ (n : ServerState). n.remembered) issued_as) (ap (λ (n : ServerState). n.remembered) answered_as);
+    other_modes_are_same = other_of (λ (n : ServerState). n.modes) plain_mode a.mode (ap (λ (n : ServerState). n.modes) a.server_is) (ap (λ (n : ServerState). n.modes) issued_as) (ap (λ (n : ServerState). n.modes) answered_as);
+    other_slots_are_same = λ q ne. each_slots laws port ids r.server_after_resolving new r.issued q ne ∙ ap (λ (n : ServerState). slots_at n.slots q) a.server_is ∙ get_or-set_other a.server_after_handling.slots port.0 q a.slots no_slots ne
+        ∙ answers_slots laws port x.done x.requests from a.server_after_handling x.answers_each q ne;
+    others_requests_are_same = λ q ne.
+        each_apart laws port ids r.server_after_resolving new kept.book_is_well_formed r.issued q ne
         ∙ ap (λ (n : ServerState). requests_of_port q (unanswered_of n.book)) a.server_is
-        ∙ fates_apart laws q (disposition_of a.failed a.revalidation) (requests_of port a.mid.book) r.later (book_and_loans_of port a.mid) a.book_and_loans_after a.are_resolved (none_of_port laws q port a.mid.book ne (answers_order laws port x.done x.requests from a.mid k.book_is_in_order x.answers_each))
-        ∙ answers_apart laws port x.done x.requests from a.mid k.book_is_in_order x.answers_each q ne;
+        ∙ fates_apart laws q (disposition_of a.failed a.revalidation) (requests_of port a.server_after_handling.book) r.later_replies (book_and_loans_of port a.server_after_handling) a.book_and_loans_after a.are_resolved (none_of_port laws q port a.server_after_handling.book ne (answers_order laws port x.done x.requests from a.server_after_handling k.book_is_well_formed x.answers_each))
+        ∙ answers_apart laws port x.done x.requests from a.server_after_handling k.book_is_well_formed x.answers_each q ne;
   }

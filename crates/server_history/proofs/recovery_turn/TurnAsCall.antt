@@ -5,13 +5,13 @@ use Rattle.ata_types.specs.declared.Port.{Port}
 use Rattle.ata_types.specs.declared.PortState.TheVariants as shown
 use Rattle.ata_types.specs.declared.PortState.TheVariants.{Ready as ReadyState}
 use Rattle.ata_types.specs.declared.request.Reply.{Reply}
-use Rattle.refinement.specs.Fragments.{AnyUse, IsSimulated}
-use Rattle.refinement.specs.Errors.{IsFatalOf}
+use Rattle.refinement.specs.Fragments.{AnySlotStates, IsSimulated}
+use Rattle.refinement.specs.Errors.{IsFatalErrorOf}
 use Rattle.refinement.specs.HaltRecovery.{WorksPlainly}
 use Rattle.block_machine.specs.Events.{Service}
 use Rattle.block_machine.specs.Histories.{IsReachable}
 use Rattle.block_machine.specs.State.{Machine}
-use Rattle.driver_history.specs.Histories.{HasUnservedDisk, HasOnlyTaskFileError}
+use Rattle.driver_history.specs.Histories.{IsForeignOrUnfit, HasOnlyTaskFileError}
 use Rattle.host_boot.specs.TakeOver.{probe_result_of}
 use Rattle.port_control.specs.PortEvents.{IsEventAccess}
 use Rattle.port_control.specs.declared.events.PortError.{PortError}
@@ -19,7 +19,7 @@ use Rattle.port_control.specs.declared.events.PortError.TheVariants.{FatalError,
 use Rattle.server_history.specs.Prerequisites.{PrerequisiteLaws}
 use Rattle.server_history.specs.ErrorHandling.{AreAllQueuedAs, HandlesPortError}
 use Rattle.server_history.specs.ServerState.{ServerState, InCallInvariant, MachineRelation, ports_of, slots_at, state_of}
-use Rattle.server_history.specs.Turns.{HandlesShownErrors, InService, TurnCorresponds, joint_state_of}
+use Rattle.server_history.specs.Turns.{HandlesShownErrors, ServingReady, TurnCorresponds, joint_state_of}
 use Rattle.server_history.proofs.recovery_turn.DecidedSteps.{DecidesTurn}
 use Rattle.server_history.proofs.recovery_turn.TurnEvidence.{IsEvident}
 use Rattle.server_history.proofs.recovery_turn.ToldFault.{faulting}
@@ -34,64 +34,64 @@ use Rattle.server_history.proofs.recovery_turn.TurnParts.{evidence_by, fatal_of,
 use Rattle.server_history.proofs.state.PortSlots.{ready_found}
 use Rattle.server_history.proofs.recovery_turn.HealthyPort.{going_well}
 use Rattle.server_history.proofs.state.FirstMembers.{first_here}
-use Rattle.refinement.specs.Links.{IsPlugEvent}
+use Rattle.refinement.specs.PreservedParts.{IsPlugEvent}
 
-module _ (laws : PrerequisiteLaws) (port : Port) (replies : List Reply) (old new : ServerState) (k : InCallInvariant old) (ready : state_of (probe_result_of old.ports port.0) ≡ ReadyState) (r : HandlesPortError port replies old new)
-    (looks : IsSimulated (IsEventAccess port) AnyUse old.device r.settled.error_handled.seen) (kept : InCallInvariant r.mid) (evident : IsEvident port replies old new r)
+module _ (laws : PrerequisiteLaws) (port : Port) (replies : List Reply) (old new : ServerState) (k : InCallInvariant old) (ready : state_of (probe_result_of old.probe_results port.0) ≡ ReadyState) (r : HandlesPortError port replies old new)
+    (looks : IsSimulated (IsEventAccess port) AnySlotStates old.device r.has_resolved.error_handled.device_after_look) (kept : InCallInvariant r.server_after_resolving) (evident : IsEvident port replies old new r)
     (m : Machine) (reached : IsReachable m) (is : MachineRelation old m)
-    (d : DecidesTurn port replies old new r (evidence_by r.settled) m) where
+    (d : DecidesTurn port replies old new r (evidence_by r.has_resolved) m) where
   -- the port was ready when the turn began
   not_absent : (ports_of old).state port ≡ shown.Absent → ⊥
   not_absent absent = let z : ReadyState ≡ shown.Absent = sym ready ∙ absent in cc
 
-  not_bad : HasUnservedDisk (ports_of old) port → ⊥
+  not_bad : IsForeignOrUnfit (ports_of old) port → ⊥
   not_bad bad = ⊎_elim
       (λ foreign. let z : ReadyState ≡ shown.Foreign = sym ready ∙ foreign in absurd cc)
       (λ unfit. let z : ReadyState ≡ shown.Unfit unfit.0 = sym ready ∙ unfit.1 in absurd cc)
       bad
 
-  then_kept : InCallInvariant r.settled.mid
-  then_kept = mid_kept laws port r.later old r.mid k ready r.settled looks
+  then_kept : InCallInvariant r.has_resolved.server_after_handling
+  then_kept = mid_kept laws port r.later_replies old r.server_after_resolving k ready r.has_resolved looks
 
-  then_ready : state_of (probe_result_of r.settled.mid.ports port.0) ≡ ReadyState
-  then_ready = mid_ready laws port r.later old r.mid k ready r.settled looks
+  then_ready : state_of (probe_result_of r.has_resolved.server_after_handling.probe_results port.0) ≡ ReadyState
+  then_ready = mid_ready laws port r.later_replies old r.server_after_resolving k ready r.has_resolved looks
 
   -- with plain commands outstanding, it has worked on plain ones alone
-  plainly : r.settled.error_handled.queued ≡ false → WorksPlainly (r.settled.mid.device.port port.0)
-  plainly plain = works_plainly laws r.settled.mid then_kept port then_ready (subst (λ (queued : Bool). AreAllQueuedAs queued (slots_at r.settled.mid.slots port.0)) plain r.settled.error_handled.are_queued_alike) ((then_kept.port_invariant port.0 (ready_found old port.0 k ready).0).halt_is_of_taken then_ready)
+  plainly : r.has_resolved.error_handled.queued ≡ false → WorksPlainly (r.has_resolved.server_after_handling.device.port port.0)
+  plainly plain = works_plainly laws r.has_resolved.server_after_handling then_kept port then_ready (subst (λ (queued : Bool). AreAllQueuedAs queued (slots_at r.has_resolved.server_after_handling.slots port.0)) plain r.has_resolved.error_handled.are_queued_alike) ((then_kept.port_invariant port.0 (ready_found old port.0 k ready).0).queued_halt_has_taken_command then_ready)
 
   -- where TFES alone was shown, and no fatal error came, a command had failed
-  failing : r.settled.error_handled.port_error ≢ TimedOut → HasOnlyTaskFileError port (joint_state_of old m) new.device → r.settled.error_handled.port_error ≡ TaskFileError
-  failing unhung alone = by r.settled.error_handled.port_error refl
+  failing : r.has_resolved.error_handled.port_error ≢ TimedOut → HasOnlyTaskFileError port (joint_state_of old m) new.device → r.has_resolved.error_handled.port_error ≡ TaskFileError
+  failing unhung alone = by r.has_resolved.error_handled.port_error refl
     where
-      by : (t : PortError) → r.settled.error_handled.port_error ≡ t → r.settled.error_handled.port_error ≡ TaskFileError
+      by : (t : PortError) → r.has_resolved.error_handled.port_error ≡ t → r.has_resolved.error_handled.port_error ≡ TaskFileError
       by TaskFileError is = is
       by FatalError is =
-          let here : Contains (fatal_of port r.settled.error_handled.port_error (old.device.port port.0)) port = subst (λ (t : PortError). Contains (fatal_of port t (old.device.port port.0)) port) (sym is) (first_here port []) in
-          absurd (⊎_elim alone.shows_only_tfes.no_fatal_is_shown (gains_none (IsFatalOf port.0) old.device new.device alone.none_is_fatal.new_entries alone.none_is_fatal.tape_is alone.none_is_fatal.no_such_entry) ((evident.evidenced Service m).fatal_only here).1)
+          let here : Contains (fatal_of port r.has_resolved.error_handled.port_error (old.device.port port.0)) port = subst (λ (t : PortError). Contains (fatal_of port t (old.device.port port.0)) port) (sym is) (first_here port []) in
+          absurd (⊎_elim alone.shows_only_tfes.no_fatal_is_shown (gains_none (IsFatalErrorOf port.0) old.device new.device alone.none_is_fatal.new_entries alone.none_is_fatal.tape_is alone.none_is_fatal.no_such_entry) ((evident.evidenced Service m).showing_fatal_error_only here).1)
       by LinkChanged is =
-          let here : Contains (gone_of port r.settled.error_handled.port_error (old.device.port port.0)) port = subst (λ (t : PortError). Contains (gone_of port t (old.device.port port.0)) port) (sym is) (first_here port []) in
+          let here : Contains (gone_of port r.has_resolved.error_handled.port_error (old.device.port port.0)) port = subst (λ (t : PortError). Contains (gone_of port t (old.device.port port.0)) port) (sym is) (first_here port []) in
           absurd (⊎_elim alone.shows_only_tfes.no_change_is_shown
           (λ more. ⊎_elim (λ (out : (old.device.port port.0).ssts_det ≢ 3). out alone.shows_only_tfes.device_is_shown) (gains_none (IsPlugEvent port.0) old.device new.device alone.no_plug_events.new_entries alone.no_plug_events.tape_is alone.no_plug_events.no_such_entry) more)
           ((evident.evidenced Service m).link_changed_only here).1)
       by TimedOut is = absurd (unhung is)
 
   -- what a call does of trouble
-  pub heeds_trouble : HandlesShownErrors port evident.accesses (joint_state_of old m) (evidence_by r.settled) (ports_of new) new.device
+  pub heeds_trouble : HandlesShownErrors port evident.accesses (joint_state_of old m) (evidence_by r.has_resolved) (ports_of new) new.device
   heeds_trouble = record {
     loses_no_error = lasting laws port replies old new k ready r looks kept evident.parts m;
     runs_well_anew = going_well laws port replies old new k ready r looks kept evident plainly m;
   }
 
-  pub ties_recovered : r.settled.error_handled.port_error ≢ TimedOut → TurnCorresponds InService port replies evident.accesses old new m (evidence_by r.settled) d.steps
+  pub ties_recovered : r.has_resolved.error_handled.port_error ≢ TimedOut → TurnCorresponds ServingReady port replies evident.accesses old new m (evidence_by r.has_resolved) d.steps
   ties_recovered unhung = record {
     finds_done = λ _ e issued. finding laws port replies old new k ready r looks kept evident m reached is d;
     plain_faults_are_told = λ alone e slot issued unended says plain. faulting laws port replies old new k ready r looks kept m reached is d (failing unhung alone) e slot issued unended says plain;
     probes_disk = λ _ _. record {
-      shown = λ absent. absurd (not_absent absent);
-      absent = λ absent. absurd (not_absent absent);
-      missing = λ bad. absurd (not_bad bad);
-      changed = λ bad. absurd (not_bad bad);
+      absent_with_device_is_booted = λ absent. absurd (not_absent absent);
+      absent_gets_first_fis = λ absent. absurd (not_absent absent);
+      missing_disk_makes_absent = λ bad. absurd (not_bad bad);
+      changed_disk_is_booted = λ bad. absurd (not_bad bad);
     };
     boots_anew = reboots laws port replies old new k ready r looks kept evident m;
     loses_no_error = heeds_trouble.loses_no_error;

@@ -5,7 +5,7 @@ use Rattle.ata_types.specs.declared.Port.{Port}
 use Rattle.ata_types.specs.declared.request.Outcome.{Outcome}
 use Rattle.ata_types.specs.declared.request.Reply.{Reply}
 use Rattle.adapter.specs.Device.{Device, DevicePort}
-use Rattle.refinement.specs.Driver.{IsBacked}
+use Rattle.refinement.specs.Driver.{TapeBacksSteps}
 use Rattle.block_machine.specs.Events.{AllByDevice, AllEnabled, RepliesMatch}
 use Rattle.block_machine.specs.Expected.{after}
 use Rattle.block_machine.specs.Ports.{Evidence, RequestFault}
@@ -86,8 +86,8 @@ evidence_of port port_error p failed revalidation next = record {
   faults = faults_of failed;
   lost = lost_of port revalidation;
   link_changed = gone_of port port_error p;
-  failed = failed_of port port_error p;
-  fatal = fatal_of port port_error p;
+  showing_error = failed_of port port_error p;
+  showing_fatal_error = fatal_of port port_error p;
   stopped = stopped_of port next;
   stuck = stuck_of port revalidation;
 }
@@ -103,10 +103,10 @@ pub record AddsFirst (port : Port) (old mid : ServerState) (new : Device) (r : I
   pub looked : List Step
   pub later : List Step
   pub first_is : first ≡ later ++ looked
-  pub seen : MachineRelation (record old { device = r.seen }) (after m looked)
-  pub seen_backed : IsBacked old.device r.seen m looked
-  pub found : MachineRelation (record old { device = r.found }) (after m first)
-  pub found_backed : IsBacked old.device r.found m first
+  pub seen : MachineRelation (record old { device = r.device_after_look }) (after m looked)
+  pub seen_backed : TapeBacksSteps old.device r.device_after_look m looked
+  pub found : MachineRelation (record old { device = r.device_after_read }) (after m first)
+  pub found_backed : TapeBacksSteps old.device r.device_after_read m first
 
 -- From a machine that stands for the old server: the device's steps until the masks were read, the answers of what was done, the device's steps while the
 -- port was recovered and booted, and those that decide on its other requests. They lead to a machine that stands for the new one.
@@ -116,17 +116,17 @@ pub record AddsFates (port : Port) (later : List Reply) (old new : ServerState) 
   pub middle : List Step
   pub dispositions : List Step
   pub first_only : AllByDevice first
-  pub early : AddsFirst port old a.mid a.device a.error_handled m first
+  pub early : AddsFirst port old a.server_after_handling a.device_after_handling a.error_handled m first
   pub each : AllZip (HasEnded port) a.error_handled.requests ended
   pub middle_only : AllByDevice middle
   pub may : AllEnabled m (dispositions ++ (middle ++ (ok_answers_of ended ++ first)))
-  pub backed : IsBacked old.device new.device m (dispositions ++ (middle ++ (ok_answers_of ended ++ first)))
+  pub backed : TapeBacksSteps old.device new.device m (dispositions ++ (middle ++ (ok_answers_of ended ++ first)))
   pub stands : MachineRelation new (after m (dispositions ++ (middle ++ (ok_answers_of ended ++ first))))
   pub own : All (IsResolveStep port) dispositions
   pub answered : (e : Pending) (outcome : Outcome) → Contains dispositions (Answer e outcome)
-      → (request : BookEntry) × Contains (requests_of port a.mid.book) request × EntryRelation request e × (disposition_of a.failed a.revalidation request.entry ≡ Complete outcome)
+      → (request : BookEntry) × Contains (requests_of port a.server_after_handling.book) request × EntryRelation request e × (disposition_of a.failed a.revalidation request.request ≡ Complete outcome)
   pub again : (e : Pending) → Contains dispositions (WaitAgain e)
-      → (request : BookEntry) × Contains (requests_of port a.mid.book) request × EntryRelation request e × (disposition_of a.failed a.revalidation request.entry ≡ Requeue)
+      → (request : BookEntry) × Contains (requests_of port a.server_after_handling.book) request × EntryRelation request e × (disposition_of a.failed a.revalidation request.request ≡ Requeue)
   pub tells : RepliesMatch dispositions later
 
 -- all those steps

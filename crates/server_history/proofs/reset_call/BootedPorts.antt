@@ -10,10 +10,10 @@ use Rattle.adapter.specs.Access.{Access}
 use Rattle.adapter.specs.Access.Access.{Loading, Reading, Storing, Writing}
 use Rattle.adapter.specs.Device.{Device}
 use Rattle.refinement.specs.Relation.{port_at}
-use Rattle.refinement.specs.Fragments.{IsPortAccessWriting, IsDrivenBy}
+use Rattle.refinement.specs.Fragments.{ReadsPortOrWrites, IsDrivenBy}
 use Rattle.driver_history.specs.PortTurn.{HasTurnIn, IsOfOtherPort, call_accesses}
 use Rattle.driver_history.specs.AccessTrace.{ResetsLink}
-use Rattle.host_boot.specs.TakeOver.{StopsAndBootsPort, FindsEachPort, probe_result_of}
+use Rattle.host_boot.specs.TakeOver.{StopsAndBootsPort, StopsAndBootsEachPort, probe_result_of}
 use Rattle.host_boot.specs.declared.ProbeResult.{ProbeResult}
 use Rattle.host_boot.specs.declared.ProbeResult.TheVariants.{Unserved, Ready, Unready}
 use Rattle.port_boot.specs.States.{EndsBeforeStart, EndsAfterStart, BringsReady, IsBeforeStart, IsAfterStart, IsBootAccess}
@@ -28,7 +28,7 @@ use Rattle.server_history.proofs.recovery_turn.LinkResets.{ResetsBy, early_reset
 -- What was done of a port that was found to be this. One that is ready got so once it was stopped. Its link was reset, unless it is dead: then one of its engines was seen to be stuck.
 abbrev pub DidBoot : Port → ProbeResult → List Access → Device → Device → Type 0
 DidBoot port Unserved accesses old new = Unit {0}
-DidBoot port (Ready info) accesses old new = ResetsLink port accesses × ((stopped : Device) × IsDrivenBy (IsPortAccessWriting IsCommandRegister port) old stopped × BringsReady port stopped new)
+DidBoot port (Ready info) accesses old new = ResetsLink port accesses × ((stopped : Device) × IsDrivenBy (ReadsPortOrWrites IsCommandRegister port) old stopped × BringsReady port stopped new)
 DidBoot port (Unready state) accesses old new = (state ≡ DeadState → EngineSticks port accesses) × (state ≢ DeadState → state ≢ ReadyState → ResetsLink port accesses)
 
 -- an access of the port's boot, if it is served
@@ -39,7 +39,7 @@ IsBootOf port found access = (found ≢ Unserved) × IsBootAccess port access
 abbrev BootsBy : Port → ProbeResult → Device → Device → Type 0
 BootsBy port found old new = (driven : IsDrivenBy (IsBootOf port found) old new) × DidBoot port found driven.accesses old new
 
-pub command_boots : (port : Port) (access : Access) → IsPortAccessWriting IsCommandRegister port access → IsBootAccess port access
+pub command_boots : (port : Port) (access : Access) → ReadsPortOrWrites IsCommandRegister port access → IsBootAccess port access
 command_boots port (Reading (Px at r) v) is = inl is
 command_boots port (Reading r v) is = absurd is
 command_boots port (Writing (Px at r) v) is = inl (is.0, inl (inl is.1))
@@ -48,14 +48,14 @@ command_boots port (Loading at bytes) is = absurd is
 command_boots port (Storing at bytes) is = absurd is
 
 module _ (laws : PrerequisiteLaws) where
-  module _ (port : Port) (found : ProbeResult) (served : found ≢ Unserved) (old stopped new : Device) (stops : IsDrivenBy (IsPortAccessWriting IsCommandRegister port) old stopped) where
+  module _ (port : Port) (found : ProbeResult) (served : found ≢ Unserved) (old stopped new : Device) (stops : IsDrivenBy (ReadsPortOrWrites IsCommandRegister port) old stopped) where
     -- the stop, and then a boot
     then_boots : IsDrivenBy (IsBootAccess port) stopped new → IsDrivenBy (IsBootOf port found) old new
     then_boots boot = record {
       accesses = stops.accesses ++ boot.accesses;
-      all_are_done = laws.basic.does_append stops.accesses boot.accesses old stopped new stops.all_are_done boot.all_are_done;
+      all_are_done = laws.steps_and_accesses.does_append stops.accesses boot.accesses old stopped new stops.all_are_done boot.all_are_done;
       accesses_are_of_kind = All-append (IsBootOf port found) stops.accesses boot.accesses
-          (All-weaker (IsPortAccessWriting IsCommandRegister port) (IsBootOf port found) (λ access is. (served, command_boots port access is)) stops.accesses stops.accesses_are_of_kind)
+          (All-weaker (ReadsPortOrWrites IsCommandRegister port) (IsBootOf port found) (λ access is. (served, command_boots port access is)) stops.accesses stops.accesses_are_of_kind)
           (All-weaker (IsBootAccess port) (IsBootOf port found) (λ access is. (served, is)) boot.accesses boot.accesses_are_of_kind);
     }
 
@@ -63,7 +63,7 @@ module _ (laws : PrerequisiteLaws) where
     unfolding then_boots
     reset_by r = (then_boots r.driven, resets_since port stops.accesses r.driven.accesses r.resets)
 
-  module _ (port : Port) (old stopped new : Device) (stops : IsDrivenBy (IsPortAccessWriting IsCommandRegister port) old stopped) where
+  module _ (port : Port) (old stopped new : Device) (stops : IsDrivenBy (ReadsPortOrWrites IsCommandRegister port) old stopped) where
     resets_by : (state : PortState) → state ≢ DeadState → ResetsBy port stopped new → BootsBy port (Unready state) old new
     resets_by state lives r =
         let x = reset_by port (Unready state) (λ e. let z : Unready state ≡ Unserved = e in cc) old stopped new stops r in (x.0, ((λ dead. absurd (lives dead)), λ _ _. x.1))
@@ -113,7 +113,7 @@ pub record WentBy (first : ℕ) (ports : List ProbeResult) (old new : Device) : 
 
 module _ (laws : PrerequisiteLaws) where
   of_other : (port : Port) (first : ℕ) (ports : List ProbeResult) → port.0 < first → (access : Access) → IsOfFound first ports access → IsOfOtherPort port access
-  of_other port first ports before access (q, k, at, its) = (q, (λ same. absurd (omega (arith, before, same, at))), laws.booting_of q access its.1)
+  of_other port first ports before access (q, k, at, its) = (q, (λ same. absurd (omega (arith, before, same, at))), laws.boot_access_is_of_port q access its.1)
 
   -- the first of them
   module _ (first : ℕ) (found : ProbeResult) (rest : List ProbeResult) (old mid new : Device) (way : StopsAndBootsPort (port_at first) found old mid) (more : WentBy (first + 1) rest mid new) where
@@ -123,7 +123,7 @@ module _ (laws : PrerequisiteLaws) where
     all : IsDrivenBy (IsOfFound first (found ∷ rest)) old new
     all = record {
       accesses = one.0.accesses ++ more.driven.accesses;
-      all_are_done = laws.basic.does_append one.0.accesses more.driven.accesses old mid new one.0.all_are_done more.driven.all_are_done;
+      all_are_done = laws.steps_and_accesses.does_append one.0.accesses more.driven.accesses old mid new one.0.all_are_done more.driven.all_are_done;
       accesses_are_of_kind = All-append (IsOfFound first (found ∷ rest)) one.0.accesses more.driven.accesses
           (All-weaker (IsBootOf (port_at first) found) (IsOfFound first (found ∷ rest)) (λ access is. (port_at first, 0, (omega arith), is)) one.0.accesses one.0.accesses_are_of_kind)
           (All-weaker (IsOfFound (first + 1) rest) (IsOfFound first (found ∷ rest)) (λ access (q, k, at, its). (q, suc k, (omega (arith, at)), its)) more.driven.accesses more.driven.accesses_are_of_kind);
@@ -157,11 +157,11 @@ module _ (laws : PrerequisiteLaws) where
         later = t.turn.later;
         start = t.turn.start;
         end = t.turn.end;
-        leads_to_start = laws.basic.does_append one.0.accesses t.turn.before old mid t.turn.start one.0.all_are_done t.turn.leads_to_start;
+        leads_to_start = laws.steps_and_accesses.does_append one.0.accesses t.turn.before old mid t.turn.start one.0.all_are_done t.turn.leads_to_start;
         turn_leads_to_end = t.turn.turn_leads_to_end;
         leads_to_new = t.turn.leads_to_new;
         earlier_are_of_others = All-append (IsOfOtherPort port) one.0.accesses t.turn.before
-            (All-weaker (IsBootOf (port_at first) found) (IsOfOtherPort port) (λ access is. (port_at first, (λ same. absurd (omega (arith, at, same))), laws.booting_of (port_at first) access is.1)) one.0.accesses one.0.accesses_are_of_kind)
+            (All-weaker (IsBootOf (port_at first) found) (IsOfOtherPort port) (λ access is. (port_at first, (λ same. absurd (omega (arith, at, same))), laws.boot_access_is_of_port (port_at first) access is.1)) one.0.accesses one.0.accesses_are_of_kind)
             t.turn.earlier_are_of_others;
         later_are_of_others = t.turn.later_are_of_others;
       };
@@ -179,6 +179,6 @@ module _ (laws : PrerequisiteLaws) where
         each port zero at small = turn_here port (omega (arith, at))
         each port (suc k) at small = turn_later port k (omega (arith, at)) (omega (arith, small))
 
-  pub went_by : (first : ℕ) (ports : List ProbeResult) (old new : Device) → FindsEachPort first ports old new → WentBy first ports old new
+  pub went_by : (first : ℕ) (ports : List ProbeResult) (old new : Device) → StopsAndBootsEachPort first ports old new → WentBy first ports old new
   went_by first [] old new same = record { driven = record { accesses = []; all_are_done = same; accesses_are_of_kind = All-nil (IsOfFound first []) }; each = λ port k at small. absurd (omega (arith, small)) }
   went_by first (found ∷ rest) old new (mid, way, more) = went_more first found rest old mid new way (went_by (first + 1) rest mid new more)

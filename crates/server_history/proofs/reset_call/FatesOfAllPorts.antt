@@ -11,7 +11,7 @@ use Rattle.adapter.specs.Device.{Device}
 use Rattle.adapter.specs.declared.command.Operation.TheVariants.{Identify}
 use Rattle.refinement.specs.Relation.{port_at}
 use Rattle.refinement.specs.Fragments.{driver_state_of}
-use Rattle.refinement.specs.Driver.{IsBacked, DriverRelation}
+use Rattle.refinement.specs.Driver.{TapeBacksSteps, DriverRelation}
 use Rattle.refinement.specs.Slots.{Free, Own, Serves, SlotStates}
 use Rattle.ata_types.specs.declared.Port.{Port}
 use Rattle.ata_types.specs.declared.PortState.TheVariants.{Dead}
@@ -32,7 +32,7 @@ use Rattle.host_boot.specs.TakeOver.{IsUnusedOrDead, probe_result_of}
 use Rattle.host_boot.specs.declared.ProbeResult.{ProbeResult}
 use Rattle.host_boot.specs.declared.ProbeResult.TheVariants.{Unready}
 use Rattle.identify.specs.declared.DiskInfo.{DiskInfo}
-use Rattle.request_queue.specs.BookEntries.{BookEntry, IsAccepted, IsEarlier, BookIsInOrder, is_of_port, requeued_entry}
+use Rattle.request_queue.specs.BookEntries.{BookEntry, IsWellFormedEntry, IsEarlier, BookIsWellFormed, is_of_port, requeued_request}
 use Rattle.request_queue.specs.Dispositions.{BookAndLoans, AreResolved, IsResolved, disposition_of}
 use Rattle.request_queue.specs.BookRelation.{BookRelation, EntryRelation}
 use Rattle.request_queue.specs.declared.PendingRequest.{PendingRequest}
@@ -50,35 +50,35 @@ use Rattle.server_history.proofs.dispositions.RemainingBook.{IsLeft, WasIn, ends
 use Rattle.server_history.specs.Prerequisites.{PrerequisiteLaws}
 use Rattle.server_history.specs.ResolvedRequests.{IsResolveStep, AreResolvable, AreResolvedInMachine, keeps_frames_lent}
 use Rattle.server_history.specs.ErrorHandling.{book_and_loans_of, requests_of}
-use Rattle.server_history.specs.Resets.{IsResetRevalidation, ResolvePorts, ResolvesPort, with_book_and_loans}
+use Rattle.server_history.specs.Resets.{IsResetRevalidation, ResolvesEachPort, ResolvesPort, with_book_and_loans}
 use Rattle.server_history.specs.ServerState.{QuarantineRelation, ServerState, quarantined_at, remembered_at, RevokedMarkInvariant}
 use Rattle.server_history.proofs.state.RevokedMarks.{tells_of}
 
 -- ---- a port's requests
 
-pub of_requests : (port : Port) (book : List BookEntry) (e : BookEntry) → Contains (requests_of port book) e → Contains book e × (e.entry.port ≡ port)
+pub of_requests : (port : Port) (book : List BookEntry) (e : BookEntry) → Contains (requests_of port book) e → Contains book e × (e.request.port ≡ port)
 of_requests port book e here = (
-  All-contains (Contains book) (requests_of port book) e (All-filter (λ (x : BookEntry). is_of_port port x.entry) (Contains book) book (All-contains_itself book)) here,
-  ap port_at (eqb-true e.entry.port.0 port.0 (All-contains (λ (x : BookEntry). is_of_port port x.entry ≡ true) (requests_of port book) e (filter_passes (λ (x : BookEntry). is_of_port port x.entry) book) here)),
+  All-contains (Contains book) (requests_of port book) e (All-filter (λ (x : BookEntry). is_of_port port x.request) (Contains book) book (All-contains_itself book)) here,
+  ap port_at (eqb-true e.request.port.0 port.0 (All-contains (λ (x : BookEntry). is_of_port port x.request ≡ true) (requests_of port book) e (filter_passes (λ (x : BookEntry). is_of_port port x.request) book) here)),
 )
 
-pub in_requests : (port : Port) (book : List BookEntry) (e : BookEntry) → Contains book e → e.entry.port.0 ≡ port.0 → Contains (requests_of port book) e
-in_requests port book e here same = in_filter (λ (x : BookEntry). is_of_port port x.entry) book e here (eq-eqb e.entry.port.0 port.0 same)
+pub in_requests : (port : Port) (book : List BookEntry) (e : BookEntry) → Contains book e → e.request.port.0 ≡ port.0 → Contains (requests_of port book) e
+in_requests port book e here same = in_filter (λ (x : BookEntry). is_of_port port x.request) book e here (eq-eqb e.request.port.0 port.0 same)
 
 -- one that is none of those that meet their fates stays as it is
 fates_spare : PrerequisiteLaws → (disposition : PendingRequest → Disposition) (requests : List BookEntry) (replies : List Reply) (old new : BookAndLoans) → AreResolved disposition requests replies old new → (e : BookEntry) → Contains old.book e
-    → ((r : BookEntry) → Contains requests r → e.entry.id ≢ r.entry.id) → Contains new.book e
+    → ((r : BookEntry) → Contains requests r → e.request.id ≢ r.request.id) → Contains new.book e
 fates_spare laws disposition [] replies old new (none, is) e here apart = subst (λ (h : BookAndLoans). Contains h.book e) (sym is) here
 fates_spare laws disposition (request ∷ requests) replies old new (mid, its, later, split, meets, more) e here apart =
-    fates_spare laws disposition requests later mid new more e (spared (disposition request.entry) meets) (λ r there. apart r (contains_there request requests r there))
+    fates_spare laws disposition requests later mid new more e (spared (disposition request.request) meets) (λ r there. apart r (contains_there request requests r there))
   where
-    differs : e.entry.id ≢ request.entry.id
+    differs : e.request.id ≢ request.request.id
     differs = apart request (first_here request requests)
 
     spared : (f : Disposition) → IsResolved request f its old mid → Contains mid.book e
     spared Wait m = subst (λ (h : BookAndLoans). Contains h.book e) (sym m.1) here
-    spared Requeue m = subst (λ (h : BookAndLoans). Contains h.book e) (sym m.1) (laws.others old.book request.entry.id requeued_entry e here differs)
-    spared (Complete o) m = subst (λ (book : List BookEntry). Contains book e) (sym m.1) ((laws.left old.book request.entry.id e).1 (here, differs))
+    spared Requeue m = subst (λ (h : BookAndLoans). Contains h.book e) (sym m.1) (laws.update_keeps_other_entries old.book request.request.id requeued_request e here differs)
+    spared (Complete o) m = subst (λ (book : List BookEntry). Contains book e) (sym m.1) ((laws.removal_keeps_other_entries old.book request.request.id e).1 (here, differs))
 
 -- a slot that was left so serves no request
 pub serves_none : (ports : List ProbeResult) (uses : SlotStates) (port slot : ℕ) → IsUnusedOrDead ports uses port slot → (id : RequestId) → uses port slot ≡ Serves id → ⊥
@@ -94,25 +94,25 @@ HasItsDisk remembered ports port = IsResetRevalidation (remembered_at remembered
 -- The requests of ports below this number met their fates: what is parked of the others is issued, and of those none is, but of dead ones; and who is left of them is of a ready port
 -- that has its disk.
 pub record IsFatedTo (n : ℕ) (c : ServerState) (m : Machine) : Type 0 where
-  pub four_kept : length c.kept ≡ 4
+  pub four_kept : length c.kept_loans ≡ 4
   pub uses : SlotStates
-  pub left : (port slot : ℕ) → IsUnusedOrDead c.ports uses port slot
+  pub left : (port slot : ℕ) → IsUnusedOrDead c.probe_results uses port slot
   pub parked : ℕ → List RequestId
   pub driver_relation : DriverRelation m (driver_state_of uses parked c.device)
-  pub unparked : (port : ℕ) → port < n → probe_result_of c.ports port ≢ Unready Dead → parked port ≡ []
+  pub unparked : (port : ℕ) → port < n → probe_result_of c.probe_results port ≢ Unready Dead → parked port ≡ []
   pub its : (port : ℕ) → n ≤ port → (id : RequestId) → Contains (parked port) id
-      → (e : BookEntry) × Contains c.book e × (e.entry.id ≡ id) × (e.entry.issued ≡ true) × (e.entry.port.0 ≡ port)
+      → (e : BookEntry) × Contains c.book e × (e.request.id ≡ id) × (e.request.issued ≡ true) × (e.request.port.0 ≡ port)
   pub book : BookRelation c.book m.book
-  pub kept : QuarantineRelation c.ports c.kept m.kept
-  pub unkept : (port : ℕ) → n ≤ port → quarantined_at c.kept port ≡ []
+  pub kept : QuarantineRelation c.probe_results c.kept_loans m.kept
+  pub unkept : (port : ℕ) → n ≤ port → quarantined_at c.kept_loans port ≡ []
   pub rows : m.rows ≡ c.grants
   pub owner : (frame : Frame) → m.owner frame ≡ owner_of c.table frame
   pub lent : (frame : Frame) → m.lent frame ≡ lent_to c.table frame
   pub next : m.next_id ≡ c.last_id + 1
-  pub ordered : BookIsInOrder c.book
-  pub accepted : All (IsAccepted c.table) c.book
+  pub ordered : BookIsWellFormed c.book
+  pub accepted : All (IsWellFormedEntry c.table) c.book
   pub marked : All (RevokedMarkInvariant c.grants) c.book
-  pub alive : (e : BookEntry) → Contains c.book e → e.entry.port.0 < n → HasItsDisk c.remembered c.ports e.entry.port.0
+  pub alive : (e : BookEntry) → Contains c.book e → e.request.port.0 < n → HasItsDisk c.remembered c.probe_results e.request.port.0
 
 -- ---- one port
 
@@ -130,20 +130,20 @@ module _ (laws : PrerequisiteLaws) (n : ℕ) (low : n < 4) (replies : List Reply
   was = remembered_at old.remembered n
 
   abbrev found : ProbeResult
-  found = probe_result_of old.ports n
+  found = probe_result_of old.probe_results n
 
   may_meet : AreResolvable port disposition its (book_and_loans_of port old) (driver_state_of at.uses at.parked old.device) m
   may_meet = record {
     reached = reached;
     driver_relation = at.driver_relation;
-    book = at.book;
-    lent = at.lent;
-    book_is_in_order = at.ordered;
-    requests_are_accepted = at.accepted;
-    marked = λ e here. tells_of m.rows old.grants e.entry at.rows (All-contains (RevokedMarkInvariant old.grants) old.book e at.marked (of_requests port old.book e here).0).tells;
-    here = of_requests port old.book;
-    earlier = AllPairs-filter IsEarlier (λ (x : BookEntry). is_of_port port x.entry) old.book at.ordered.ids_rise;
-    unserved = λ e here never q slot serves. serves_none old.ports at.uses q slot (at.left q slot) e.entry.id serves;
+    book_relation = at.book;
+    loans_agree = at.lent;
+    book_is_well_formed = at.ordered;
+    entries_are_well_formed = at.accepted;
+    revoked_marks_agree = λ e here. tells_of m.rows old.grants e.request at.rows (All-contains (RevokedMarkInvariant old.grants) old.book e at.marked (of_requests port old.book e here).0).revoked_mark_agrees;
+    are_in_book_of_port = of_requests port old.book;
+    are_in_order = AllPairs-filter IsEarlier (λ (x : BookEntry). is_of_port port x.request) old.book at.ordered.ids_rise;
+    released_have_no_slot = λ e here never q slot serves. serves_none old.probe_results at.uses q slot (at.left q slot) e.request.id serves;
   }
 
   pub met : AreResolvedInMachine port disposition its replies (book_and_loans_of port old) s.book_and_loans_after (driver_state_of at.uses at.parked old.device) m
@@ -151,7 +151,7 @@ module _ (laws : PrerequisiteLaws) (n : ℕ) (low : n < 4) (replies : List Reply
 
   pub left : IsLeft port disposition its (book_and_loans_of port old) s.book_and_loans_after
   left = fated laws port disposition its (fits_each None s.revalidation its) replies (book_and_loans_of port old) s.book_and_loans_after
-      (record { here = of_requests port old.book; earlier = may_meet.earlier; ordered = at.ordered; accepted = at.accepted }) s.are_resolved
+      (record { here = of_requests port old.book; earlier = may_meet.are_in_order; ordered = at.ordered; accepted = at.accepted }) s.are_resolved
 
   abbrev z : Machine
   z = after m met.steps
@@ -159,14 +159,14 @@ module _ (laws : PrerequisiteLaws) (n : ℕ) (low : n < 4) (replies : List Reply
   -- ---- loans that are kept
 
   -- they are of a dead port
-  dies : (e : Pending) → Contains met.held e → (e.request.port ≡ port) × (found ≡ Unready Dead)
+  dies : (e : Pending) → Contains met.newly_kept e → (e.request.port ≡ port) × (found ≡ Unready Dead)
   dies e here = (x.2.port ∙ (of_requests port old.book x.0 x.1).1, by s.revalidation refl)
     where
-      x : (request : BookEntry) × Contains its request × EntryRelation request e × (keeps_frames_lent (disposition request.entry) request.entry ≡ true)
-      x = met.whose e here
+      x : (request : BookEntry) × Contains its request × EntryRelation request e × (keeps_frames_lent (disposition request.request) request.request ≡ true)
+      x = met.newly_kept_are_of_requests e here
 
       lives : s.revalidation ≢ NoEnd → ⊥
-      lives other = false≢true (sym (kept_dead_alone None s.revalidation x.0.entry other) ∙ x.3)
+      lives other = false≢true (sym (kept_dead_alone None s.revalidation x.0.request other) ∙ x.3)
 
       by : (p : Revalidation) → s.revalidation ≡ p → found ≡ Unready Dead
       by SameDisk same = absurd (lives (λ dead. let y : SameDisk ≡ NoEnd = sym same ∙ dead in absurd cc))
@@ -185,69 +185,69 @@ module _ (laws : PrerequisiteLaws) (n : ℕ) (low : n < 4) (replies : List Reply
   abbrev new : ServerState
   new = with_book_and_loans port s.book_and_loans_after old
 
-  are_kept : QuarantineRelation new.ports new.kept z.kept
-  are_kept = subst (QuarantineRelation new.ports new.kept) (sym met.kept)
-      (more_kept port old.ports old.ports old.kept new.kept met.held m.kept at.kept
-      (get_or-set_same old.kept n s.book_and_loans_after.kept [] (let four = at.four_kept in omega (arith, four, low)) ∙ met.loans)
-      (λ q ne. get_or-set_other old.kept n q s.book_and_loans_after.kept [] ne) at.kept.dead dies met.two
+  are_kept : QuarantineRelation new.probe_results new.kept_loans z.kept
+  are_kept = subst (QuarantineRelation new.probe_results new.kept_loans) (sym met.newly_kept_are_kept)
+      (more_kept port old.probe_results old.probe_results old.kept_loans new.kept_loans met.newly_kept m.kept at.kept
+      (get_or-set_same old.kept_loans n s.book_and_loans_after.kept [] (let four = at.four_kept in omega (arith, four, low)) ∙ met.loans_of_newly_kept)
+      (λ q ne. get_or-set_other old.kept_loans n q s.book_and_loans_after.kept [] ne) at.kept.quarantine_ports_are_dead dies met.loans_differ_in_request
       (λ a b here there. absurd (nowhere a (subst (λ (loans : List Lending). Contains loans a) (at.unkept n (omega arith)) here))))
 
   -- ---- who is left
 
-  its_then : (q : ℕ) → n + 1 ≤ q → (id : RequestId) → Contains (met.parked q) id → (e : BookEntry) × Contains s.book_and_loans_after.book e × (e.entry.id ≡ id) × (e.entry.issued ≡ true) × (e.entry.port.0 ≡ q)
+  its_then : (q : ℕ) → n + 1 ≤ q → (id : RequestId) → Contains (met.parked q) id → (e : BookEntry) × Contains s.book_and_loans_after.book e × (e.request.id ≡ id) × (e.request.issued ≡ true) × (e.request.port.0 ≡ q)
   its_then q high id here =
       let other : q ≢ n = λ same. omega (arith, high, same) in
-      let w = at.its q (omega (arith, high)) id (subst (λ (ids : List RequestId). Contains ids id) (met.others q other) here) in (
+      let w = at.its q (omega (arith, high)) id (subst (λ (ids : List RequestId). Contains ids id) (met.parked_of_others_is_kept q other) here) in (
         w.0,
         fates_spare laws disposition its replies (book_and_loans_of port old) s.book_and_loans_after s.are_resolved w.0 w.1 (λ r there same.
             let o = of_requests port old.book r there in
-            let one : w.0 ≡ r = laws.one old.book w.0 r at.ordered w.1 o.0 same in
-            other (sym w.4 ∙ ap (λ (x : BookEntry). x.entry.port.0) one ∙ ap (λ (p : Port). p.0) o.1)),
+            let one : w.0 ≡ r = laws.an_id_is_one_entry old.book w.0 r at.ordered w.1 o.0 same in
+            other (sym w.4 ∙ ap (λ (x : BookEntry). x.request.port.0) one ∙ ap (λ (p : Port). p.0) o.1)),
         w.2,
         w.3,
         w.4,
       )
 
-  alive_then : (e : BookEntry) → Contains s.book_and_loans_after.book e → e.entry.port.0 < n + 1 → HasItsDisk old.remembered old.ports e.entry.port.0
+  alive_then : (e : BookEntry) → Contains s.book_and_loans_after.book e → e.request.port.0 < n + 1 → HasItsDisk old.remembered old.probe_results e.request.port.0
   alive_then e here lt = ⊎_elim
-      (λ (same : e.entry.port.0 ≡ n). subst (HasItsDisk old.remembered old.ports) (sym same) (by same s.revalidation refl s.is_revalidation))
-      (λ (ne : e.entry.port.0 ≢ n). subst (λ (p : Port). HasItsDisk old.remembered old.ports p.0) (sym w.port) (at.alive w.was w.there (let own = ap (λ (p : Port). p.0) w.port in omega (arith, lt, ne, own))))
-      (cases_eq e.entry.port.0 n)
+      (λ (same : e.request.port.0 ≡ n). subst (HasItsDisk old.remembered old.probe_results) (sym same) (by same s.revalidation refl s.is_revalidation))
+      (λ (ne : e.request.port.0 ≢ n). subst (λ (p : Port). HasItsDisk old.remembered old.probe_results p.0) (sym w.port) (at.alive w.was w.there (let own = ap (λ (p : Port). p.0) w.port in omega (arith, lt, ne, own))))
+      (cases_eq e.request.port.0 n)
     where
       w : WasIn old.book e
       w = left.from e here
 
-      none : e.entry.port.0 ≡ n → (s.revalidation ≡ SameDisk → ⊥) → ⊥
+      none : e.request.port.0 ≡ n → (s.revalidation ≡ SameDisk → ⊥) → ⊥
       none own other =
-          let end = ends_of None s.revalidation other w.was.entry in
+          let end = ends_of None s.revalidation other w.was.request in
           left.gone w.was end.0 (in_requests port old.book w.was w.there (ap (λ (p : Port). p.0) (sym w.port) ∙ own)) end.1 e here w.id
 
-      by : e.entry.port.0 ≡ n → (p : Revalidation) → s.revalidation ≡ p → IsResetRevalidation was found p → HasItsDisk old.remembered old.ports n
+      by : e.request.port.0 ≡ n → (p : Revalidation) → s.revalidation ≡ p → IsResetRevalidation was found p → HasItsDisk old.remembered old.probe_results n
       by own SameDisk is x = x
       by own DiskLost is x = absurd (none own (λ same. let y : DiskLost ≡ SameDisk = sym is ∙ same in absurd cc))
       by own NoEnd is x = absurd (none own (λ same. let y : NoEnd ≡ SameDisk = sym is ∙ same in absurd cc))
 
   leaves : (z.rows ≡ m.rows) × ((frame : Frame) → z.owner frame ≡ m.owner frame) × (z.next_id ≡ m.next_id)
-  leaves = deciding_leaves port m met.steps met.own
+  leaves = deciding_leaves port m met.steps met.steps_are_of_port
 
   pub fated_one : IsFatedTo (n + 1) mid z
   fated_one = subst (λ (c : ServerState). IsFatedTo (n + 1) c z) (sym s.server_is) (record {
-    four_kept = length-set old.kept n s.book_and_loans_after.kept ∙ at.four_kept;
+    four_kept = length-set old.kept_loans n s.book_and_loans_after.kept ∙ at.four_kept;
     uses = at.uses;
     left = at.left;
     parked = met.parked;
     driver_relation = met.driver_relation;
     unparked = λ q lt lives. ⊎_elim
-        (λ (same : q ≡ n). ap met.parked same ∙ none_left (quiet (λ dead. lives (ap (probe_result_of old.ports) same ∙ dead))))
-        (λ (ne : q ≢ n). met.others q ne ∙ at.unparked q (omega (arith, lt, ne)) lives)
+        (λ (same : q ≡ n). ap met.parked same ∙ none_left (quiet (λ dead. lives (ap (probe_result_of old.probe_results) same ∙ dead))))
+        (λ (ne : q ≢ n). met.parked_of_others_is_kept q ne ∙ at.unparked q (omega (arith, lt, ne)) lives)
         (cases_eq q n);
     its = its_then;
     book = met.book;
     kept = are_kept;
-    unkept = λ q high. get_or-set_other old.kept n q s.book_and_loans_after.kept [] (λ same. omega (arith, high, same)) ∙ at.unkept q (omega (arith, high));
+    unkept = λ q high. get_or-set_other old.kept_loans n q s.book_and_loans_after.kept [] (λ same. omega (arith, high, same)) ∙ at.unkept q (omega (arith, high));
     rows = leaves.0 ∙ at.rows;
     owner = λ frame. leaves.1 frame ∙ at.owner frame ∙ ap (λ (owners : List (Option ClientId)). get_or owners frame.0 None) (sym left.owners);
-    lent = met.lent;
+    lent = met.loans_agree;
     next = leaves.2 ∙ at.next;
     ordered = left.ordered;
     accepted = left.accepted;
@@ -263,8 +263,8 @@ pub record HasFate (c : ServerState) (e : Pending) (f : Disposition) : Type 0 wh
   pub entry : EntryRelation request e
   pub from : WasIn c.book request
   pub revalidation : Revalidation
-  pub expects : IsResetRevalidation (remembered_at c.remembered e.request.port.0) (probe_result_of c.ports e.request.port.0) revalidation
-  pub disposition : disposition_of None revalidation request.entry ≡ f
+  pub expects : IsResetRevalidation (remembered_at c.remembered e.request.port.0) (probe_result_of c.probe_results e.request.port.0) revalidation
+  pub disposition : disposition_of None revalidation request.request ≡ f
 
 -- a step that decides on a request of some port
 abbrev pub Decides : Step → Type 0
@@ -274,7 +274,7 @@ Decides step = (port : Port) × IsResolveStep port step
 pub record AreFated (n : ℕ) (found : List ProbeResult) (replies : List Reply) (old new : ServerState) (m : Machine) : Type 0 where
   pub steps : List Step
   pub may : AllEnabled m steps
-  pub backed : (d : Device) → IsBacked d d m steps
+  pub backed : (d : Device) → TapeBacksSteps d d m steps
   pub fated : IsFatedTo (n + length found) new (after m steps)
   pub decides : All Decides steps
   pub answered : (e : Pending) (o : Outcome) → Contains steps (Answer e o) → HasFate old e (Complete o)
@@ -286,7 +286,7 @@ pub record AreFated (n : ℕ) (found : List ProbeResult) (replies : List Reply) 
   pub told : replies ≡ map reply_of answers
   pub from : (e : BookEntry) → Contains new.book e → WasIn old.book e
   pub owners : new.table.owners ≡ old.table.owners
-  pub settings : new ≡ record old { table = new.table; kept = new.kept; book = new.book }
+  pub settings : new ≡ record old { table = new.table; kept_loans = new.kept_loans; book = new.book }
 
 module _ (laws : PrerequisiteLaws) (n : ℕ) (low : n < 4) (found : ProbeResult) (rest : List ProbeResult) (replies its later : List Reply) (split : replies ≡ its ++ later) (old mid new : ServerState) (m : Machine) (reached : IsReachable m)
     (s : ResolvesPort (port_at n) its old mid) (at : IsFatedTo n old m) where
@@ -294,7 +294,7 @@ module _ (laws : PrerequisiteLaws) (n : ℕ) (low : n < 4) (found : ProbeResult)
   one = met laws n low its old mid m reached s at
 
   -- a request of the port has its fate
-  its_fate : (e : Pending) (f : Disposition) → (request : BookEntry) × Contains (requests_of (port_at n) old.book) request × EntryRelation request e × (disposition_of None s.revalidation request.entry ≡ f) → HasFate old e f
+  its_fate : (e : Pending) (f : Disposition) → (request : BookEntry) × Contains (requests_of (port_at n) old.book) request × EntryRelation request e × (disposition_of None s.revalidation request.request ≡ f) → HasFate old e f
   its_fate e f (request, here, entry, is) =
       let its = of_requests (port_at n) old.book request here in
       let own : e.request.port ≡ port_at n = entry.port ∙ its.1 in
@@ -303,7 +303,7 @@ module _ (laws : PrerequisiteLaws) (n : ℕ) (low : n < 4) (found : ProbeResult)
         entry = entry;
         from = was_itself old.book request its.0;
         revalidation = s.revalidation;
-        expects = subst (λ (p : Port). IsResetRevalidation (remembered_at old.remembered p.0) (probe_result_of old.ports p.0) s.revalidation) (sym own) s.is_revalidation;
+        expects = subst (λ (p : Port). IsResetRevalidation (remembered_at old.remembered p.0) (probe_result_of old.probe_results p.0) s.revalidation) (sym own) s.is_revalidation;
         disposition = is;
       }
 
@@ -319,7 +319,7 @@ module _ (laws : PrerequisiteLaws) (n : ℕ) (low : n < 4) (found : ProbeResult)
     entry = has.entry;
     from = was_more old.book mid.book has.request mid_from has.from;
     revalidation = has.revalidation;
-    expects = subst (λ (c : ServerState). IsResetRevalidation (remembered_at c.remembered e.request.port.0) (probe_result_of c.ports e.request.port.0) has.revalidation) s.server_is has.expects;
+    expects = subst (λ (c : ServerState). IsResetRevalidation (remembered_at c.remembered e.request.port.0) (probe_result_of c.probe_results e.request.port.0) has.revalidation) s.server_is has.expects;
     disposition = has.disposition;
   }
 
@@ -327,19 +327,19 @@ module _ (laws : PrerequisiteLaws) (n : ℕ) (low : n < 4) (found : ProbeResult)
   told_here : All (λ a. a.0.request.port.0 ≡ n) one.replies_match.answers
   told_here = All-weaker (Contains one.replies_match.answers) (λ a. a.0.request.port.0 ≡ n)
       (λ a here.
-      let w = one.answered a.0 a.1 (answers_there one.steps a (Contains-permutation one.replies_match.answers (answers_of one.steps) a one.replies_match.is_permutation here)) in
+      let w = one.answers_are_as_decided a.0 a.1 (answers_there one.steps a (Contains-permutation one.replies_match.answers (answers_of one.steps) a one.replies_match.is_permutation here)) in
       ap (λ (p : Port). p.0) (w.2.port ∙ (of_requests (port_at n) old.book w.0 w.1).1))
       one.replies_match.answers (All-contains_itself one.replies_match.answers)
 
   pub fated_more : AreFated (n + 1) rest later mid new (after m one.steps) → AreFated n (found ∷ rest) replies old new m
   fated_more r = record {
     steps = r.steps ++ one.steps;
-    may = laws.basic.may m r.steps one.steps one.steps_are_enabled r.may;
+    may = laws.steps_and_accesses.enabled_lists_join m r.steps one.steps one.steps_are_enabled r.may;
     backed = λ d. laws.backed_parts d d d m one.steps r.steps (one.backed d) (r.backed d);
-    fated = subst (IsFatedTo (n + length (found ∷ rest)) new) (sym (laws.basic.joined m r.steps one.steps)) (subst (λ (k : ℕ). IsFatedTo k new (after (after m one.steps) r.steps)) (omega arith) r.fated);
-    decides = All-append Decides r.steps one.steps r.decides (All-weaker (IsResolveStep (port_at n)) Decides (λ step is. (port_at n, is)) one.steps one.own);
-    answered = λ e o here. ⊎_elim (λ late. as_before e (Complete o) (r.answered e o late)) (λ early. its_fate e (Complete o) (one.answered e o early)) (Contains-append_cases r.steps one.steps (Answer e o) here);
-    again = λ e here. ⊎_elim (λ late. as_before e Requeue (r.again e late)) (λ early. its_fate e Requeue (one.again e early)) (Contains-append_cases r.steps one.steps (WaitAgain e) here);
+    fated = subst (IsFatedTo (n + length (found ∷ rest)) new) (sym (laws.steps_and_accesses.after_joins m r.steps one.steps)) (subst (λ (k : ℕ). IsFatedTo k new (after (after m one.steps) r.steps)) (omega arith) r.fated);
+    decides = All-append Decides r.steps one.steps r.decides (All-weaker (IsResolveStep (port_at n)) Decides (λ step is. (port_at n, is)) one.steps one.steps_are_of_port);
+    answered = λ e o here. ⊎_elim (λ late. as_before e (Complete o) (r.answered e o late)) (λ early. its_fate e (Complete o) (one.answers_are_as_decided e o early)) (Contains-append_cases r.steps one.steps (Answer e o) here);
+    again = λ e here. ⊎_elim (λ late. as_before e Requeue (r.again e late)) (λ early. its_fate e Requeue (one.requeues_are_as_decided e early)) (Contains-append_cases r.steps one.steps (WaitAgain e) here);
     answers = one.replies_match.answers ++ r.answers;
     permuted = subst (IsPermutation (one.replies_match.answers ++ r.answers)) (sym (answers_append r.steps one.steps))
         (IsPermutation-trans _ _ _ (IsPermutation-append_comm one.replies_match.answers r.answers) (IsPermutation-append _ _ _ _ r.permuted one.replies_match.is_permutation));
@@ -350,13 +350,13 @@ module _ (laws : PrerequisiteLaws) (n : ℕ) (low : n < 4) (found : ProbeResult)
     high = All-append (λ a. n ≤ a.0.request.port.0) one.replies_match.answers r.answers
         (All-weaker (λ a. a.0.request.port.0 ≡ n) (λ a. n ≤ a.0.request.port.0) (λ a is. omega (arith, is)) one.replies_match.answers told_here)
         (All-weaker (λ a. n + 1 ≤ a.0.request.port.0) (λ a. n ≤ a.0.request.port.0) (λ a is. omega (arith, is)) r.answers r.high);
-    told = split ∙ ap (λ (list : List Reply). list ++ later) one.replies_match.replies_are ∙ ap (λ (list : List Reply). map reply_of one.replies_match.answers ++ list) r.told ∙ sym (map-append reply_of one.replies_match.answers r.answers);
+    told = split ∙ ap (λ (list : List Reply). list ++ later) one.replies_match.replies_are_of_answers ∙ ap (λ (list : List Reply). map reply_of one.replies_match.answers ++ list) r.told ∙ sym (map-append reply_of one.replies_match.answers r.answers);
     from = λ e here. was_more old.book mid.book e (λ x there. mid_from x there) (r.from e here);
     owners = r.owners ∙ ap (λ (c : ServerState). c.table.owners) s.server_is ∙ one_left.owners;
-    settings = r.settings ∙ ap (λ (c : ServerState). record c { table = new.table; kept = new.kept; book = new.book }) s.server_is;
+    settings = r.settings ∙ ap (λ (c : ServerState). record c { table = new.table; kept_loans = new.kept_loans; book = new.book }) s.server_is;
   }
 
-pub fate_all : PrerequisiteLaws → (found : List ProbeResult) (n : ℕ) → n + length found ≤ 4 → (replies : List Reply) (old new : ServerState) → ResolvePorts n found replies old new → (m : Machine) → IsReachable m → IsFatedTo n old m
+pub fate_all : PrerequisiteLaws → (found : List ProbeResult) (n : ℕ) → n + length found ≤ 4 → (replies : List Reply) (old new : ServerState) → ResolvesEachPort n found replies old new → (m : Machine) → IsReachable m → IsFatedTo n old m
     → AreFated n found replies old new m
 fate_all laws [] n few replies old new (none, same) m reached at = record {
   steps = [];
@@ -373,10 +373,10 @@ fate_all laws [] n few replies old new (none, same) m reached at = record {
   told = none;
   from = λ e here. was_itself old.book e (subst (λ (c : ServerState). Contains c.book e) same here);
   owners = ap (λ (c : ServerState). c.table.owners) same;
-  settings = same ∙ ap (λ (c : ServerState). record old { table = c.table; kept = c.kept; book = c.book }) (sym same);
+  settings = same ∙ ap (λ (c : ServerState). record old { table = c.table; kept_loans = c.kept_loans; book = c.book }) (sym same);
 }
 fate_all laws (found ∷ rest) n few replies old new (mid, its, later, split, one, more) m reached at =
     let low : n < 4 = omega (arith, few) in
     let first = met laws n low its old mid m reached one at in
     fated_more laws n low found rest replies its later split old mid new m reached one at
-    (fate_all laws rest (n + 1) (omega (arith, few)) later mid new more (after m first.steps) (laws.basic.reached m first.steps reached first.steps_are_enabled) (fated_one laws n low its old mid m reached one at))
+    (fate_all laws rest (n + 1) (omega (arith, few)) later mid new more (after m first.steps) (laws.steps_and_accesses.reachable_stays_reachable m first.steps reached first.steps_are_enabled) (fated_one laws n low its old mid m reached one at))

@@ -7,13 +7,13 @@ use Rattle.adapter.specs.Device.{Device}
 use Rattle.adapter.specs.Idle.{IsIdle}
 use Rattle.adapter.specs.Rules.{IsOn}
 use Rattle.refinement.specs.Relation.{port_at}
-use Rattle.refinement.specs.Fragments.{TapeGrows, IsPortAccessWriting, IsDrivenBy, SparesOtherPorts}
+use Rattle.refinement.specs.Fragments.{TapeGrows, ReadsPortOrWrites, IsDrivenBy, SparesOtherPorts}
 use Rattle.ata_types.specs.declared.Port.{Port}
 use Rattle.ata_types.specs.declared.PortState.{PortState as ShownState}
 use Rattle.ata_types.specs.declared.PortState.TheVariants.{Ready as ReadyState}
 use Rattle.block_machine.specs.Events.{ShowsDisk}
 use Rattle.hba_regs.specs.declared.reg.Reg.TheVariants.{Cap, Ghc, Pi}
-use Rattle.host_boot.specs.TakeOver.{FindsEachPort, SwitchesOnAndBoots, StopsAndBootsPort, ReadsCapOrPi, probe_result_of}
+use Rattle.host_boot.specs.TakeOver.{StopsAndBootsEachPort, SwitchesOnAndBoots, StopsAndBootsPort, ReadsCapOrPi, probe_result_of}
 use Rattle.host_boot.specs.declared.ProbeResult.{ProbeResult}
 use Rattle.host_boot.specs.declared.ProbeResult.TheVariants.{Ready, Unready, Unserved}
 use Rattle.port_boot.specs.States.{IsBootAccess}
@@ -40,26 +40,26 @@ module _ (laws : PrerequisiteLaws) where
   saw_before port accesses old mid new does saw = record {
     seen = saw.seen;
     accesses = accesses ++ saw.accesses;
-    does = laws.basic.does_append accesses saw.accesses old mid saw.seen does saw.does;
+    does = laws.steps_and_accesses.does_append accesses saw.accesses old mid saw.seen does saw.does;
     present = saw.present;
     later = saw.later;
   }
 
   pub saw_after : (port : Port) (old mid new : Device) → TapeGrows mid new → SawDisk port old mid → SawDisk port old new
-  saw_after port old mid new grows saw = record { seen = saw.seen; accesses = saw.accesses; does = saw.does; present = saw.present; later = laws.looks.tape.grows_more saw.seen mid new saw.later grows }
+  saw_after port old mid new grows saw = record { seen = saw.seen; accesses = saw.accesses; does = saw.does; present = saw.present; later = laws.port_event_laws.tape.growth_is_transitive saw.seen mid new saw.later grows }
 
   -- ---- one port's way
 
   boot_of : (port : Port) (old new : Device) → IsDrivenBy (IsBootAccess port) old new → IsDrivenBy (SparesOtherPorts port) old new
-  boot_of port old new driven = driven_as (IsBootAccess port) (SparesOtherPorts port) old new (laws.booting_of port) driven
+  boot_of port old new driven = driven_as (IsBootAccess port) (SparesOtherPorts port) old new (laws.boot_access_is_of_port port) driven
 
-  stopping_of : (port : Port) (old new : Device) → IsDrivenBy (IsPortAccessWriting IsCommandRegister port) old new → IsDrivenBy (SparesOtherPorts port) old new
+  stopping_of : (port : Port) (old new : Device) → IsDrivenBy (ReadsPortOrWrites IsCommandRegister port) old new → IsDrivenBy (SparesOtherPorts port) old new
   stopping_of port old new driven = boot_of port old new (driven_as (IsBeside port) (IsBootAccess port) old new (λ access is. is.0) (commanding laws port old new driven))
 
   of_both : (port : Port) (old mid new : Device) → IsDrivenBy (SparesOtherPorts port) old mid → IsDrivenBy (SparesOtherPorts port) mid new → IsDrivenBy (SparesOtherPorts port) old new
   of_both port old mid new early late = record {
     accesses = early.accesses ++ late.accesses;
-    all_are_done = laws.basic.does_append early.accesses late.accesses old mid new early.all_are_done late.all_are_done;
+    all_are_done = laws.steps_and_accesses.does_append early.accesses late.accesses old mid new early.all_are_done late.all_are_done;
     accesses_are_of_kind = All-append (SparesOtherPorts port) early.accesses late.accesses early.accesses_are_of_kind late.accesses_are_of_kind;
   }
 
@@ -76,22 +76,22 @@ module _ (laws : PrerequisiteLaws) where
   through_saw port Unserved old new on other shows way = absurd shows
   through_saw port (Ready info) old new on other shows (stopped, stops, boots, gets, news) =
       let driven = stopping_of port old stopped stops in
-      saw_before port driven.accesses old stopped new driven.all_are_done (sees_saw port stopped new (ready_sees laws port stopped new (laws.of_on port old stopped on driven) gets))
+      saw_before port driven.accesses old stopped new driven.all_are_done (sees_saw port stopped new (ready_sees laws port stopped new (laws.one_port_keeps_adapter_on port old stopped on driven) gets))
   through_saw port (Unready state) old new on other shows (stopped, stops, boots, first, last, sticks) =
       let driven = stopping_of port old stopped stops in
       saw_before port driven.accesses old stopped new driven.all_are_done
-      (sees_saw port stopped new (unready_sees laws port state stopped new (laws.of_on port old stopped on driven) (other state refl) first last shows))
+      (sees_saw port stopped new (unready_sees laws port state stopped new (laws.one_port_keeps_adapter_on port old stopped on driven) (other state refl) first last shows))
 
   -- ---- one port after another
 
-  go_grows : (first : ℕ) (ports : List ProbeResult) (old new : Device) → FindsEachPort first ports old new → TapeGrows old new
-  go_grows first [] old new same = subst (TapeGrows old) (sym same) (laws.looks.tape.grows_none old)
+  go_grows : (first : ℕ) (ports : List ProbeResult) (old new : Device) → StopsAndBootsEachPort first ports old new → TapeGrows old new
+  go_grows first [] old new same = subst (TapeGrows old) (sym same) (laws.port_event_laws.tape.growth_is_reflexive old)
   go_grows first (found ∷ rest) old new (mid, way, more) =
       let driven = through_of (port_at first) found old mid way in
-      laws.looks.tape.grows_more old mid new (grows_over laws driven.accesses old mid driven.all_are_done) (go_grows (first + 1) rest mid new more)
+      laws.port_event_laws.tape.growth_is_transitive old mid new (grows_over laws driven.accesses old mid driven.all_are_done) (go_grows (first + 1) rest mid new more)
 
   go_saw : (port : Port) (found : ProbeResult) → ((state : ShownState) → found ≡ Unready state → state ≢ ReadyState) → ShowsDisk (state_of found)
-      → (first : ℕ) (ports : List ProbeResult) (k : ℕ) (old new : Device) → port.0 ≡ first + k → probe_result_of ports k ≡ found → IsOn old → FindsEachPort first ports old new → SawDisk port old new
+      → (first : ℕ) (ports : List ProbeResult) (k : ℕ) (old new : Device) → port.0 ≡ first + k → probe_result_of ports k ≡ found → IsOn old → StopsAndBootsEachPort first ports old new → SawDisk port old new
   go_saw port found other shows first [] k old new at is on way = absurd (let none : ShowsDisk (state_of Unserved) = subst (λ (f : ProbeResult). ShowsDisk (state_of f)) (sym is) shows in none)
   go_saw port found other shows first (one ∷ rest) zero old new at is on (mid, way, more) =
       let same : port_at first ≡ port = ap port_at (sym (at ∙ (omega arith))) in
@@ -100,7 +100,7 @@ module _ (laws : PrerequisiteLaws) where
   go_saw port found other shows first (one ∷ rest) (suc k) old new at is on (mid, way, more) =
       let driven = through_of (port_at first) one old mid way in
       saw_before port driven.accesses old mid new driven.all_are_done
-      (go_saw port found other shows (first + 1) rest k mid new (omega (arith, at)) is (laws.of_on (port_at first) old mid on driven) more)
+      (go_saw port found other shows (first + 1) rest k mid new (omega (arith, at)) is (laws.one_port_keeps_adapter_on (port_at first) old mid on driven) more)
 
   -- ---- the whole
 
@@ -115,9 +115,9 @@ module _ (laws : PrerequisiteLaws) where
 pub taken_saw : (laws : ResetLaws) (port : Port) (found : ProbeResult) → ((state : ShownState) → found ≡ Unready state → state ≢ ReadyState) → ShowsDisk (state_of found) → (ports : List ProbeResult) (old new : Device) → IsIdle old
     → probe_result_of ports port.0 ≡ found → SwitchesOnAndBoots ports old new → SawDisk port old new
 taken_saw laws port found other shows ports old new rest is way =
-    let below : PrerequisiteLaws = laws.below in
-    let on = laws.below.switches_on 0x80000000 old way.switched rest.no_reset refl refl way.switches in
-    let surveys = driven_as ReadsCapOrPi (SparesOtherPorts port) way.switched way.surveyed (survey_of below port) way.surveys in
-    saw_before below port (Writing Ghc 0x80000000 ∷ surveys.accesses) old way.surveyed new (way.switched, way.switches, surveys.all_are_done)
-    (saw_after below port way.surveyed way.booted new (below.looks.tape.access_grows (Writing Ghc 0x80000002) way.booted new way.enables)
-    (go_saw below port found other shows 0 ports port.0 way.surveyed way.booted (omega arith) is (below.of_on port way.switched way.surveyed on surveys) way.boots))
+    let below : PrerequisiteLaws = laws.prerequisites in
+    let on = laws.prerequisites.ghc_write_switches_on 0x80000000 old way.device_switched_on rest.no_reset refl refl way.switches in
+    let surveys = driven_as ReadsCapOrPi (SparesOtherPorts port) way.device_switched_on way.device_after_survey (survey_of below port) way.surveys in
+    saw_before below port (Writing Ghc 0x80000000 ∷ surveys.accesses) old way.device_after_survey new (way.device_switched_on, way.switches, surveys.all_are_done)
+    (saw_after below port way.device_after_survey way.device_after_boots new (below.port_event_laws.tape.access_grows (Writing Ghc 0x80000002) way.device_after_boots new way.enables_interrupts)
+    (go_saw below port found other shows 0 ports port.0 way.device_after_survey way.device_after_boots (omega arith) is (below.one_port_keeps_adapter_on port way.device_switched_on way.device_after_survey on surveys) way.boots))

@@ -8,7 +8,7 @@ use Rattle.std.specs.List.Sorted.{IsPermutation}
 use Rattle.adapter.specs.Device.{Device}
 use Rattle.adapter.specs.declared.access.DeviceStep.{DeviceStep}
 use Rattle.refinement.specs.Fragments.{TapeGrows}
-use Rattle.refinement.specs.Driver.{IsBacked}
+use Rattle.refinement.specs.Driver.{TapeBacksSteps}
 use Rattle.ata_types.specs.declared.Port.{Port}
 use Rattle.ata_types.specs.declared.PortState.{PortState as ShownState}
 use Rattle.ata_types.specs.declared.PortState.TheVariants.{Absent, Dead, Ready as ReadyState}
@@ -17,16 +17,16 @@ use Rattle.ata_types.specs.declared.request.Reply.{Reply}
 use Rattle.ata_types.specs.declared.request.RequestId.{RequestId}
 use Rattle.server_history.proofs.state.ListMembers.{contains_cases}
 use Rattle.block_machine.specs.DueRequests.{requests_of_port}
-use Rattle.block_machine.specs.Events.{AllAnswersLawful, AllEnabled, AnswersReset, AreStepsOfCall, UnpluggedLostDisk, EndsUndone, ShownDiskWasInOrCame, IsLawfulAnswer, IssuesLast, UnansweredKeepDisk, AbstractState, NoneStaysIssued, ReleasesOnce, Reset, ShowsDisk, RepliesMatch, AnswersAllUnplugged, WasIssued, WasReset, answers_of, issues_id, IsReadyAgain}
+use Rattle.block_machine.specs.Events.{AnswersAndWaitsLawful, AllEnabled, AnswersReset, AreStepsOfCall, UnpluggedLostDisk, IsOfUndoneRequest, ShownDiskWasInOrCame, IsLawfulAnswer, IssueIsLastOfRequest, UnansweredKeepSerialAndSize, AbstractState, NoneStaysIssued, ReleasesOnce, Reset, ShowsDisk, RepliesMatch, UnpluggedEmptiesPort, IsIssuedInBook, WasReset, answers_of, issues_id, IsReadyAgain}
 use Rattle.block_machine.specs.Histories.{JointEvent, JointState, IsReachable, joint_state_after}
 use Rattle.block_machine.specs.Expected.{after}
-use Rattle.block_machine.specs.Ports.{MayBecome, Ports, SameDisk}
+use Rattle.block_machine.specs.Ports.{MayBecome, Ports, SameSerialAndSize}
 use Rattle.block_machine.specs.State.{Machine, Pending, unanswered}
 use Rattle.block_machine.specs.Steps.{WaitAgain, Answer, Release, Step}
 use Rattle.block_machine.specs.declared.due.QueueMode.{QueueMode}
 use Rattle.driver_history.specs.Evidence.{IsEvidenced, IsEvidencedOf}
 use Rattle.driver_history.specs.Histories.{BootsAnew, IssuesDue, LosesNoPortError, RunsWellAnew, IsPortServed, PortCorresponds}
-use Rattle.driver_history.specs.AccessTrace.{IsOfPorts}
+use Rattle.driver_history.specs.AccessTrace.{UsesPortRegistersOf}
 use Rattle.hba_regs.specs.Bits.{bit}
 use Rattle.host_boot.specs.TakeOver.{IsServed, BacksProbeResult, StillBacksProbeResult, probe_result_of, wanted_of}
 use Rattle.host_boot.specs.declared.ProbeResult.{ProbeResult}
@@ -62,7 +62,7 @@ use Rattle.server_history.proofs.state.PairedLists.{at_right}
 use Rattle.server_history.specs.ResetLaws.{ResetLaws}
 use Rattle.server_history.specs.Histories.{ExtendsSettled, LeadsToServer}
 use Rattle.server_history.proofs.reset_call.ResetDevice.{IsRebootedBy}
-use Rattle.server_history.specs.Resets.{IsResetRevalidation, IsReinitialized, IssuePorts, ResetsServer, ResolvePorts}
+use Rattle.server_history.specs.Resets.{IsResetRevalidation, IsReinitialized, IssuesOnEachReadyPort, ResetsServer, ResolvesEachPort}
 use Rattle.server_history.specs.ServerState.{InCallInvariant, MachineRelation, SettledInvariant, ServerState, last_disk_in, last_disk_of, is_served, mode_in, ports_of, remembered_at, last_sectors_of, last_serial_of, state_of}
 use Rattle.server_history.specs.StuckServer.{ServerInvariant}
 use Rattle.server_history.specs.Turns.{joint_state_of, abstract_state_of}
@@ -80,7 +80,7 @@ remembers Unserved remembered other = refl
 remembers (Ready info) remembered other = absurd (other refl)
 remembers (Unready state) remembered other = refl
 
-module _ (laws : ResetLaws) (s taken settled new : ServerState) (replies : List Reply) (booked : ServerInvariant s) (takes : IsReinitialized s taken) (settles : ResolvePorts 0 taken.ports replies taken settled) (issues : IssuePorts 0 taken.ports settled new)
+module _ (laws : ResetLaws) (s taken settled new : ServerState) (replies : List Reply) (booked : ServerInvariant s) (takes : IsReinitialized s taken) (settles : ResolvesEachPort 0 taken.probe_results replies taken settled) (issues : IssuesOnEachReadyPort 0 taken.probe_results settled new)
     (by : IsRebootedBy s new replies) (first : JointState Device) (past : List (JointEvent Device DeviceStep)) (leads : LeadsToServer first past s) where
   abbrev was : AbstractState
   was = (joint_state_after first past).abstract
@@ -89,23 +89,23 @@ module _ (laws : ResetLaws) (s taken settled new : ServerState) (replies : List 
   m = was.machine
 
   is : MachineRelation s m
-  is = leads.stands.machine_stands_for_it
+  is = leads.state_is_at_history_end.machine_stands_for_it
 
   same : was.ports ≡ ports_of s
-  same = leads.stands.ports_are
+  same = leads.state_is_at_history_end.ports_are
 
   reached : IsReachable m
-  reached = laws.below.basic.history_reached s.wanted first past leads.history
+  reached = laws.prerequisites.steps_and_accesses.history_machine_is_reachable s.wanted first past leads.history
 
   -- ---- its steps
 
-  abbrev r : IsRetaken s taken takes.takes.uses m
+  abbrev r : IsRetaken s taken takes.takes_over.uses m
   r = its_retaken laws s taken settled booked takes replies settles m reached is
 
   abbrev begun : List Step
   begun = r.second ++ Release ∷ r.first
 
-  abbrev f : AreFated 0 taken.ports replies taken settled (after m begun)
+  abbrev f : AreFated 0 taken.probe_results replies taken settled (after m begun)
   f = its_fated laws s taken settled booked takes replies settles m reached is
 
   abbrev base : List Step
@@ -120,31 +120,31 @@ module _ (laws : ResetLaws) (s taken settled new : ServerState) (replies : List 
   abbrev stands : MachineRelation settled z
   stands = stands_regained laws s taken settled booked takes replies settles m reached is
 
-  abbrev a : AreReissued laws.below settled kept z (z_reached laws s taken settled booked takes replies settles m reached is) stands 4 new
+  abbrev a : AreReissued laws.prerequisites settled kept z (z_reached laws s taken settled booked takes replies settles m reached is) stands 4 new
   a = its_reissued laws s taken settled booked takes replies settles m reached is new issues
 
   abbrev steps : List Step
   steps = a.steps ++ base
 
   base_is : after m base ≡ z
-  base_is = laws.below.basic.joined m f.steps begun
+  base_is = laws.prerequisites.steps_and_accesses.after_joins m f.steps begun
 
   whole_is : after m steps ≡ after z a.steps
-  whole_is = laws.below.basic.joined m a.steps base ∙ ap (λ (n : Machine). after n a.steps) base_is
+  whole_is = laws.prerequisites.steps_and_accesses.after_joins m a.steps base ∙ ap (λ (n : Machine). after n a.steps) base_is
 
   base_may : AllEnabled m base
-  base_may = laws.below.basic.may m f.steps begun r.may f.may
+  base_may = laws.prerequisites.steps_and_accesses.enabled_lists_join m f.steps begun r.may f.may
 
   may : AllEnabled m steps
-  may = laws.below.basic.may m a.steps base base_may (subst (λ (n : Machine). AllEnabled n a.steps) (sym base_is) a.may)
+  may = laws.prerequisites.steps_and_accesses.enabled_lists_join m a.steps base base_may (subst (λ (n : Machine). AllEnabled n a.steps) (sym base_is) a.may)
 
   device_same : settled.device ≡ taken.device
   device_same = device_then laws s taken settled booked takes replies settles m reached is
 
-  backed : IsBacked s.device new.device m steps
-  backed = laws.below.backed_parts s.device taken.device new.device m base a.steps
-      (laws.below.backed_parts s.device taken.device taken.device m begun f.steps r.backed (f.backed taken.device))
-      (subst (λ (n : Machine). IsBacked taken.device new.device n a.steps) (sym base_is) (subst (λ (d : Device). IsBacked d new.device z a.steps) device_same a.backed))
+  backed : TapeBacksSteps s.device new.device m steps
+  backed = laws.prerequisites.backed_parts s.device taken.device new.device m base a.steps
+      (laws.prerequisites.backed_parts s.device taken.device taken.device m begun f.steps r.backed (f.backed taken.device))
+      (subst (λ (n : Machine). TapeBacksSteps taken.device new.device n a.steps) (sym base_is) (subst (λ (d : Device). TapeBacksSteps d new.device z a.steps) device_same a.backed))
 
   stands_new : MachineRelation new (after m steps)
   stands_new = subst (MachineRelation new) (sym whole_is) a.stands
@@ -154,51 +154,51 @@ module _ (laws : ResetLaws) (s taken settled new : ServerState) (replies : List 
   ports_new : ports_of new ≡ ports_of settled
   ports_new = ap (λ (c : ServerState). ports_of c) a.settings
 
-  found_new : (port : ℕ) → probe_result_of new.ports port ≡ probe_result_of settled.ports port
-  found_new port = ap (λ (c : ServerState). probe_result_of c.ports port) a.settings
+  found_new : (port : ℕ) → probe_result_of new.probe_results port ≡ probe_result_of settled.probe_results port
+  found_new port = ap (λ (c : ServerState). probe_result_of c.probe_results port) a.settings
 
-  found_taken : (port : ℕ) → probe_result_of settled.ports port ≡ probe_result_of taken.ports port
-  found_taken port = ap (λ (c : ServerState). probe_result_of c.ports port) f.settings
+  found_taken : (port : ℕ) → probe_result_of settled.probe_results port ≡ probe_result_of taken.probe_results port
+  found_taken port = ap (λ (c : ServerState). probe_result_of c.probe_results port) f.settings
 
   -- the disk that is remembered is the one that the port was last ready with
   remembered_new : (port : Port) → remembered_at new.remembered port.0 ≡ last_disk_in s port
-  remembered_new port = ap (λ (c : ServerState). remembered_at c.remembered port.0) (a.settings ∙ ap (λ (c : ServerState). record c { device = new.device; slots = new.slots; book = new.book }) f.settings) ∙ takes.remembered port.0
+  remembered_new port = ap (λ (c : ServerState). remembered_at c.remembered port.0) (a.settings ∙ ap (λ (c : ServerState). record c { device = new.device; slots = new.slots; book = new.book }) f.settings) ∙ takes.last_disks_are_remembered port.0
 
   -- with another state than Ready it shows the same disk
-  shows_same : (port : Port) → (ports_of new).state port ≢ ReadyState → SameDisk (ports_of s) (ports_of new) port
+  shows_same : (port : Port) → (ports_of new).state port ≢ ReadyState → SameSerialAndSize (ports_of s) (ports_of new) port
   shows_same port other =
-      let disk : last_disk_in new port ≡ last_disk_in s port = remembers (probe_result_of new.ports port.0) (remembered_at new.remembered port.0) other ∙ remembered_new port in
+      let disk : last_disk_in new port ≡ last_disk_in s port = remembers (probe_result_of new.probe_results port.0) (remembered_at new.remembered port.0) other ∙ remembered_new port in
       (ap last_serial_of disk, ap last_sectors_of disk)
 
   -- a port is served as it was
-  served_same : (port : ℕ) → is_served (probe_result_of taken.ports port) ≡ is_served (probe_result_of s.ports port)
+  served_same : (port : ℕ) → is_served (probe_result_of taken.probe_results port) ≡ is_served (probe_result_of s.probe_results port)
   served_same port = ⊎_elim
       (λ (low : port < 4). by_device low)
       (λ (high : 4 ≤ port). ap is_served (ap (λ (ports : List ProbeResult). probe_result_of ports port) (ports_are laws s taken settled booked takes replies settles m reached is)
-      ∙ none_past takes.host.ports port (let four = takes.four in omega (arith, four, high)))
-      ∙ sym (not_served port high (is_served (probe_result_of s.ports port)) refl))
+      ∙ none_past takes.host.ports port (let four = takes.host_has_four_ports in omega (arith, four, high)))
+      ∙ sym (not_served port high (is_served (probe_result_of s.probe_results port)) refl))
       (cases_lt port 4)
     where
-      not_served : (q : ℕ) → 4 ≤ q → (b : Bool) → is_served (probe_result_of s.ports q) ≡ b → is_served (probe_result_of s.ports q) ≡ false
+      not_served : (q : ℕ) → 4 ≤ q → (b : Bool) → is_served (probe_result_of s.probe_results q) ≡ b → is_served (probe_result_of s.probe_results q) ≡ false
       not_served q high false its = its
-      not_served q high true its = let low = booked.few_are_served q its in absurd (omega (arith, low, high))
+      not_served q high true its = let low = booked.served_are_below_4 q its in absurd (omega (arith, low, high))
 
       pi_same : taken.device.pi ≡ s.device.pi
-      pi_same = takes.takes.adapter_is_kept.pi ∙ takes.resets.adapter_is_kept.pi
+      pi_same = takes.takes_over.adapter_is_kept.pi ∙ takes.resets.adapter_is_kept.pi
 
-      by_device : port < 4 → is_served (probe_result_of taken.ports port) ≡ is_served (probe_result_of s.ports port)
-      by_device low = alike (probe_result_of takes.host.ports port) (ap (λ (ports : List ProbeResult). probe_result_of ports port) (ports_are laws s taken settled booked takes replies settles m reached is)) (takes.takes.results_are_backed port low)
+      by_device : port < 4 → is_served (probe_result_of taken.probe_results port) ≡ is_served (probe_result_of s.probe_results port)
+      by_device low = alike (probe_result_of takes.host.ports port) (ap (λ (ports : List ProbeResult). probe_result_of ports port) (ports_are laws s taken settled booked takes replies settles m reached is)) (takes.takes_over.results_are_backed port low)
         where
-          over : IsServed (wanted_of s.wanted port) port taken.device → is_served (probe_result_of s.ports port) ≡ true
-          over served = (booked.served port low).1 (served.0, ap (λ (pi : ℕ). bit pi port) (sym pi_same) ∙ served.1)
+          over : IsServed (wanted_of s.wanted port) port taken.device → is_served (probe_result_of s.probe_results port) ≡ true
+          over served = (booked.served_iff_wanted_and_there port low).1 (served.0, ap (λ (pi : ℕ). bit pi port) (sym pi_same) ∙ served.1)
 
-          none : (IsServed (wanted_of s.wanted port) port taken.device → ⊥) → is_served (probe_result_of s.ports port) ≡ false
+          none : (IsServed (wanted_of s.wanted port) port taken.device → ⊥) → is_served (probe_result_of s.probe_results port) ≡ false
           none not = ⊎_elim
-              (λ (so : is_served (probe_result_of s.ports port) ≡ true). let served = (booked.served port low).0 so in absurd (not (served.0, ap (λ (pi : ℕ). bit pi port) pi_same ∙ served.1)))
-              (λ (not_so : is_served (probe_result_of s.ports port) ≡ false). not_so)
-              (cases_Bool (is_served (probe_result_of s.ports port)))
+              (λ (so : is_served (probe_result_of s.probe_results port) ≡ true). let served = (booked.served_iff_wanted_and_there port low).0 so in absurd (not (served.0, ap (λ (pi : ℕ). bit pi port) pi_same ∙ served.1)))
+              (λ (not_so : is_served (probe_result_of s.probe_results port) ≡ false). not_so)
+              (cases_Bool (is_served (probe_result_of s.probe_results port)))
 
-          alike : (found : ProbeResult) → probe_result_of taken.ports port ≡ found → BacksProbeResult (wanted_of s.wanted port) found port taken.device → is_served (probe_result_of taken.ports port) ≡ is_served (probe_result_of s.ports port)
+          alike : (found : ProbeResult) → probe_result_of taken.probe_results port ≡ found → BacksProbeResult (wanted_of s.wanted port) found port taken.device → is_served (probe_result_of taken.probe_results port) ≡ is_served (probe_result_of s.probe_results port)
           alike Unserved update_if_id stood = ap is_served update_if_id ∙ sym (none stood.0)
           alike (Ready info) update_if_id stood = ap is_served update_if_id ∙ sym (over stood.0)
           alike (Unready state) update_if_id stood = ap is_served update_if_id ∙ sym (over stood.0)
@@ -209,36 +209,36 @@ module _ (laws : ResetLaws) (s taken settled new : ServerState) (replies : List 
   of_served : (e : Pending) (disposition : Disposition) → HasFate taken e disposition → (ports_of s).served e.request.port ≡ true
   of_served e disposition has =
       let here : Contains s.book has.from.was = subst (λ (book : List BookEntry). Contains book has.from.was) (ap (λ (c : ServerState). c.book) takes.server_is) has.from.there in
-      subst (λ (p : Port). is_served (probe_result_of s.ports p.0) ≡ true) (sym (has.entry.port ∙ has.from.port))
-      (All-contains (λ (x : BookEntry). is_served (probe_result_of s.ports x.entry.port.0) ≡ true) s.book has.from.was booked.requests_are_of_served_ports here)
+      subst (λ (p : Port). is_served (probe_result_of s.probe_results p.0) ≡ true) (sym (has.entry.port ∙ has.from.port))
+      (All-contains (λ (x : BookEntry). is_served (probe_result_of s.probe_results x.request.port.0) ≡ true) s.book has.from.was booked.requests_are_of_served_ports here)
 
   -- its port is what it expects
-  expects_new : (e : Pending) (disposition : Disposition) (has : HasFate taken e disposition) → IsResetRevalidation (last_disk_in s e.request.port) (probe_result_of new.ports e.request.port.0) has.revalidation
+  expects_new : (e : Pending) (disposition : Disposition) (has : HasFate taken e disposition) → IsResetRevalidation (last_disk_in s e.request.port) (probe_result_of new.probe_results e.request.port.0) has.revalidation
   expects_new e disposition has = subst (λ (found : ProbeResult). IsResetRevalidation (last_disk_in s e.request.port) found has.revalidation) (sym (found_new e.request.port.0 ∙ found_taken e.request.port.0))
-      (subst (λ (disk : Option DiskInfo). IsResetRevalidation disk (probe_result_of taken.ports e.request.port.0) has.revalidation) (takes.remembered e.request.port.0) has.expects)
+      (subst (λ (disk : Option DiskInfo). IsResetRevalidation disk (probe_result_of taken.probe_results e.request.port.0) has.revalidation) (takes.last_disks_are_remembered e.request.port.0) has.expects)
 
   -- a port with the disk that it had
-  module _ (port : Port) (expects : IsResetRevalidation (last_disk_in s port) (probe_result_of new.ports port.0) Same) where
+  module _ (port : Port) (expects : IsResetRevalidation (last_disk_in s port) (probe_result_of new.probe_results port.0) Same) where
     is_ready : (ports_of new).state port ≡ ReadyState
     is_ready = ap state_of expects.3
 
-    same_disk : SameDisk (ports_of s) (ports_of new) port
+    same_disk : SameSerialAndSize (ports_of s) (ports_of new) port
     same_disk =
         let now_is : last_disk_in new port ≡ Some expects.1 = ap (λ (found : ProbeResult). last_disk_of found (remembered_at new.remembered port.0)) expects.3 in
         (ap last_serial_of now_is ∙ expects.4.0 ∙ sym (ap last_serial_of expects.2), ap last_sectors_of now_is ∙ expects.4.1 ∙ sym (ap last_sectors_of expects.2))
 
   -- one with another
-  module _ (port : Port) (expects : IsResetRevalidation (last_disk_in s port) (probe_result_of new.ports port.0) DiskLost) where
+  module _ (port : Port) (expects : IsResetRevalidation (last_disk_in s port) (probe_result_of new.probe_results port.0) DiskLost) where
     not_dead : (ports_of new).state port ≢ Dead
-    not_dead dead = expects.0 (dead_found (probe_result_of new.ports port.0) dead)
+    not_dead dead = expects.0 (dead_found (probe_result_of new.probe_results port.0) dead)
 
-    other_disk : (ports_of new).state port ≡ ReadyState → SameDisk (ports_of s) (ports_of new) port → ⊥
+    other_disk : (ports_of new).state port ≡ ReadyState → SameSerialAndSize (ports_of s) (ports_of new) port → ⊥
     other_disk ready alike = by_disk (last_disk_in s port) refl
       where
         new_kept : InCallInvariant new
         new_kept = a.kept
 
-        found : (port.0 < 4) × ((info : DiskInfo) × (probe_result_of new.ports port.0 ≡ Ready info))
+        found : (port.0 < 4) × ((info : DiskInfo) × (probe_result_of new.probe_results port.0 ≡ Ready info))
         found = ready_found new port.0 new_kept ready
 
         info : DiskInfo
@@ -267,21 +267,21 @@ module _ (laws : ResetLaws) (s taken settled new : ServerState) (replies : List 
   again_ready : (e : Pending) → Contains f.steps (WaitAgain e) → (ports_of new).state e.request.port ≡ ReadyState
   again_ready e here =
       let has = f.again e here in
-      is_ready e.request.port (subst (IsResetRevalidation (last_disk_in s e.request.port) (probe_result_of new.ports e.request.port.0)) (why_again None has.revalidation has.request.entry has.disposition) (expects_new e Requeue has))
+      is_ready e.request.port (subst (IsResetRevalidation (last_disk_in s e.request.port) (probe_result_of new.probe_results e.request.port.0)) (why_again None has.revalidation has.request.request has.disposition) (expects_new e Requeue has))
 
-  gives_up : (e : Pending) (o : Outcome) → Contains f.steps (Answer e o) → EndsUndone o
+  gives_up : (e : Pending) (o : Outcome) → Contains f.steps (Answer e o) → IsOfUndoneRequest o
   gives_up e o here =
       let has = f.answered e o here in
       ⊎_elim
       (λ named. let none : None ≡ Some named.0 = named.1 in absurd cc)
       (λ rest. ⊎_elim
-      (λ aborted. subst EndsUndone (sym aborted.3) tt)
+      (λ aborted. subst IsOfUndoneRequest (sym aborted.3) tt)
       (λ rest. ⊎_elim
-      (λ gone. subst EndsUndone (sym gone.1) tt)
-      (λ rest. ⊎_elim (λ dead. subst EndsUndone (sym dead.1) tt) (λ revoked. subst EndsUndone (sym revoked.3) tt) rest)
+      (λ gone. subst IsOfUndoneRequest (sym gone.1) tt)
+      (λ rest. ⊎_elim (λ dead. subst IsOfUndoneRequest (sym dead.1) tt) (λ revoked. subst IsOfUndoneRequest (sym revoked.3) tt) rest)
       rest)
       rest)
-      (why None has.revalidation has.request.entry o has.disposition)
+      (why None has.revalidation has.request.request o has.disposition)
 
   begun_belong : AreStepsOfCall {D = DeviceStep} Reset (ports_of new) begun
   begun_belong = belong_join Reset (ports_of new) r.second (Release ∷ r.first) (devices_belong {D = DeviceStep} Reset (ports_of new) r.second r.second_only)
@@ -302,7 +302,7 @@ module _ (laws : ResetLaws) (s taken settled new : ServerState) (replies : List 
   base_none : (id : RequestId) → list_any (issues_id id) base ≡ false
   base_none id = any_append (issues_id id) f.steps begun ∙ ap (λ (b : Bool). b || list_any (issues_id id) begun) (decided_none id f.steps f.decides) ∙ begun_none id
 
-  last : IssuesLast steps
+  last : IssueIsLastOfRequest steps
   last = last_then a.steps base a.last (none_last base base_none) base_none
 
   -- who is answered is in the steps that decide
@@ -324,11 +324,11 @@ module _ (laws : ResetLaws) (s taken settled new : ServerState) (replies : List 
   -- ---- its answers are lawful
 
   -- an issued request that has a fate was issued when the call began
-  was_issued : (e : Pending) (o : Outcome) → Contains f.steps (Answer e o) → e.issued ≡ true → WasIssued m e.request.id
-  was_issued e o here = answered_issued laws.below (ports_of new) m base base_belong base_may base_none e o (Contains-append_left f.steps begun (Answer e o) here)
+  was_issued : (e : Pending) (o : Outcome) → Contains f.steps (Answer e o) → e.issued ≡ true → IsIssuedInBook m e.request.id
+  was_issued e o here = answered_issued laws.prerequisites (ports_of new) m base base_belong base_may base_none e o (Contains-append_left f.steps begun (Answer e o) here)
 
   is_lawful : (e : Pending) (o : Outcome) → Contains f.steps (Answer e o) → IsLawfulAnswer was by.evidence (ports_of new) e o
-  is_lawful e o here = because (why None has.revalidation has.request.entry o has.disposition)
+  is_lawful e o here = because (why None has.revalidation has.request.request o has.disposition)
     where
       has : HasFate taken e (Complete o)
       has = f.answered e o here
@@ -336,17 +336,17 @@ module _ (laws : ResetLaws) (s taken settled new : ServerState) (replies : List 
       stopped : Contains by.evidence.stopped e.request.port
       stopped = by.stopped e.request.port (of_served e (Complete o) has)
 
-      expects : (p : Revalidation) → has.revalidation ≡ p → IsResetRevalidation (last_disk_in s e.request.port) (probe_result_of new.ports e.request.port.0) p
-      expects p update_if_id = subst (IsResetRevalidation (last_disk_in s e.request.port) (probe_result_of new.ports e.request.port.0)) update_if_id (expects_new e (Complete o) has)
+      expects : (p : Revalidation) → has.revalidation ≡ p → IsResetRevalidation (last_disk_in s e.request.port) (probe_result_of new.probe_results e.request.port.0) p
+      expects p update_if_id = subst (IsResetRevalidation (last_disk_in s e.request.port) (probe_result_of new.probe_results e.request.port.0)) update_if_id (expects_new e (Complete o) has)
 
       goes_on : has.revalidation ≡ Same → IsReadyAgain was by.evidence (ports_of new) e.request.port
       goes_on as_before = (
         is_ready e.request.port (expects Same as_before),
         stopped,
-        subst (λ (ports : Ports). SameDisk ports (ports_of new) e.request.port) (sym same) (same_disk e.request.port (expects Same as_before)),
+        subst (λ (ports : Ports). SameSerialAndSize ports (ports_of new) e.request.port) (sym same) (same_disk e.request.port (expects Same as_before)),
       )
 
-      because : Why None has.revalidation has.request.entry o → IsLawfulAnswer was by.evidence (ports_of new) e o
+      because : Why None has.revalidation has.request.request o → IsLawfulAnswer was by.evidence (ports_of new) e o
       because (inl named) = let none : None ≡ Some named.0 = named.1 in absurd cc
       because (inr (inl aborted)) = subst (IsLawfulAnswer was by.evidence (ports_of new) e) (sym aborted.3) (
         was_issued e o here (has.entry.issued ∙ aborted.1),
@@ -360,7 +360,7 @@ module _ (laws : ResetLaws) (s taken settled new : ServerState) (replies : List 
       because (inr (inr (inr (inl dead)))) = subst (IsLawfulAnswer was by.evidence (ports_of new) e) (sym dead.1) (ap state_of (expects NoEnd dead.0))
       because (inr (inr (inr (inr revoked)))) = subst (IsLawfulAnswer was by.evidence (ports_of new) e) (sym revoked.3) (inr (goes_on revoked.0))
 
-  lawful : AllAnswersLawful was by.evidence (ports_of new) steps
+  lawful : AnswersAndWaitsLawful was by.evidence (ports_of new) steps
   lawful = lawful_join was by.evidence (ports_of new) a.steps base (reissued_lawful (ports_of settled) was by.evidence (ports_of new) a.steps a.only)
       (lawful_join was by.evidence (ports_of new) f.steps begun
       (decided_lawful was by.evidence (ports_of new) f.steps f.decides is_lawful (λ e here. by.stopped e.request.port (of_served e Requeue (f.again e here))))
@@ -369,7 +369,7 @@ module _ (laws : ResetLaws) (s taken settled new : ServerState) (replies : List 
   -- ---- what it says and does
 
   tells : RepliesMatch steps replies
-  tells = record { answers = f.answers; is_permutation = subst (IsPermutation f.answers) (sym answers_are) f.permuted; ordered = f.ordered; replies_are = f.told }
+  tells = record { answers = f.answers; is_permutation = subst (IsPermutation f.answers) (sym answers_are) f.permuted; ordered = f.ordered; replies_are_of_answers = f.told }
     where
       begun_answers : answers_of begun ≡ []
       begun_answers = answers_append r.second (Release ∷ r.first) ∙ ap (λ (list : List (Pending × Outcome)). list ++ answers_of (Release ∷ r.first)) (devices_answers r.second r.second_only) ∙ devices_answers r.first r.first_only
@@ -383,59 +383,59 @@ module _ (laws : ResetLaws) (s taken settled new : ServerState) (replies : List 
   releases = record {
     later = a.steps ++ (f.steps ++ r.second);
     earlier = r.first;
-    split = ap (λ (list : List Step). a.steps ++ list) (sym (append_assoc f.steps r.second (Release ∷ r.first))) ∙ sym (append_assoc a.steps (f.steps ++ r.second) (Release ∷ r.first));
-    before = r.first_only;
-    once = none_released (a.steps ++ (f.steps ++ r.second)) (All-append KeepsLoans a.steps (f.steps ++ r.second)
+    release_splits_steps = ap (λ (list : List Step). a.steps ++ list) (sym (append_assoc f.steps r.second (Release ∷ r.first))) ∙ sym (append_assoc a.steps (f.steps ++ r.second) (Release ∷ r.first));
+    earlier_are_by_device = r.first_only;
+    no_other_release = none_released (a.steps ++ (f.steps ++ r.second)) (All-append KeepsLoans a.steps (f.steps ++ r.second)
         (All-weaker (IsReissue (ports_of settled)) KeepsLoans (reissue_keeps (ports_of settled)) a.steps a.only)
         (All-append KeepsLoans f.steps r.second (All-weaker Decides KeepsLoans decides_keeps f.steps f.decides) (devices_keep r.second r.second_only)));
   }
 
   -- where one is told that its disk has gone, its port has another, or none
-  unplugged_expects : (e : Pending) → Contains steps (Answer e outcome.Unplugged) → IsResetRevalidation (last_disk_in s e.request.port) (probe_result_of new.ports e.request.port.0) DiskLost
-  unplugged_expects e here = because (why None has.revalidation has.request.entry outcome.Unplugged has.disposition)
+  unplugged_expects : (e : Pending) → Contains steps (Answer e outcome.Unplugged) → IsResetRevalidation (last_disk_in s e.request.port) (probe_result_of new.probe_results e.request.port.0) DiskLost
+  unplugged_expects e here = because (why None has.revalidation has.request.request outcome.Unplugged has.disposition)
     where
       has : HasFate taken e (Complete outcome.Unplugged)
       has = f.answered e outcome.Unplugged (answer_in e outcome.Unplugged here)
 
-      because : Why None has.revalidation has.request.entry outcome.Unplugged → IsResetRevalidation (last_disk_in s e.request.port) (probe_result_of new.ports e.request.port.0) DiskLost
+      because : Why None has.revalidation has.request.request outcome.Unplugged → IsResetRevalidation (last_disk_in s e.request.port) (probe_result_of new.probe_results e.request.port.0) DiskLost
       because (inl x) = let y : outcome.Unplugged ≡ outcome.DeviceError x.0.status x.0.error = x.3 in absurd cc
       because (inr (inl x)) = let y : outcome.Unplugged ≡ outcome.Aborted = x.3 in absurd cc
-      because (inr (inr (inl x))) = subst (IsResetRevalidation (last_disk_in s e.request.port) (probe_result_of new.ports e.request.port.0)) x.0 (expects_new e (Complete outcome.Unplugged) has)
+      because (inr (inr (inl x))) = subst (IsResetRevalidation (last_disk_in s e.request.port) (probe_result_of new.probe_results e.request.port.0)) x.0 (expects_new e (Complete outcome.Unplugged) has)
       because (inr (inr (inr (inl x)))) = let y : outcome.Unplugged ≡ outcome.PortDead = x.1 in absurd cc
       because (inr (inr (inr (inr x)))) = let y : outcome.Unplugged ≡ outcome.Revoked = x.3 in absurd cc
 
-  dead_expects : (e : Pending) → Contains steps (Answer e outcome.PortDead) → probe_result_of new.ports e.request.port.0 ≡ Unready Dead
-  dead_expects e here = because (why None has.revalidation has.request.entry outcome.PortDead has.disposition)
+  dead_expects : (e : Pending) → Contains steps (Answer e outcome.PortDead) → probe_result_of new.probe_results e.request.port.0 ≡ Unready Dead
+  dead_expects e here = because (why None has.revalidation has.request.request outcome.PortDead has.disposition)
     where
       has : HasFate taken e (Complete outcome.PortDead)
       has = f.answered e outcome.PortDead (answer_in e outcome.PortDead here)
 
-      because : Why None has.revalidation has.request.entry outcome.PortDead → probe_result_of new.ports e.request.port.0 ≡ Unready Dead
+      because : Why None has.revalidation has.request.request outcome.PortDead → probe_result_of new.probe_results e.request.port.0 ≡ Unready Dead
       because (inl x) = let y : outcome.PortDead ≡ outcome.DeviceError x.0.status x.0.error = x.3 in absurd cc
       because (inr (inl x)) = let y : outcome.PortDead ≡ outcome.Aborted = x.3 in absurd cc
       because (inr (inr (inl x))) = let y : outcome.PortDead ≡ outcome.Unplugged = x.1 in absurd cc
       because (inr (inr (inr (inr x)))) = let y : outcome.PortDead ≡ outcome.Revoked = x.3 in absurd cc
-      because (inr (inr (inr (inl x)))) = subst (IsResetRevalidation (last_disk_in s e.request.port) (probe_result_of new.ports e.request.port.0)) x.0 (expects_new e (Complete outcome.PortDead) has)
+      because (inr (inr (inr (inl x)))) = subst (IsResetRevalidation (last_disk_in s e.request.port) (probe_result_of new.probe_results e.request.port.0)) x.0 (expects_new e (Complete outcome.PortDead) has)
 
   -- who is left is of a port that has its disk
-  left_has : (e : Pending) → Contains (after m steps).book e → HasItsDisk settled.remembered settled.ports e.request.port.0
+  left_has : (e : Pending) → Contains (after m steps).book e → HasItsDisk settled.remembered settled.probe_results e.request.port.0
   left_has e here =
       let h = at_right EntryRelation new.book (after m steps).book stands_new.book e here in
       let w = a.from h.0 h.1 in
-      subst (λ (p : Port). HasItsDisk settled.remembered settled.ports p.0) (sym (h.2.port ∙ w.port)) (its_disk laws s taken settled booked takes replies settles m reached is w.was w.there)
+      subst (λ (p : Port). HasItsDisk settled.remembered settled.probe_results p.0) (sym (h.2.port ∙ w.port)) (its_disk laws s taken settled booked takes replies settles m reached is w.was w.there)
 
-  left_expects : (e : Pending) → Contains (after m steps).book e → IsResetRevalidation (last_disk_in s e.request.port) (probe_result_of new.ports e.request.port.0) Same
+  left_expects : (e : Pending) → Contains (after m steps).book e → IsResetRevalidation (last_disk_in s e.request.port) (probe_result_of new.probe_results e.request.port.0) Same
   left_expects e here =
       let has = left_has e here in
       (has.0, has.1, sym (remembered_new e.request.port) ∙ ap (λ (c : ServerState). remembered_at c.remembered e.request.port.0) a.settings ∙ has.2, found_new e.request.port.0 ∙ has.3, has.4)
 
-  unplugs : AnswersAllUnplugged steps (after m steps)
+  unplugs : UnpluggedEmptiesPort steps (after m steps)
   unplugs = record {
     none_is_left = λ e other here there own.
         let lost = unplugged_expects e here in
-        let has = subst (λ (p : Port). IsResetRevalidation (last_disk_in s p) (probe_result_of new.ports p.0) Same) own (left_expects other there) in
+        let has = subst (λ (p : Port). IsResetRevalidation (last_disk_in s p) (probe_result_of new.probe_results p.0) Same) own (left_expects other there) in
         lost.1 has.0 has.1 has.2 has.3 has.4;
-    none_is_told_dead = λ e other here there own. (unplugged_expects e here).0 (ap (λ (p : Port). probe_result_of new.ports p.0) (sym own) ∙ dead_expects other there);
+    none_is_told_dead = λ e other here there own. (unplugged_expects e here).0 (ap (λ (p : Port). probe_result_of new.probe_results p.0) (sym own) ∙ dead_expects other there);
   }
 
   finds : UnpluggedLostDisk steps (ports_of s) (ports_of new)
@@ -446,12 +446,12 @@ module _ (laws : ResetLaws) (s taken settled new : ServerState) (replies : List 
   anew port e here own issued = ⊎_elim
       (λ late. issued_late e.request.id a.steps base late)
       (λ before. absurd (none_before before))
-      (issued_from laws.below (ports_of new) z a.steps late_belong e (subst (λ (n : Machine). Contains n.book e) whole_is here) issued)
+      (issued_from laws.prerequisites (ports_of new) z a.steps late_belong e (subst (λ (n : Machine). Contains n.book e) whole_is here) issued)
     where
-      none_before : WasIssued z e.request.id → ⊥
+      none_before : IsIssuedInBook z e.request.id → ⊥
       none_before w =
           let h = at_right EntryRelation settled.book z.book stands.book w.pending w.is_in_book in
-          let ready : state_of (probe_result_of settled.ports w.pending.request.port.0) ≡ ReadyState = ap (λ (p : Port). state_of (probe_result_of settled.ports p.0)) h.2.port ∙ of_ready settled kept h.0 h.1 in
+          let ready : state_of (probe_result_of settled.probe_results w.pending.request.port.0) ≡ ReadyState = ap (λ (p : Port). state_of (probe_result_of settled.probe_results p.0)) h.2.port ∙ of_ready settled kept h.0 h.1 in
           let slot = issued_has settled z w.pending.request.port stands kept ready w.pending w.is_in_book refl w.issued in
           let y : None ≡ Some slot.used = sym (unused_then laws s taken settled booked takes replies settles m reached is w.pending.request.port.0 slot.slot) ∙ slot.used_is in absurd cc
 
@@ -460,9 +460,9 @@ module _ (laws : ResetLaws) (s taken settled new : ServerState) (replies : List 
 
   becomes : (port : Port) → MayBecome (ports_of s) by.evidence (ports_of new) port
   becomes port = record {
-    served_is_kept = ap is_served (found_new port.0 ∙ found_taken port.0) ∙ served_same port.0;
+    served_is_unchanged = ap is_served (found_new port.0 ∙ found_taken port.0) ∙ served_same port.0;
     dead_is_stuck = (by.stuck_all port, by.stuck_only port);
-    disk_is_kept = shows_same port;
+    disk_is_remembered = shows_same port;
   }
 
   abbrev end : AbstractState
@@ -475,30 +475,30 @@ module _ (laws : ResetLaws) (s taken settled new : ServerState) (replies : List 
 
   -- a port that shows a disk had one in at some moment
   had : (port : Port) → ShownDiskWasInOrCame (abstract_state_of s m) steps end port
-  had port shows = had_disk laws.below port s saw.seen new.device m saw.accesses saw.does saw.present is (laws.below.looks.tape.grows_more saw.seen taken.device new.device saw.later grows) steps backed
+  had port shows = had_disk laws.prerequisites port s saw.seen new.device m saw.accesses saw.does saw.present is (laws.prerequisites.port_event_laws.tape.growth_is_transitive saw.seen taken.device new.device saw.later grows) steps backed
     where
-      found_is : probe_result_of new.ports port.0 ≡ probe_result_of takes.host.ports port.0
+      found_is : probe_result_of new.probe_results port.0 ≡ probe_result_of takes.host.ports port.0
       found_is = found_new port.0 ∙ found_taken port.0 ∙ ap (λ (ports : List ProbeResult). probe_result_of ports port.0) (ports_are laws s taken settled booked takes replies settles m reached is)
 
       never : (state : ShownState) → probe_result_of takes.host.ports port.0 ≡ Unready state → state ≢ ReadyState
       never state update_if_id ready = ⊎_elim
           (λ (low : port.0 < 4). (subst (λ (x : ShownState). BacksProbeResult (wanted_of s.wanted port.0) (Unready x) port.0 taken.device) ready
-          (subst (λ (x : ProbeResult). BacksProbeResult (wanted_of s.wanted port.0) x port.0 taken.device) update_if_id (takes.takes.results_are_backed port.0 low))).1)
-          (λ (high : 4 ≤ port.0). absurd (let four = takes.four in let y : Unserved ≡ Unready state = sym (none_past takes.host.ports port.0 (omega (arith, four, high))) ∙ update_if_id in cc))
+          (subst (λ (x : ProbeResult). BacksProbeResult (wanted_of s.wanted port.0) x port.0 taken.device) update_if_id (takes.takes_over.results_are_backed port.0 low))).1)
+          (λ (high : 4 ≤ port.0). absurd (let four = takes.host_has_four_ports in let y : Unserved ≡ Unready state = sym (none_past takes.host.ports port.0 (omega (arith, four, high))) ∙ update_if_id in cc))
           (cases_lt port.0 4)
 
       grows : TapeGrows taken.device new.device
       grows = subst (λ (d : Device). TapeGrows d new.device) device_same (a.backed.new_entries, a.backed.tape_is)
 
       saw : SawDisk port s.device taken.device
-      saw = saw_before laws.below port takes.resets.followed.is_driven.accesses s.device takes.idle_device taken.device takes.resets.followed.is_driven.all_are_done
-          (taken_saw laws port (probe_result_of takes.host.ports port.0) never (subst (λ (x : ProbeResult). ShowsDisk (state_of x)) found_is shows) takes.host.ports takes.idle_device taken.device takes.resets.idle refl takes.takes.switches_on_and_boots)
+      saw = saw_before laws.prerequisites port takes.resets.followed.is_driven.accesses s.device takes.idle_device taken.device takes.resets.followed.is_driven.all_are_done
+          (taken_saw laws port (probe_result_of takes.host.ports port.0) never (subst (λ (x : ProbeResult). ShowsDisk (state_of x)) found_is shows) takes.host.ports takes.idle_device taken.device takes.resets.idle refl takes.takes_over.switches_on_and_boots)
 
   answered : AnswersReset (abstract_state_of s m) by.evidence steps replies end
   answered = record {
     replies_match = tells;
     releases_once = releases;
-    answers_all_unplugged = unplugs;
+    unplugged_empties_port = unplugs;
     unplugged_lost_disk = finds;
     none_is_due = λ port ready. none_due new (after m steps) stands_new (mode_in new port) port (new_settled.nothing_is_due port);
     empty_unless_ready = none_waits;
@@ -514,13 +514,13 @@ module _ (laws : ResetLaws) (s taken settled new : ServerState) (replies : List 
   instant_is : joint_state_of s m ≡ with_device s.device (joint_state_after first past)
   instant_is = ap (λ (abstract : AbstractState). record { device = s.device; abstract = abstract }) was_is
 
-  disks : UnansweredKeepDisk was end
-  disks e o here there same_id = subst (λ (ports : Ports). SameDisk ports (ports_of new) e.request.port) (sym same) (same_disk e.request.port (left_expects e here))
+  disks : UnansweredKeepSerialAndSize was end
+  disks e o here there same_id = subst (λ (ports : Ports). SameSerialAndSize ports (ports_of new) e.request.port) (sym same) (same_disk e.request.port (left_expects e here))
 
   evidenced : IsEvidenced Reset (WasReset (Some replies)) by.accesses (with_device s.device (joint_state_after first past)) (ports_of new) new.device by.evidence
   evidenced = record {
-    faults = λ told here. absurd (nowhere told (subst (λ list. Contains list told) by.faults here));
-    port = λ port. subst (λ (old : JointState Device). IsEvidencedOf Reset (WasReset (Some replies)) by.accesses old (ports_of new) new.device by.evidence port) instant_is (by.evidenced m port);
+    faults_are_told = λ told here. absurd (nowhere told (subst (λ list. Contains list told) by.faults here));
+    each_port_is_evidenced = λ port. subst (λ (old : JointState Device). IsEvidencedOf Reset (WasReset (Some replies)) by.accesses old (ports_of new) new.device by.evidence port) instant_is (by.evidenced m port);
   }
 
   port_part : (port : Port) → PortCorresponds (with_device s.device (joint_state_after first past)) (happening_with by.evidence new.device Reset (WasReset (Some replies)) steps (ports_of new)) by.accesses port
@@ -536,27 +536,27 @@ module _ (laws : ResetLaws) (s taken settled new : ServerState) (replies : List 
 
   due_then : (port : Port) → (ports_of new).state port ≡ ReadyState → IssuesDue (mode_in new port) steps (after m steps) port
   due_then port ready =
-      let there : state_of (probe_result_of settled.ports port.0) ≡ ReadyState = sym (ap state_of (found_new port.0)) ∙ ready in
+      let there : state_of (probe_result_of settled.probe_results port.0) ≡ ReadyState = sym (ap state_of (found_new port.0)) ∙ ready in
       subst (λ (mode : QueueMode). IssuesDue mode steps (after m steps) port) (sym (ap (λ (c : ServerState). mode_in c port) a.settings))
-      (dues_carried laws.below (mode_in settled port) a.steps steps (after z a.steps) (after m steps) port (ap (λ (n : Machine). requests_of_port port (map unanswered n.book)) (sym whole_is))
+      (dues_carried laws.prerequisites (mode_in settled port) a.steps steps (after z a.steps) (after m steps) port (ap (λ (n : Machine). requests_of_port port (map unanswered n.book)) (sym whole_is))
       (λ u here own. sym (any_append (issues_id u.id) a.steps base ∙ ap (λ (b : Bool). list_any (issues_id u.id) a.steps || b) (base_none u.id) ∙ or_none (list_any (issues_id u.id) a.steps)))
       (a.dues port (ready_found settled port.0 kept there).0 there))
 
-  pub reset_event : (h : JointEvent Device DeviceStep) × (h.event.ask ≡ Reset) × (h.event.said ≡ WasReset (Some replies)) × LeadsToServer first (h ∷ past) new
+  pub reset_event : (h : JointEvent Device DeviceStep) × (h.event.call ≡ Reset) × (h.event.result ≡ WasReset (Some replies)) × LeadsToServer first (h ∷ past) new
   reset_event =
-      lead_with laws.below first past s new Reset (WasReset (Some replies)) by.evidence steps
+      lead_with laws.prerequisites first past s new Reset (WasReset (Some replies)) by.evidence steps
       (ap (λ (c : ServerState). c.wanted) a.settings ∙ wanted_then laws s taken settled booked takes replies settles m reached is) leads (holding new a.kept) (kept_fit new a.kept)
       may belong last lawful disks
       (subst (λ (old : AbstractState). AnswersReset old by.evidence steps replies end) was_is answered)
       tt
       by.accesses
-      (by.does, by.own, subst (λ (ports : Ports). All (IsOfPorts (IsPortServed ports)) by.accesses) (sym same) by.of, by.begins, by.tells)
+      (by.does, by.own, subst (λ (ports : Ports). All (UsesPortRegistersOf (IsPortServed ports)) by.accesses) (sym same) by.of, by.begins, by.tells)
       evidenced due_then port_part backed stands_new
 
 -- ---- the whole
 
 pub resets_add_given : ResetLaws → (s new : ServerState) (replies : List Reply) → IsRebootedBy s new replies → ServerInvariant s → ResetsServer replies s new → ExtendsSettled s new Reset (WasReset (Some replies))
 resets_add_given laws s new replies by booked resets = record {
-  settled_invariant = settled_at_last laws s resets.taken resets.settled booked resets.takes replies resets.settles booked.machine booked.reached booked.machine_relation new resets.issues;
-  extends_history = λ first past leads. reset_event laws s resets.taken resets.settled new replies booked resets.takes resets.settles resets.issues by first past leads;
+  settled_invariant = settled_at_last laws s resets.server_after_take_over resets.server_after_resolving booked resets.is_reinitialized replies resets.resolves_each_port booked.machine booked.reached booked.machine_relation new resets.issues_on_each_ready_port;
+  extends_history = λ first past leads. reset_event laws s resets.server_after_take_over resets.server_after_resolving new replies booked resets.is_reinitialized resets.resolves_each_port resets.issues_on_each_ready_port by first past leads;
 }

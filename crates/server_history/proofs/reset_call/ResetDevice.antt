@@ -5,11 +5,11 @@ use Rattle.ata_types.specs.declared.PortState.TheVariants.{Dead, Ready}
 use Rattle.ata_types.specs.declared.request.Reply.{Reply}
 use Rattle.adapter.specs.Access.{Access, DoesAll}
 use Rattle.block_machine.specs.Events.{Reset, WasReset}
-use Rattle.block_machine.specs.Ports.{Evidence, SameDisk}
+use Rattle.block_machine.specs.Ports.{Evidence, SameSerialAndSize}
 use Rattle.block_machine.specs.State.{Machine}
 use Rattle.driver_history.specs.Evidence.{IsEvidencedOf}
 use Rattle.driver_history.specs.Histories.{BootsAnew, HasAeAndIe, LosesNoPortError, RunsWellAnew, IsPortServed}
-use Rattle.driver_history.specs.AccessTrace.{IsDriversOwn, IsOfPorts}
+use Rattle.driver_history.specs.AccessTrace.{StaysInDriverFrames, UsesPortRegistersOf}
 use Rattle.host_boot.specs.Resets.{BeginsReset}
 use Rattle.server_history.specs.ServerState.{ServerState, ports_of}
 use Rattle.server_history.specs.Turns.{joint_state_of}
@@ -20,8 +20,8 @@ use Rattle.server_history.specs.Turns.{joint_state_of}
 pub record IsRebootedBy (s new : ServerState) (replies : List Reply) : Type 0 where
   pub accesses : List Access
   pub does : DoesAll accesses s.device new.device
-  pub own : All IsDriversOwn accesses
-  pub of : All (IsOfPorts (IsPortServed (ports_of s))) accesses
+  pub own : All StaysInDriverFrames accesses
+  pub of : All (UsesPortRegistersOf (IsPortServed (ports_of s))) accesses
   pub begins : BeginsReset accesses
   pub tells : HasAeAndIe new.device
   pub evidence : Evidence
@@ -31,7 +31,7 @@ pub record IsRebootedBy (s new : ServerState) (replies : List Reply) : Type 0 wh
   pub stuck_all : (port : Port) → (ports_of new).state port ≡ Dead → Contains evidence.stuck port
   pub stuck_only : (port : Port) → Contains evidence.stuck port → (ports_of new).state port ≡ Dead
   pub lost_all : (port : Port) → (ports_of s).served port ≡ true → (ports_of new).state port ≢ Dead
-      → ((ports_of new).state port ≡ Ready → SameDisk (ports_of s) (ports_of new) port → ⊥) → Contains evidence.lost port
+      → ((ports_of new).state port ≡ Ready → SameSerialAndSize (ports_of s) (ports_of new) port → ⊥) → Contains evidence.lost port
   pub boots : (m : Machine) (port : Port) → BootsAnew Reset (WasReset (Some replies)) accesses (joint_state_of s m) (ports_of new) new.device port
   pub port_error : (m : Machine) (port : Port) → LosesNoPortError evidence (joint_state_of s m) (ports_of new) new.device port
   pub well : (m : Machine) (port : Port) → RunsWellAnew evidence accesses (joint_state_of s m) (ports_of new) new.device port

@@ -13,12 +13,12 @@ use Rattle.adapter.specs.Access.Access.{Loading, Reading, Storing, Writing}
 use Rattle.adapter.specs.Device.{Device, Notes}
 use Rattle.adapter.specs.Rules.{IsOn}
 use Rattle.block_machine.specs.Events.{Reset, WasReset}
-use Rattle.block_machine.specs.Ports.{Evidence, Ports, SameDisk}
+use Rattle.block_machine.specs.Ports.{Evidence, Ports, SameSerialAndSize}
 use Rattle.block_machine.specs.State.{Machine}
 use Rattle.driver_history.specs.Evidence.{IsEvidencedOf}
 use Rattle.driver_history.specs.Histories.{LosesNoPortError, RunsWellAnew, IsPortServed}
 use Rattle.driver_history.specs.PortTurn.{IsOfOtherPort}
-use Rattle.driver_history.specs.AccessTrace.{IsOfPorts, LeavesEngine, ResetsLink}
+use Rattle.driver_history.specs.AccessTrace.{UsesPortRegistersOf, LeavesEngine, ResetsLink}
 use Rattle.host_boot.specs.TakeOver.{BacksProbeResult, probe_result_of, wanted_of}
 use Rattle.host_boot.specs.declared.ProbeResult.{ProbeResult}
 use Rattle.host_boot.specs.declared.ProbeResult.TheVariants.{Unserved, Ready, Unready}
@@ -66,7 +66,7 @@ same_or_not (x ∷ xs) (y ∷ ys) = ⊎_elim
     (λ (other : x ≢ y). inr (λ e. other (let z : x ∷ xs ≡ y ∷ ys = e in cc)))
     (cases_eq x y)
 
-disk_or_not : (old new : Ports) (port : Port) → SameDisk old new port ⊎ (SameDisk old new port → ⊥)
+disk_or_not : (old new : Ports) (port : Port) → SameSerialAndSize old new port ⊎ (SameSerialAndSize old new port → ⊥)
 disk_or_not old new port = ⊎_elim
     (λ (serial : new.serial port ≡ old.serial port). ⊎_elim (λ (sectors : new.sectors port ≡ old.sectors port). inl (serial, sectors)) (λ other. inr (λ same. other same.1)) (cases_eq (new.sectors port) (old.sectors port)))
     (λ other. inr (λ same. other same.0))
@@ -75,10 +75,10 @@ disk_or_not old new port = ⊎_elim
 -- ---- accesses
 
 -- those of such ports stop no other one
-unserved_leaves : (Such : Port → Type 0) (port : Port) → (Such port → ⊥) → (access : Access) → IsOfPorts Such access → LeavesEngine port access
+unserved_leaves : (Such : Port → Type 0) (port : Port) → (Such port → ⊥) → (access : Access) → UsesPortRegistersOf Such access → LeavesEngine port access
 unserved_leaves Such port none (Reading r v) is = (tt, tt)
 unserved_leaves Such port none (Writing r v) is =
-    ((λ e. none (subst (λ (x : Reg). IsOfPorts Such (Writing x v)) e is)), (λ e. none (subst (λ (x : Reg). IsOfPorts Such (Writing x v)) e is)))
+    ((λ e. none (subst (λ (x : Reg). UsesPortRegistersOf Such (Writing x v)) e is)), (λ e. none (subst (λ (x : Reg). UsesPortRegistersOf Such (Writing x v)) e is)))
 unserved_leaves Such port none (Loading at bytes) is = (tt, tt)
 unserved_leaves Such port none (Storing at bytes) is = (tt, tt)
 
@@ -88,14 +88,14 @@ notes_over laws port [] old new on all is = ap (λ (d : Device). (d.port port.0)
 notes_over laws port (access ∷ list) old new on all (mid, does, rest) =
     let other = All-head (IsOfOtherPort port) access list all in
     let driven = by_one _ access old mid other.2 does in
-    notes_over laws port list mid new (laws.of_on other.0 old mid on driven) (All-tail (IsOfOtherPort port) access list all) rest
-    ∙ (laws.looks.other_left other.0 port.0 old mid other.1 on driven).notes
+    notes_over laws port list mid new (laws.one_port_keeps_adapter_on other.0 old mid on driven) (All-tail (IsOfOtherPort port) access list all) rest
+    ∙ (laws.port_event_laws.other_ports_are_left other.0 port.0 old mid other.1 on driven).notes
 
 -- ---- the whole
 
 module _ (laws : PrerequisiteLaws) (s new : ServerState) (replies : List Reply) (k : ServerInvariant s) (r : ResetsServer replies s new) where
-  abbrev t : IsReinitialized s r.taken
-  t = r.takes
+  abbrev t : IsReinitialized s r.server_after_take_over
+  t = r.is_reinitialized
 
   abbrev ports : List ProbeResult
   ports = t.host.ports
@@ -111,14 +111,14 @@ module _ (laws : PrerequisiteLaws) (s new : ServerState) (replies : List Reply) 
 
   -- ---- what a port is then
 
-  found_new : (port : ℕ) → probe_result_of new.ports port ≡ probe_result_of ports port
+  found_new : (port : ℕ) → probe_result_of new.probe_results port ≡ probe_result_of ports port
   found_new port = ap (λ (found : List ProbeResult). probe_result_of found port) (ports_new laws s new replies k r)
 
   low_found : (port : Port) → probe_result_of ports port.0 ≢ Unserved → port.0 < 4
   low_found port other = low_of laws s new replies k r port port.0 (omega arith) other
 
   dead_found : (port : Port) → new_ports.state port ≡ DeadState → probe_result_of ports port.0 ≡ Unready DeadState
-  dead_found port dead = sym (found_new port.0) ∙ dead_is (probe_result_of new.ports port.0) dead
+  dead_found port dead = sym (found_new port.0) ∙ dead_is (probe_result_of new.probe_results port.0) dead
 
   dead_low : (port : Port) → new_ports.state port ≡ DeadState → port.0 < 4
   dead_low port dead = low_found port (λ unserved. let z : Unready DeadState ≡ Unserved = sym (dead_found port dead) ∙ unserved in cc)
@@ -126,8 +126,8 @@ module _ (laws : PrerequisiteLaws) (s new : ServerState) (replies : List Reply) 
   -- no port is found unready in the state of a ready one
   never_ready : (port : Port) → probe_result_of ports port.0 ≡ Unready ReadyState → ⊥
   never_ready port is =
-      (subst (λ (f : ProbeResult). BacksProbeResult (wanted_of s.wanted port.0) f port.0 r.taken.device) is
-      (t.takes.results_are_backed port.0 (low_found port (λ unserved. let z : Unready ReadyState ≡ Unserved = sym is ∙ unserved in cc)))).1
+      (subst (λ (f : ProbeResult). BacksProbeResult (wanted_of s.wanted port.0) f port.0 r.server_after_take_over.device) is
+      (t.takes_over.results_are_backed port.0 (low_found port (λ unserved. let z : Unready ReadyState ≡ Unserved = sym is ∙ unserved in cc)))).1
 
   ready_info : (port : Port) → new_ports.state port ≡ ReadyState → (info : DiskInfo) × (probe_result_of ports port.0 ≡ Ready info)
   ready_info port ready = by (probe_result_of ports port.0) refl
@@ -144,9 +144,9 @@ module _ (laws : PrerequisiteLaws) (s new : ServerState) (replies : List Reply) 
   ready_low port info is = low_found port (λ unserved. let z : Ready info ≡ Unserved = sym is ∙ unserved in cc)
 
   served_ready : (port : Port) → old_ports.state port ≡ ReadyState → old_ports.served port ≡ true
-  served_ready port ready = by (probe_result_of s.ports port.0) refl
+  served_ready port ready = by (probe_result_of s.probe_results port.0) refl
     where
-      by : (f : ProbeResult) → probe_result_of s.ports port.0 ≡ f → is_served (probe_result_of s.ports port.0) ≡ true
+      by : (f : ProbeResult) → probe_result_of s.probe_results port.0 ≡ f → is_served (probe_result_of s.probe_results port.0) ≡ true
       by Unserved is = let z : Absent ≡ ReadyState = sym (ap state_of is) ∙ ready in absurd cc
       by (Ready info) is = ap is_served is
       by (Unready state) is = ap is_served is
@@ -155,7 +155,7 @@ module _ (laws : PrerequisiteLaws) (s new : ServerState) (replies : List Reply) 
 
   -- the port was served, and ends neither dead nor ready with its disk
   abbrev IsLostAnew : Port → Type 0
-  IsLostAnew port = (old_ports.served port ≡ true) × (new_ports.state port ≢ DeadState) × (new_ports.state port ≡ ReadyState → SameDisk old_ports new_ports port → ⊥)
+  IsLostAnew port = (old_ports.served port ≡ true) × (new_ports.state port ≢ DeadState) × (new_ports.state port ≡ ReadyState → SameSerialAndSize old_ports new_ports port → ⊥)
 
   lost_or_not : (port : Port) → IsLostAnew port ⊎ (IsLostAnew port → ⊥)
   lost_or_not port = ⊎_elim
@@ -180,7 +180,7 @@ module _ (laws : PrerequisiteLaws) (s new : ServerState) (replies : List Reply) 
   evidence = record (told_by s.device old_ports) { lost = chosen is_lost four; stopped = chosen old_ports.served four; stuck = chosen is_dead four }
 
   stopped_all : (port : Port) → old_ports.served port ≡ true → Contains evidence.stopped port
-  stopped_all port served = is_chosen old_ports.served four port (in_four port (k.few_are_served port.0 served)) served
+  stopped_all port served = is_chosen old_ports.served four port (in_four port (k.served_are_below_4 port.0 served)) served
 
   stuck_all : (port : Port) → new_ports.state port ≡ DeadState → Contains evidence.stuck port
   stuck_all port dead = is_chosen is_dead four port (in_four port (dead_low port dead)) (is_left_if (dead_or_not (new_ports.state port)) dead)
@@ -188,8 +188,8 @@ module _ (laws : PrerequisiteLaws) (s new : ServerState) (replies : List Reply) 
   stuck_only : (port : Port) → Contains evidence.stuck port → new_ports.state port ≡ DeadState
   stuck_only port here = left_is (dead_or_not (new_ports.state port)) (chosen_is is_dead four port here)
 
-  lost_all : (port : Port) → old_ports.served port ≡ true → new_ports.state port ≢ DeadState → (new_ports.state port ≡ ReadyState → SameDisk old_ports new_ports port → ⊥) → Contains evidence.lost port
-  lost_all port served lives other = is_chosen is_lost four port (in_four port (k.few_are_served port.0 served)) (is_left_if (lost_or_not port) (served, lives, other))
+  lost_all : (port : Port) → old_ports.served port ≡ true → new_ports.state port ≢ DeadState → (new_ports.state port ≡ ReadyState → SameSerialAndSize old_ports new_ports port → ⊥) → Contains evidence.lost port
+  lost_all port served lives other = is_chosen is_lost four port (in_four port (k.served_are_below_4 port.0 served)) (is_left_if (lost_or_not port) (served, lives, other))
 
   lost_only : (port : Port) → Contains evidence.lost port → IsLostAnew port
   lost_only port here = left_is (lost_or_not port) (chosen_is is_lost four port here)
@@ -210,31 +210,31 @@ module _ (laws : PrerequisiteLaws) (s new : ServerState) (replies : List Reply) 
           let number : n ≡ port.0 = omega (arith, at, same) in
           let z : Ready info ≡ Unready DeadState = sym is ∙ ap (probe_result_of ports) number ∙ dead_found port dead in
           cc),
-      laws.issuing_of q access its,
+      laws.batch_access_is_of_port q access its,
     )
 
     counted : (new.device.port port.0).notes.engine_count ≡ MOST_READINGS
     counted =
         let issuing = issues laws s new replies k r in
-        ap (λ (n : Notes). n.engine_count) (notes_over laws port issuing.accesses r.taken.device new.device t.takes.adapter_is_on (All-weaker (IsOfReady 0 ports) (IsOfOtherPort port) others issuing.accesses issuing.accesses_are_of_kind) issuing.all_are_done)
-        ∙ (subst (λ (f : ProbeResult). BacksProbeResult (wanted_of s.wanted port.0) f port.0 r.taken.device) (dead_found port dead) (t.takes.results_are_backed port.0 (dead_low port dead))).1.1
+        ap (λ (n : Notes). n.engine_count) (notes_over laws port issuing.accesses r.server_after_take_over.device new.device t.takes_over.adapter_is_on (All-weaker (IsOfReady 0 ports) (IsOfOtherPort port) others issuing.accesses issuing.accesses_are_of_kind) issuing.all_are_done)
+        ∙ (subst (λ (f : ProbeResult). BacksProbeResult (wanted_of s.wanted port.0) f port.0 r.server_after_take_over.device) (dead_found port dead) (t.takes_over.results_are_backed port.0 (dead_low port dead))).1.1
 
   -- ---- what is vouched for
 
   evidenced : (m : Machine) (port : Port) → IsEvidencedOf Reset (WasReset (Some replies)) list (joint_state_of s m) new_ports new.device evidence port
   evidenced m port =
-      let told = evidenced_of four Reset (WasReset (Some replies)) [] (joint_state_of s m) new_ports new.device port (λ ready. in_four port (k.few_are_served port.0 (served_ready port ready))) (All-nil (LeavesEngine port)) in
+      let told = evidenced_of four Reset (WasReset (Some replies)) [] (joint_state_of s m) new_ports new.device port (λ ready. in_four port (k.served_are_below_4 port.0 (served_ready port ready))) (All-nil (LeavesEngine port)) in
       record {
-        lost = λ here. let lost = lost_only port here in inr (inr (inr (lost.1, lost.2)));
+        lost_only = λ here. let lost = lost_only port here in inr (inr (inr (lost.1, lost.2)));
         link_changed_all = told.link_changed_all;
         link_changed_only = told.link_changed_only;
-        failed_all = told.failed_all;
-        failed_only = told.failed_only;
-        fatal_all = told.fatal_all;
-        fatal_only = told.fatal_only;
-        stopped_all = ⊎_elim
+        showing_error_all = told.showing_error_all;
+        showing_error_only = told.showing_error_only;
+        showing_fatal_error_all = told.showing_fatal_error_all;
+        showing_fatal_error_only = told.showing_fatal_error_only;
+        engine_is_left_or_stopped = ⊎_elim
             (λ (served : old_ports.served port ≡ true). inr (inl (stopped_all port served)))
-            (λ (none : old_ports.served port ≡ false). inl (All-weaker (IsOfPorts (IsPortServed old_ports)) (LeavesEngine port)
+            (λ (none : old_ports.served port ≡ false). inl (All-weaker (UsesPortRegistersOf (IsPortServed old_ports)) (LeavesEngine port)
             (unserved_leaves (IsPortServed old_ports) port (λ served. false≢true (sym none ∙ served))) list (of laws s new replies k r)))
             (cases_Bool (old_ports.served port));
         stopped_only = λ here. inr (tt, chosen_is old_ports.served four port here);
@@ -261,11 +261,11 @@ module _ (laws : PrerequisiteLaws) (s new : ServerState) (replies : List Reply) 
 
   port_error : (m : Machine) (port : Port) → LosesNoPortError evidence (joint_state_of s m) new_ports new.device port
   port_error m port = record {
-    errors = λ ready _. inl (inl (stopped_all port (served_ready port ready)));
-    changes = λ tends _. inl (inl (stopped_all port tends.0));
-    fault = λ ready. let its = ready_info port ready in (shows laws s new replies k r port (ready_low port its.0 its.1) its.0 its.1).fault_is_shown;
-    fatal = λ ready. let its = ready_info port ready in (shows laws s new replies k r port (ready_low port its.0 its.1) its.0 its.1).fatal_is_shown;
-    disk = λ ready. let its = ready_info port ready in (shows laws s new replies k r port (ready_low port its.0 its.1) its.0 its.1).plug_is_shown;
+    errors_are_handled_or_shown = λ ready _. inl (inl (stopped_all port (served_ready port ready)));
+    changes_are_handled_or_shown = λ tends _. inl (inl (stopped_all port tends.0));
+    new_fault_is_shown = λ ready. let its = ready_info port ready in (shows laws s new replies k r port (ready_low port its.0 its.1) its.0 its.1).fault_is_shown;
+    new_fatal_is_shown = λ ready. let its = ready_info port ready in (shows laws s new replies k r port (ready_low port its.0 its.1) its.0 its.1).fatal_is_shown;
+    new_plug_event_is_shown = λ ready. let its = ready_info port ready in (shows laws s new replies k r port (ready_low port its.0 its.1) its.0 its.1).plug_is_shown;
   }
 
   well : (m : Machine) (port : Port) → RunsWellAnew evidence list (joint_state_of s m) new_ports new.device port

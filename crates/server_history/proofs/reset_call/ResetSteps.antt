@@ -8,7 +8,7 @@ use Rattle.ata_types.specs.declared.PortState.TheVariants.{Ready as ReadyState}
 use Rattle.ata_types.specs.declared.request.Outcome.{Outcome}
 use Rattle.ata_types.specs.declared.request.RequestId.{RequestId}
 use Rattle.server_history.proofs.state.ListMembers.{at_cases, contains_cases, contains_there, map_in, without_in}
-use Rattle.block_machine.specs.Events.{AllByDevice, AllAnswersLawful, AllEnabled, AreStepsOfCall, EndsUndone, IsByDevice, IsIssuedIn, IsLawfulAnswer, IssuesLast, AbstractState, Reset, WasIssued, answers_of, is_release, issues_id}
+use Rattle.block_machine.specs.Events.{AllByDevice, AnswersAndWaitsLawful, AllEnabled, AreStepsOfCall, IsOfUndoneRequest, IsByDevice, IsIssuedIn, IsLawfulAnswer, IssueIsLastOfRequest, AbstractState, Reset, IsIssuedInBook, answers_of, is_release, issues_id}
 use Rattle.block_machine.specs.Expected.{after}
 use Rattle.block_machine.specs.Ports.{Evidence, Ports}
 use Rattle.block_machine.specs.State.{Machine, Pending}
@@ -28,7 +28,7 @@ decided_none id (Answer e o ∷ steps) all = decided_none id steps (All-tail Dec
 decided_none id (step ∷ steps) all = absurd (All-head Decides step steps all).1
 
 module _ (ports : Ports) where
-  pub decided_belong : (steps : List Step) → All Decides steps → ((e : Pending) (o : Outcome) → Contains steps (Answer e o) → EndsUndone o) → ((e : Pending) → Contains steps (WaitAgain e) → ports.state e.request.port ≡ ReadyState)
+  pub decided_belong : (steps : List Step) → All Decides steps → ((e : Pending) (o : Outcome) → Contains steps (Answer e o) → IsOfUndoneRequest o) → ((e : Pending) → Contains steps (WaitAgain e) → ports.state e.request.port ≡ ReadyState)
       → AreStepsOfCall {D = DeviceStep} Reset ports steps
   decided_belong [] all answer again = tt
   decided_belong (WaitAgain e ∷ steps) all answer again = (
@@ -42,7 +42,7 @@ module _ (ports : Ports) where
   decided_belong (step ∷ steps) all answer again = absurd (All-head Decides step steps all).1
 
 pub decided_lawful : (old : AbstractState) (evidence : Evidence) (ports : Ports) (steps : List Step) → All Decides steps → ((e : Pending) (o : Outcome) → Contains steps (Answer e o) → IsLawfulAnswer old evidence ports e o)
-    → ((e : Pending) → Contains steps (WaitAgain e) → Contains evidence.stopped e.request.port) → AllAnswersLawful old evidence ports steps
+    → ((e : Pending) → Contains steps (WaitAgain e) → Contains evidence.stopped e.request.port) → AnswersAndWaitsLawful old evidence ports steps
 decided_lawful old evidence ports [] all answer again = tt
 decided_lawful old evidence ports (WaitAgain e ∷ steps) all answer again = (
   decided_lawful old evidence ports steps (All-tail Decides (WaitAgain e) steps all) (λ x o there. answer x o (contains_there (WaitAgain e) steps (Answer x o) there)) (λ x there. again x (contains_there (WaitAgain e) steps (WaitAgain x) there)),
@@ -62,7 +62,7 @@ module _ (ports : Ports) where
   reissued_belong (Issue mode e ∷ steps) all = (reissued_belong steps (All-tail (IsReissue ports) (Issue mode e) steps all), inr (All-head (IsReissue ports) (Issue mode e) steps all))
   reissued_belong (step ∷ steps) all = (reissued_belong steps (All-tail (IsReissue ports) step steps all), inl (All-head (IsReissue ports) step steps all))
 
-  pub reissued_lawful : (old : AbstractState) (evidence : Evidence) (later : Ports) (steps : List Step) → All (IsReissue ports) steps → AllAnswersLawful old evidence later steps
+  pub reissued_lawful : (old : AbstractState) (evidence : Evidence) (later : Ports) (steps : List Step) → All (IsReissue ports) steps → AnswersAndWaitsLawful old evidence later steps
   reissued_lawful old evidence later [] all = tt
   reissued_lawful old evidence later (WaitAgain e ∷ steps) all = absurd (All-head (IsReissue ports) (WaitAgain e) steps all)
   reissued_lawful old evidence later (Answer e o ∷ steps) all = absurd (All-head (IsReissue ports) (Answer e o) steps all)
@@ -101,7 +101,7 @@ reissue_keeps ports step is = tt
 
 -- one that is issued after such steps was issued in them, or before
 module _ (laws : PrerequisiteLaws) (ports : Ports) (m : Machine) where
-  pub issued_from : (steps : List Step) → AreStepsOfCall {D = DeviceStep} Reset ports steps → (z : Pending) → Contains (after m steps).book z → z.issued ≡ true → IsIssuedIn z.request.id steps ⊎ WasIssued m z.request.id
+  pub issued_from : (steps : List Step) → AreStepsOfCall {D = DeviceStep} Reset ports steps → (z : Pending) → Contains (after m steps).book z → z.issued ≡ true → IsIssuedIn z.request.id steps ⊎ IsIssuedInBook m z.request.id
   issued_from [] b z here is = inr (record { pending = z; is_in_book = here; id_is = refl; issued = is })
   issued_from (Issue mode e ∷ steps) b z here is =
       let w = map_in (update_pending e.request.id newly_issued) (after m steps).book z here in
@@ -123,8 +123,8 @@ module _ (laws : PrerequisiteLaws) (ports : Ports) (m : Machine) where
   issued_from (Release ∷ steps) b z here is = issued_from steps b.0 z here is
   issued_from (step ∷ steps) b z here is =
       let device : IsByDevice step = ⊎_elim (λ own. own) (λ none. absurd none) b.1 in
-      let spares = laws.basic.spares (after m steps) (step ∷ []) (tt, device) in
-      let l = laws.basic.found_before (after m steps).book (after m (step ∷ steps)).book z spares.book here in
+      let spares = laws.steps_and_accesses.device_steps_spare_book (after m steps) (step ∷ []) (tt, device) in
+      let l = laws.steps_and_accesses.found_before (after m steps).book (after m (step ∷ steps)).book z spares.book here in
       let id : z.request.id ≡ l.0.request.id = ap (λ r. r.id) l.2.request in
       ⊎_elim
       (λ late. inl (or_right (issues_id z.request.id step) (list_any (issues_id z.request.id) steps) (subst (λ (i : RequestId). IsIssuedIn i steps) (sym id) late)))
@@ -133,7 +133,7 @@ module _ (laws : PrerequisiteLaws) (ports : Ports) (m : Machine) where
 
   -- who is answered was in the book then
   pub answered_issued : (steps : List Step) → AreStepsOfCall {D = DeviceStep} Reset ports steps → AllEnabled m steps → ((id : RequestId) → list_any (issues_id id) steps ≡ false) → (e : Pending) (o : Outcome) → Contains steps (Answer e o) → e.issued ≡ true
-      → WasIssued m e.request.id
+      → IsIssuedInBook m e.request.id
   answered_issued [] b may none e o here is = absurd (nowhere (Answer e o) here)
   answered_issued (step ∷ steps) b may none e o here is = ⊎_elim
       (λ (same : Answer e o ≡ step).
@@ -151,7 +151,7 @@ module _ (laws : PrerequisiteLaws) (ports : Ports) (m : Machine) where
           right false b is = is
 
 -- what issues nothing, and then what issues, each request last
-pub last_then : (late early : List Step) → IssuesLast late → IssuesLast early → ((id : RequestId) → list_any (issues_id id) early ≡ false) → IssuesLast (late ++ early)
+pub last_then : (late early : List Step) → IssueIsLastOfRequest late → IssueIsLastOfRequest early → ((id : RequestId) → list_any (issues_id id) early ≡ false) → IssueIsLastOfRequest (late ++ early)
 last_then [] early l e none = e
 last_then (step ∷ late) early l e none = (
   last_then late early l.0 e none,

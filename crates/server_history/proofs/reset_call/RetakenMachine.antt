@@ -10,9 +10,9 @@ use Rattle.adapter.specs.Device.{Device}
 use Rattle.adapter.specs.Idle.{IsIdle}
 use Rattle.refinement.specs.Acts.{act_steps}
 use Rattle.refinement.specs.Fragments.{IsSimulatedChangingUses, driver_state_of}
-use Rattle.refinement.specs.Driver.{IsBacked, DriverState, DriverRelation}
+use Rattle.refinement.specs.Driver.{TapeBacksSteps, DriverState, DriverRelation}
 use Rattle.refinement.specs.Slots.{Free, Serves, SlotStates}
-use Rattle.refinement.specs.SparedBook.{SparesBook}
+use Rattle.refinement.specs.SparedBook.{KeepsBookAndLoans}
 use Rattle.ata_types.specs.declared.request.ClientId.{ClientId}
 use Rattle.ata_types.specs.declared.request.Frame.{Frame}
 use Rattle.ata_types.specs.declared.request.RequestId.{RequestId}
@@ -24,10 +24,10 @@ use Rattle.block_machine.specs.Expected.{after}
 use Rattle.block_machine.specs.State.{Machine, Pending}
 use Rattle.block_machine.specs.Steps.{Release, Step, after_step, is_lent_to}
 use Rattle.dma_frames.specs.Loan.{Lending}
-use Rattle.dma_frames.specs.FrameTables.{FrameOwnership, lent_to, owner_of}
+use Rattle.dma_frames.specs.FrameTables.{OwnersAndLoans, lent_to, owner_of}
 use Rattle.host_boot.specs.TakeOver.{unused_slots}
 use Rattle.host_boot.specs.declared.ProbeResult.{ProbeResult}
-use Rattle.request_queue.specs.BookEntries.{BookEntry, IsAccepted, BookIsInOrder}
+use Rattle.request_queue.specs.BookEntries.{BookEntry, IsWellFormedEntry, BookIsWellFormed}
 use Rattle.request_queue.specs.BookRelation.{BookRelation, EntryRelation}
 use Rattle.server_history.proofs.plain_calls.Acceptances.{any_in}
 use Rattle.server_history.proofs.state.HistorySteps.{book_on, still_kept}
@@ -35,7 +35,7 @@ use Rattle.server_history.proofs.state.FirstMembers.{nowhere}
 use Rattle.server_history.proofs.state.PairedLists.{at_left}
 use Rattle.server_history.specs.Prerequisites.{PrerequisiteLaws}
 use Rattle.server_history.specs.ResetLaws.{ResetLaws}
-use Rattle.server_history.specs.KeptLoans.{IsKeptIn, TakesBack}
+use Rattle.server_history.specs.KeptLoans.{IsKeptIn, GivesBackLoans}
 use Rattle.server_history.specs.ErrorHandling.{requests_of}
 use Rattle.server_history.specs.Resets.{IsReinitialized, MayResolve}
 use Rattle.server_history.specs.ServerState.{QuarantineRelation, MachineRelation, ServerState, quarantined_at}
@@ -48,15 +48,15 @@ pub record IsStretch (k later : DriverState) (m : Machine) : Type 0 where
   pub steps : List Step
   pub only : AllByDevice steps
   pub may : AllEnabled m steps
-  pub backed : IsBacked k.device later.device m steps
+  pub backed : TapeBacksSteps k.device later.device m steps
   pub driver_relation : DriverRelation (after m steps) later
 
 pub stretch : {May : Access → Type 0} {Fits : SlotStates → Type 0} {next : SlotStates → SlotStates} {old new : Device} → PrerequisiteLaws → IsSimulatedChangingUses May Fits next old new → (uses : SlotStates) (parked : ℕ → List RequestId) → Fits uses → (m : Machine) → IsReachable m
     → DriverRelation m (driver_state_of uses parked old) → IsStretch (driver_state_of uses parked old) (driver_state_of (next uses) parked new) m
 stretch {May} {Fits} {next} {old} {new} laws a uses parked fits m reached knows =
-    let c = a.acts_reach (record { uses = uses; parked = parked }) m reached knows fits in
-    let g = laws.slots.acts_go c.acts (driver_state_of uses parked old) (driver_state_of (next uses) parked new) m knows c.acts_are_done in
-    record { steps = act_steps c.acts; only = c.tells.only; may = g.steps_are_enabled; backed = g.is_backed; driver_relation = g.driver_relation }
+    let c = a.acts_reach (record { slot_states = uses; awaiting_disposition = parked }) m reached knows fits in
+    let g = laws.slots.acts_advance_driver c.acts (driver_state_of uses parked old) (driver_state_of (next uses) parked new) m knows c.acts_are_done in
+    record { steps = act_steps c.acts; only = c.acts_are_such.all_steps_are_devices; may = g.steps_are_enabled; backed = g.is_backed; driver_relation = g.driver_relation }
 
 -- ---- an idle adapter
 
@@ -90,13 +90,13 @@ all_ids m port = map (λ (e : Pending). e.request.id) m.book ++ map (λ (e : Pen
 gives_up : (k : DriverState) (m : Machine) → DriverRelation m k → IsIdle k.device → DriverRelation m (driver_state_of unused_slots (all_ids m) k.device)
 gives_up k m knows rest = record {
   state_relation = record {
-    relates_slots = λ port slot. let p = rest.ports_are_idle port in record { issued = p.ci slot; free = p.taken slot; unarmed = p.sact slot };
-    serve_apart = λ port slot other_port other_slot id serves. let z : Free ≡ Serves id = serves in absurd cc;
+    relates_slots = λ port slot. let p = rest.ports_are_idle port in record { is_not_issued = p.ci_is_clear slot; is_not_taken = p.none_is_taken slot; unarmed = p.sact_is_clear slot };
+    serve_distinct_requests = λ port slot other_port other_slot id serves. let z : Free ≡ Serves id = serves in absurd cc;
     received_areas_are_placed = knows.state_relation.received_areas_are_placed;
     disks_are_same = knows.state_relation.disks_are_same;
-    memory_is_same = knows.state_relation.memory_is_same;
+    client_frames_are_same = knows.state_relation.client_frames_are_same;
     sectors_are_same = knows.state_relation.sectors_are_same;
-    has_lasting = knows.state_relation.has_lasting;
+    holds_replug_candidates = knows.state_relation.holds_replug_candidates;
   };
   have_slots = λ port e moves own. inl (⊎_elim
       (λ booked. Contains-append_left (map (λ (x : Pending). x.request.id) m.book) (map (λ (x : Pending). x.request.id) m.kept) e.request.id (into_map (λ (x : Pending). x.request.id) m.book e booked.0))
@@ -117,10 +117,10 @@ parks_issued uses parked d m knows none = record {
 -- ---- the kept loans
 
 -- What the machine lends once the kept requests' frames are given back is what the server lends.
-module _ (laws : ResetLaws) (found : List ProbeResult) (kept : List (List Lending)) (table later : FrameOwnership) (m : Machine) (reached : IsReachable m) (lent : (frame : Frame) → m.lent frame ≡ lent_to table frame) (are : QuarantineRelation found kept m.kept)
-    (back : TakesBack table later (IsKeptIn kept)) where
+module _ (laws : ResetLaws) (found : List ProbeResult) (kept : List (List Lending)) (table later : OwnersAndLoans) (m : Machine) (reached : IsReachable m) (lent : (frame : Frame) → m.lent frame ≡ lent_to table frame) (are : QuarantineRelation found kept m.kept)
+    (back : GivesBackLoans table later (IsKeptIn kept)) where
   limits : WithinLimits m
-  limits = subst WithinLimits (sym reached.leads_to_machine) (laws.below.living.limits reached.initial_machine reached.steps_since reached.is_initial reached.is_legal)
+  limits = subst WithinLimits (sym reached.leads_to_machine) (laws.prerequisites.frame_holders.legal_histories_stay_in_limits reached.initial_machine reached.steps_since reached.is_initial reached.is_legal)
 
   is_lent : (id : RequestId) (o : Option RequestId) → is_lent_to id o ≡ true → o ≡ Some id
   is_lent id None is = absurd (false≢true is)
@@ -134,8 +134,8 @@ module _ (laws : ResetLaws) (found : List ProbeResult) (kept : List (List Lendin
   -- the machine's kept request lends this frame
   by_kept : (frame : Frame) → (e : Pending) → Contains m.kept e → is_lent_to e.request.id (m.lent frame) ≡ true → (loan : Lending) × IsKeptIn kept loan × Contains loan.frames frame
   by_kept frame e here is =
-      let f = laws.own_frame m frame e reached (inr here) (is_lent e.request.id (m.lent frame) is) in
-      let l = are.loan e here in
+      let f = laws.held_frame_is_of_request m frame e reached (inr here) (is_lent e.request.id (m.lent frame) is) in
+      let l = are.each_request_has_its_loan e here in
       (l.0, (e.request.port.0, l.1), subst (λ (frames : List Frame). Contains frames frame) (sym l.2.1) (subst (Contains e.request.asked.frames.items) f.2 (Contains-get_or e.request.asked.frames.items f.0 _ f.1)))
 
   lends_then : (frame : Frame) → (after_step m Release).lent frame ≡ lent_to later frame
@@ -151,7 +151,7 @@ module _ (laws : ResetLaws) (found : List ProbeResult) (kept : List (List Lendin
     where
       not_kept : list_any (λ (e : Pending). is_lent_to e.request.id (m.lent frame)) m.kept ≡ false → (loan : Lending) → IsKeptIn kept loan → Contains loan.frames frame → ⊥
       not_kept none loan (port, its) there =
-          let e = are.whose port loan its in
+          let e = are.each_loan_has_its_request port loan its in
           let out = lent_out e.0 e.1 frame (subst (λ (frames : List Frame). Contains frames frame) e.3.1 there) in
           false≢true (sym (none_of (λ (x : Pending). is_lent_to x.request.id (m.lent frame)) m.kept e.0 none e.1)
           ∙ ap (is_lent_to e.0.request.id) out ∙ eq-eqb e.0.request.id.0 e.0.request.id.0 refl)
@@ -165,7 +165,7 @@ pub record IsRetaken (s taken : ServerState) (uses : SlotStates) (m : Machine) :
   pub second : List Step
   pub second_only : AllByDevice second
   pub may : AllEnabled m (second ++ Release ∷ first)
-  pub backed : IsBacked s.device taken.device m (second ++ Release ∷ first)
+  pub backed : TapeBacksSteps s.device taken.device m (second ++ Release ∷ first)
   pub driver_relation : DriverRelation (after m (second ++ Release ∷ first)) (driver_state_of uses (issued_on (after m (second ++ Release ∷ first))) taken.device)
   pub book : BookRelation s.book (after m (second ++ Release ∷ first)).book
   pub kept : (after m (second ++ Release ∷ first)).kept ≡ []
@@ -175,39 +175,39 @@ pub record IsRetaken (s taken : ServerState) (uses : SlotStates) (m : Machine) :
   pub next : (after m (second ++ Release ∷ first)).next_id ≡ s.last_id + 1
 
 module _ (laws : ResetLaws) (s taken : ServerState) (takes : IsReinitialized s taken) (m : Machine) (reached : IsReachable m) (is : MachineRelation s m) where
-  abbrev down : IsStretch (driver_state_of is.uses is.parked s.device) (driver_state_of is.uses is.parked takes.idle_device) m
-  down = stretch laws.below takes.resets.followed is.uses is.parked tt m reached is.driver_relation
+  abbrev down : IsStretch (driver_state_of is.uses is.awaiting_disposition s.device) (driver_state_of is.uses is.awaiting_disposition takes.idle_device) m
+  down = stretch laws.prerequisites takes.resets.followed is.uses is.awaiting_disposition tt m reached is.driver_relation
 
   abbrev idle : Machine
   idle = after m down.steps
 
   idle_reached : IsReachable idle
-  idle_reached = laws.below.basic.reached m down.steps reached down.may
+  idle_reached = laws.prerequisites.steps_and_accesses.reachable_stays_reachable m down.steps reached down.may
 
-  down_spares : SparesBook m idle
-  down_spares = laws.below.basic.spares m down.steps down.only
+  down_spares : KeepsBookAndLoans m idle
+  down_spares = laws.prerequisites.steps_and_accesses.device_steps_spare_book m down.steps down.only
 
-  idle_kept : QuarantineRelation s.ports s.kept idle.kept
-  idle_kept = still_kept laws.below s.ports s.kept m.kept idle.kept down_spares.kept is.quarantine_relation
+  idle_kept : QuarantineRelation s.probe_results s.kept_loans idle.kept
+  idle_kept = still_kept laws.prerequisites s.probe_results s.kept_loans m.kept idle.kept down_spares.kept is.quarantine_relation
 
   abbrev free : Machine
   free = after_step idle Release
 
   free_reached : IsReachable free
-  free_reached = laws.below.basic.reached idle (Release ∷ []) idle_reached (tt, tt)
+  free_reached = laws.prerequisites.steps_and_accesses.reachable_stays_reachable idle (Release ∷ []) idle_reached (tt, tt)
 
   free_knows : DriverRelation free (driver_state_of unused_slots (all_ids idle) takes.idle_device)
-  free_knows = laws.released (driver_state_of unused_slots (all_ids idle) takes.idle_device) idle (all_ids idle) idle_reached (gives_up (driver_state_of is.uses is.parked takes.idle_device) idle down.driver_relation takes.resets.idle)
+  free_knows = laws.release_keeps_driver_relation (driver_state_of unused_slots (all_ids idle) takes.idle_device) idle (all_ids idle) idle_reached (gives_up (driver_state_of is.uses is.awaiting_disposition takes.idle_device) idle down.driver_relation takes.resets.idle)
       (λ e here port slot serves. let z : Free ≡ Serves e.request.id = serves in absurd cc) (λ port other here lives. here)
 
-  abbrev up : IsStretch (driver_state_of unused_slots (all_ids idle) takes.idle_device) (driver_state_of takes.takes.uses (all_ids idle) taken.device) free
-  up = stretch laws.below takes.takes.followed unused_slots (all_ids idle) refl free free_reached free_knows
+  abbrev up : IsStretch (driver_state_of unused_slots (all_ids idle) takes.idle_device) (driver_state_of takes.takes_over.uses (all_ids idle) taken.device) free
+  up = stretch laws.prerequisites takes.takes_over.followed unused_slots (all_ids idle) refl free free_reached free_knows
 
   abbrev last : Machine
   last = after free up.steps
 
-  up_spares : SparesBook free last
-  up_spares = laws.below.basic.spares free up.steps up.only
+  up_spares : KeepsBookAndLoans free last
+  up_spares = laws.prerequisites.steps_and_accesses.device_steps_spare_book free up.steps up.only
 
   none_kept : last.kept ≡ []
   none_kept = up_spares.kept
@@ -216,55 +216,55 @@ module _ (laws : ResetLaws) (s taken : ServerState) (takes : IsReinitialized s t
   steps = up.steps ++ Release ∷ down.steps
 
   last_is : after m steps ≡ last
-  last_is = laws.below.basic.joined m up.steps (Release ∷ down.steps)
+  last_is = laws.prerequisites.steps_and_accesses.after_joins m up.steps (Release ∷ down.steps)
 
   lent_then : (frame : Frame) → last.lent frame ≡ lent_to taken.table frame
   lent_then frame = ap (λ f. f frame) up_spares.lent
-      ∙ lends_then laws s.ports s.kept s.table taken.table idle idle_reached (λ f. ap (λ g. g f) down_spares.lent ∙ is.lent f) idle_kept takes.loans_are_taken_back frame
+      ∙ lends_then laws s.probe_results s.kept_loans s.table taken.table idle idle_reached (λ f. ap (λ g. g f) down_spares.lent ∙ is.lent f) idle_kept takes.loans_are_taken_back frame
 
-  pub retaken : IsRetaken s taken takes.takes.uses m
+  pub retaken : IsRetaken s taken takes.takes_over.uses m
   retaken = record {
     first = down.steps;
     first_only = down.only;
     second = up.steps;
     second_only = up.only;
-    may = laws.below.basic.may m up.steps (Release ∷ down.steps) (down.may, tt) up.may;
-    backed = laws.below.backed_parts s.device takes.idle_device taken.device m (Release ∷ down.steps) up.steps
-        (laws.below.backed_parts s.device takes.idle_device takes.idle_device m down.steps (Release ∷ []) down.backed (laws.below.backed_own takes.idle_device idle Release (λ none. none))) up.backed;
-    driver_relation = subst (λ (n : Machine). DriverRelation n (driver_state_of takes.takes.uses (issued_on n) taken.device)) (sym last_is) (parks_issued takes.takes.uses (all_ids idle) taken.device last up.driver_relation none_kept);
+    may = laws.prerequisites.steps_and_accesses.enabled_lists_join m up.steps (Release ∷ down.steps) (down.may, tt) up.may;
+    backed = laws.prerequisites.backed_parts s.device takes.idle_device taken.device m (Release ∷ down.steps) up.steps
+        (laws.prerequisites.backed_parts s.device takes.idle_device takes.idle_device m down.steps (Release ∷ []) down.backed (laws.prerequisites.backed_own takes.idle_device idle Release (λ none. none))) up.backed;
+    driver_relation = subst (λ (n : Machine). DriverRelation n (driver_state_of takes.takes_over.uses (issued_on n) taken.device)) (sym last_is) (parks_issued takes.takes_over.uses (all_ids idle) taken.device last up.driver_relation none_kept);
     book = subst (λ (n : Machine). BookRelation s.book n.book) (sym last_is) (book_on s.book free.book last.book up_spares.book (book_on s.book m.book idle.book down_spares.book is.book));
     kept = ap (λ (n : Machine). n.kept) last_is ∙ none_kept;
     rows = ap (λ (n : Machine). n.rows) last_is ∙ up_spares.rows ∙ down_spares.rows ∙ is.rows;
     owner = λ frame. ap (λ (n : Machine). n.owner frame) last_is ∙ ap (λ f. f frame) up_spares.owner ∙ ap (λ f. f frame) down_spares.owner ∙ is.owner frame;
     lent = λ frame. ap (λ (n : Machine). n.lent frame) last_is ∙ lent_then frame;
-    next = ap (λ (n : Machine). n.next_id) last_is ∙ up_spares.next ∙ down_spares.next ∙ is.next;
+    next = ap (λ (n : Machine). n.next_id) last_is ∙ up_spares.next_id ∙ down_spares.next_id ∙ is.next_id_is;
   }
 
 -- ---- its requests may meet their fates
 
 -- so each is as it was accepted still
-accepted_then : (old new : FrameOwnership) (entries : List BookEntry) (m : Machine) → WithinLimits m → BookRelation entries m.book → ((frame : Frame) → m.lent frame ≡ lent_to new frame) → new.owners ≡ old.owners
-    → All (IsAccepted old) entries → All (IsAccepted new) entries
+accepted_then : (old new : OwnersAndLoans) (entries : List BookEntry) (m : Machine) → WithinLimits m → BookRelation entries m.book → ((frame : Frame) → m.lent frame ≡ lent_to new frame) → new.owners ≡ old.owners
+    → All (IsWellFormedEntry old) entries → All (IsWellFormedEntry new) entries
 accepted_then old new entries m limits book lent owners accepted i d small =
     let e = get_or entries i d in
     let a = accepted i d small in
     let y = at_left EntryRelation entries m.book book e (Contains-get_or entries i d small) in
     record {
-      client_from = a.client_from;
-      client_to = a.client_to;
+      client_is_at_least_1 = a.client_is_at_least_1;
+      client_is_at_most_8 = a.client_is_at_most_8;
       count_is_allowed = a.count_is_allowed;
       range_is_below_2_48 = a.range_is_below_2_48;
       frame_count_is = a.frame_count_is;
-      frames_are_clients = a.frames_are_clients;
+      frames_are_not_drivers = a.frames_are_not_drivers;
       frames_are_own = λ k f inside. ap (λ (list : List (Option ClientId)). get_or list (get_or e.frames k f).0 None) owners ∙ a.frames_are_own k f inside;
       frames_are_distinct = a.frames_are_distinct;
-      frames_are_lent = subst (λ (frames : List Frame). All (λ f. lent_to new f ≡ Some e.entry.id) frames) y.2.frames
+      frames_are_lent = subst (λ (frames : List Frame). All (λ f. lent_to new f ≡ Some e.request.id) frames) y.2.frames
           (λ k f inside. let g = get_or y.0.request.asked.frames.items k f in
           sym (lent g) ∙ ap m.lent (get_or_default y.0.request.asked.frames.items k f _ inside) ∙ limits.frames_are_lent y.0 (inl y.1) k inside ∙ ap Some y.2.id);
     }
 
 module _ (laws : ResetLaws) (s taken : ServerState) (booked : ServerInvariant s) (takes : IsReinitialized s taken) where
-  its : IsRetaken s taken takes.takes.uses booked.machine
+  its : IsRetaken s taken takes.takes_over.uses booked.machine
   its = retaken laws s taken takes booked.machine booked.reached booked.machine_relation
 
   abbrev end : Machine
@@ -272,20 +272,20 @@ module _ (laws : ResetLaws) (s taken : ServerState) (booked : ServerInvariant s)
 
   end_limits : WithinLimits end
   end_limits =
-      let r = laws.below.basic.reached booked.machine (its.second ++ Release ∷ its.first) booked.reached its.may in
-      subst WithinLimits (sym r.leads_to_machine) (laws.below.living.limits r.initial_machine r.steps_since r.is_initial r.is_legal)
+      let r = laws.prerequisites.steps_and_accesses.reachable_stays_reachable booked.machine (its.second ++ Release ∷ its.first) booked.reached its.may in
+      subst WithinLimits (sym r.leads_to_machine) (laws.prerequisites.frame_holders.legal_histories_stay_in_limits r.initial_machine r.steps_since r.is_initial r.is_legal)
 
   pub book_same : taken.book ≡ s.book
   book_same = ap (λ (t : ServerState). t.book) takes.server_is
 
-  pub accepted_still : All (IsAccepted taken.table) s.book
-  accepted_still = accepted_then s.table taken.table s.book end end_limits its.book its.lent takes.loans_are_taken_back.owners_are_kept booked.requests_are_accepted
+  pub accepted_still : All (IsWellFormedEntry taken.table) s.book
+  accepted_still = accepted_then s.table taken.table s.book end end_limits its.book its.lent takes.loans_are_taken_back.owners_are_kept booked.entries_are_well_formed
 
   pub may_settle : MayResolve taken
   may_settle = record {
-    four_kept = takes.four_kept;
-    book_is_in_order = subst BookIsInOrder (sym book_same) booked.book_is_in_order;
-    requests_are_accepted = subst (All (IsAccepted taken.table)) (sym book_same) accepted_still;
-    places = λ port. subst (λ (book : List BookEntry). length (quarantined_at taken.kept port.0) + count_by (λ (e : BookEntry). e.entry.issued) (requests_of port book) ≤ 32) (sym book_same)
-        (subst (λ (loans : List Lending). length loans + count_by (λ (e : BookEntry). e.entry.issued) (requests_of port s.book) ≤ 32) (sym (takes.unkept port.0)) (let few = booked.places port in omega (arith, few)));
+    kept_loans_are_of_four_ports = takes.kept_loans_are_of_four_ports;
+    book_is_well_formed = subst BookIsWellFormed (sym book_same) booked.book_is_well_formed;
+    entries_are_well_formed = subst (All (IsWellFormedEntry taken.table)) (sym book_same) accepted_still;
+    kept_loans_have_room = λ port. subst (λ (book : List BookEntry). length (quarantined_at taken.kept_loans port.0) + count_by (λ (e : BookEntry). e.request.issued) (requests_of port book) ≤ 32) (sym book_same)
+        (subst (λ (loans : List Lending). length loans + count_by (λ (e : BookEntry). e.request.issued) (requests_of port s.book) ≤ 32) (sym (takes.no_loan_is_kept port.0)) (let few = booked.kept_loans_have_room port in omega (arith, few)));
   }

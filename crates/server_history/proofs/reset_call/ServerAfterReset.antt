@@ -30,13 +30,13 @@ use Rattle.server_history.proofs.dispositions.RemainingBook.{WasIn}
 use Rattle.server_history.proofs.reset_call.RetakenMachine.{IsRetaken, issued_in, issued_on, may_settle, retaken}
 use Rattle.server_history.specs.ResetLaws.{ResetLaws}
 use Rattle.server_history.proofs.state.PairedLists.{at_right}
-use Rattle.server_history.specs.Resets.{IsReinitialized, IssuePorts, MayResolve, ResolvePorts}
+use Rattle.server_history.specs.Resets.{IsReinitialized, IssuesOnEachReadyPort, MayResolve, ResolvesEachPort}
 use Rattle.server_history.specs.ServerState.{SlotsInvariant, InCallInvariant, MachineRelation, SettledInvariant, ServerState, is_served, mode_at, probed_mode, state_of, used_for, RevokedMarkInvariant}
 use Rattle.server_history.specs.StuckServer.{ServerInvariant}
 
-module _ (laws : ResetLaws) (s taken settled : ServerState) (booked : ServerInvariant s) (takes : IsReinitialized s taken) (replies : List Reply) (settles : ResolvePorts 0 taken.ports replies taken settled) (m : Machine) (reached : IsReachable m)
+module _ (laws : ResetLaws) (s taken settled : ServerState) (booked : ServerInvariant s) (takes : IsReinitialized s taken) (replies : List Reply) (settles : ResolvesEachPort 0 taken.probe_results replies taken settled) (m : Machine) (reached : IsReachable m)
     (is : MachineRelation s m) where
-  pub its_retaken : IsRetaken s taken takes.takes.uses m
+  pub its_retaken : IsRetaken s taken takes.takes_over.uses m
   its_retaken = retaken laws s taken takes m reached is
 
   abbrev pub base : List Step
@@ -46,21 +46,21 @@ module _ (laws : ResetLaws) (s taken settled : ServerState) (booked : ServerInva
   mid = after m base
 
   mid_reached : IsReachable mid
-  mid_reached = laws.below.basic.reached m base reached its_retaken.may
+  mid_reached = laws.prerequisites.steps_and_accesses.reachable_stays_reachable m base reached its_retaken.may
 
   -- ---- what was taken over
 
-  pub ports_are : taken.ports ≡ takes.host.ports
-  ports_are = ap (λ (c : ServerState). c.ports) takes.server_is
+  pub ports_are : taken.probe_results ≡ takes.host.ports
+  ports_are = ap (λ (c : ServerState). c.probe_results) takes.server_is
 
   may : MayResolve taken
   may = may_settle laws s taken booked takes
 
   begin : IsFatedTo 0 taken mid
   begin = record {
-    four_kept = takes.four_kept;
-    uses = takes.takes.uses;
-    left = λ port slot. subst (λ (ports : List ProbeResult). IsUnusedOrDead ports takes.takes.uses port slot) (sym ports_are) (takes.takes.slots_are_unused port slot);
+    four_kept = takes.kept_loans_are_of_four_ports;
+    uses = takes.takes_over.uses;
+    left = λ port slot. subst (λ (ports : List ProbeResult). IsUnusedOrDead ports takes.takes_over.uses port slot) (sym ports_are) (takes.takes_over.slots_are_unused port slot);
     parked = issued_on mid;
     driver_relation = its_retaken.driver_relation;
     unparked = λ port lt. absurd (omega (arith, lt));
@@ -69,23 +69,23 @@ module _ (laws : ResetLaws) (s taken settled : ServerState) (booked : ServerInva
         let h = at_right EntryRelation s.book mid.book its_retaken.book p.0 p.1 in
         (h.0, subst (λ (book : List BookEntry). Contains book h.0) (sym (ap (λ (c : ServerState). c.book) takes.server_is)) h.1, sym h.2.id ∙ p.2, sym h.2.issued ∙ p.3, ap (λ (q : Port). q.0) (sym h.2.port) ∙ p.4);
     book = subst (λ (book : List BookEntry). BookRelation book mid.book) (sym (ap (λ (c : ServerState). c.book) takes.server_is)) its_retaken.book;
-    kept = none_are_kept taken.ports taken.kept mid.kept its_retaken.kept takes.unkept;
-    unkept = λ port high. takes.unkept port;
+    kept = none_are_kept taken.probe_results taken.kept_loans mid.kept its_retaken.kept takes.no_loan_is_kept;
+    unkept = λ port high. takes.no_loan_is_kept port;
     rows = its_retaken.rows ∙ sym (ap (λ (c : ServerState). c.grants) takes.server_is);
     owner = λ frame. its_retaken.owner frame ∙ ap (λ (owners : List (Option ClientId)). get_or owners frame.0 None) (sym takes.loans_are_taken_back.owners_are_kept);
     lent = its_retaken.lent;
     next = its_retaken.next ∙ ap (λ (k : ℕ). k + 1) (sym (ap (λ (c : ServerState). c.last_id) takes.server_is));
-    ordered = may.book_is_in_order;
-    accepted = may.requests_are_accepted;
+    ordered = may.book_is_well_formed;
+    accepted = may.entries_are_well_formed;
     marked = subst (λ (c : ServerState). All (RevokedMarkInvariant c.grants) c.book) (sym takes.server_is) booked.revoked_marks_agree;
     alive = λ e here lt. absurd (omega (arith, lt));
   }
 
-  many : length taken.ports ≡ 4
-  many = ap (λ (ports : List ProbeResult). length ports) ports_are ∙ takes.four
+  many : length taken.probe_results ≡ 4
+  many = ap (λ (ports : List ProbeResult). length ports) ports_are ∙ takes.host_has_four_ports
 
-  pub its_fated : AreFated 0 taken.ports replies taken settled mid
-  its_fated = fate_all laws.below taken.ports 0 (let few = many in omega (arith, few)) replies taken settled settles mid mid_reached begin
+  pub its_fated : AreFated 0 taken.probe_results replies taken settled mid
+  its_fated = fate_all laws.prerequisites taken.probe_results 0 (let few = many in omega (arith, few)) replies taken settled settles mid mid_reached begin
 
   abbrev pub z : Machine
   z = after mid its_fated.steps
@@ -95,22 +95,22 @@ module _ (laws : ResetLaws) (s taken settled : ServerState) (booked : ServerInva
 
   -- ---- the machine
 
-  pub ports_then : settled.ports ≡ takes.host.ports
-  ports_then = ap (λ (c : ServerState). c.ports) its_fated.settings ∙ ports_are
+  pub ports_then : settled.probe_results ≡ takes.host.ports
+  ports_then = ap (λ (c : ServerState). c.probe_results) its_fated.settings ∙ ports_are
 
   pub unused_then : (port slot : ℕ) → used_for settled.slots port slot ≡ None
-  unused_then port slot = ap (λ (c : ServerState). used_for c.slots port slot) its_fated.settings ∙ takes.unused port slot
+  unused_then port slot = ap (λ (c : ServerState). used_for c.slots port slot) its_fated.settings ∙ takes.no_slot_is_used port slot
 
   -- who is left was unanswered before
   pub was_in : (e : BookEntry) → Contains settled.book e → WasIn s.book e
   was_in e here = subst (λ (book : List BookEntry). WasIn book e) (ap (λ (c : ServerState). c.book) takes.server_is) (its_fated.from e here)
 
-  pub low : (e : BookEntry) → Contains settled.book e → e.entry.port.0 < 4
+  pub low : (e : BookEntry) → Contains settled.book e → e.request.port.0 < 4
   low e here =
       let w = was_in e here in
-      subst (λ (p : Port). p.0 < 4) (sym w.port) (booked.few_are_served w.was.entry.port.0 (All-contains (λ (x : BookEntry). is_served (probe_result_of s.ports x.entry.port.0) ≡ true) s.book w.was booked.requests_are_of_served_ports w.there))
+      subst (λ (p : Port). p.0 < 4) (sym w.port) (booked.served_are_below_4 w.was.request.port.0 (All-contains (λ (x : BookEntry). is_served (probe_result_of s.probe_results x.request.port.0) ≡ true) s.book w.was booked.requests_are_of_served_ports w.there))
 
-  unparked : (port : ℕ) → probe_result_of settled.ports port ≢ Unready Dead → all_fated.parked port ≡ []
+  unparked : (port : ℕ) → probe_result_of settled.probe_results port ≢ Unready Dead → all_fated.parked port ≡ []
   unparked port lives = ⊎_elim
       (λ (below : port < 4). all_fated.unparked port below lives)
       (λ (high : 4 ≤ port). nobody (all_fated.parked port) (λ id here.
@@ -122,20 +122,20 @@ module _ (laws : ResetLaws) (s taken settled : ServerState) (booked : ServerInva
   pub stands_regained : MachineRelation settled z
   stands_regained = record {
     uses = all_fated.uses;
-    are_uses_of = λ port slot. left_as settled.ports settled.ports settled.slots all_fated.uses port slot refl (unused_then port slot) (all_fated.left port slot);
-    parked = all_fated.parked;
-    unparked = unparked;
+    are_uses_of = λ port slot. left_as settled.probe_results settled.probe_results settled.slots all_fated.uses port slot refl (unused_then port slot) (all_fated.left port slot);
+    awaiting_disposition = all_fated.parked;
+    only_dead_ports_park = unparked;
     driver_relation = all_fated.driver_relation;
     book = all_fated.book;
     quarantine_relation = all_fated.kept;
     rows = all_fated.rows;
     owner = all_fated.owner;
     lent = all_fated.lent;
-    next = all_fated.next;
+    next_id_is = all_fated.next;
   }
 
   pub z_reached : IsReachable z
-  z_reached = laws.below.basic.reached mid its_fated.steps mid_reached its_fated.may
+  z_reached = laws.prerequisites.steps_and_accesses.reachable_stays_reachable mid its_fated.steps mid_reached its_fated.may
 
   -- ---- what it keeps
 
@@ -146,12 +146,12 @@ module _ (laws : ResetLaws) (s taken settled : ServerState) (booked : ServerInva
   device_then = ap (λ (c : ServerState). c.device) its_fated.settings
 
   over : TakesOver settled.wanted takes.host takes.idle_device settled.device
-  over = subst (λ (d : Device). TakesOver settled.wanted takes.host takes.idle_device d) (sym device_then) (subst (λ (wanted : List Wanted). TakesOver wanted takes.host takes.idle_device taken.device) (sym wanted_then) takes.takes)
+  over = subst (λ (d : Device). TakesOver settled.wanted takes.host takes.idle_device d) (sym device_then) (subst (λ (wanted : List Wanted). TakesOver wanted takes.host takes.idle_device taken.device) (sym wanted_then) takes.takes_over)
 
-  size_then : settled.device.size ≡ s.device.size
-  size_then = over.adapter_is_kept.size ∙ takes.resets.adapter_is_kept.size
+  size_then : settled.device.memory_size ≡ s.device.memory_size
+  size_then = over.adapter_is_kept.memory_size ∙ takes.resets.adapter_is_kept.memory_size
 
-  pub its_disk : (e : BookEntry) → Contains settled.book e → HasItsDisk settled.remembered settled.ports e.entry.port.0
+  pub its_disk : (e : BookEntry) → Contains settled.book e → HasItsDisk settled.remembered settled.probe_results e.request.port.0
   its_disk e here = all_fated.alive e here (low e here)
 
   pub keeps_all : InCallInvariant settled
@@ -159,18 +159,18 @@ module _ (laws : ResetLaws) (s taken settled : ServerState) (booked : ServerInva
     adapter_is_on = over.adapter_is_on;
     driver_memory_fits = let room = booked.driver_memory_fits in let size = size_then in omega (arith, room, size);
     served_ports_exist = λ port served.
-        let below = four laws.taken settled takes.host takes.idle_device takes.resets.idle over ports_then takes.four port served in
-        (below, served_there (wanted_of settled.wanted port) (probe_result_of settled.ports port) port settled.device (behind laws.taken settled takes.host takes.idle_device takes.resets.idle over ports_then takes.four port below) served);
-    port_invariant = ports_on laws.taken settled takes.host takes.idle_device takes.resets.idle over ports_then takes.four laws.below;
-    four_slots = ap (λ (c : ServerState). length c.slots) its_fated.settings ∙ takes.four_slots;
-    four_modes = ap (λ (c : ServerState). length c.modes) its_fated.settings ∙ takes.four_modes;
-    four_remembered = ap (λ (c : ServerState). length c.remembered) its_fated.settings ∙ takes.four_remembered;
-    four_kept = all_fated.four_kept;
-    few_kept = λ port. let p = (all_settle_on laws.below taken.ports 0 (let few = many in omega (arith, few)) replies taken settled settles (may_settle laws s taken booked takes)).places (port_at port) in omega (arith, p);
-    modes = λ port below. subst (λ (c : ServerState). mode_at c.modes port ≡ probed_mode c.device.cap (probe_result_of c.ports port)) (sym its_fated.settings)
-        (takes.modes port below ∙ ap (λ (ports : List ProbeResult). probed_mode taken.device.cap (probe_result_of ports port)) (sym ports_are));
-    slots = λ port below. subst (λ (c : ServerState). SlotsInvariant c.ports c.modes c.slots port) (sym its_fated.settings)
-        (record { places = takes.places port below; usable = takes.usable port below; unused = λ slot high. takes.unused port slot });
+        let below = four laws.take_over settled takes.host takes.idle_device takes.resets.idle over ports_then takes.host_has_four_ports port served in
+        (below, served_there (wanted_of settled.wanted port) (probe_result_of settled.probe_results port) port settled.device (behind laws.take_over settled takes.host takes.idle_device takes.resets.idle over ports_then takes.host_has_four_ports port below) served);
+    port_invariant = ports_on laws.take_over settled takes.host takes.idle_device takes.resets.idle over ports_then takes.host_has_four_ports laws.prerequisites;
+    slots_are_of_four_ports = ap (λ (c : ServerState). length c.slots) its_fated.settings ∙ takes.slots_are_of_four_ports;
+    modes_are_of_four_ports = ap (λ (c : ServerState). length c.modes) its_fated.settings ∙ takes.modes_are_of_four_ports;
+    remembered_is_of_four_ports = ap (λ (c : ServerState). length c.remembered) its_fated.settings ∙ takes.remembered_is_of_four_ports;
+    kept_loans_are_of_four_ports = all_fated.four_kept;
+    at_most_32_loans_kept_by_port = λ port. let p = (all_settle_on laws.prerequisites taken.probe_results 0 (let few = many in omega (arith, few)) replies taken settled settles (may_settle laws s taken booked takes)).kept_loans_have_room (port_at port) in omega (arith, p);
+    modes_are_probed = λ port below. subst (λ (c : ServerState). mode_at c.modes port ≡ probed_mode c.device.cap (probe_result_of c.probe_results port)) (sym its_fated.settings)
+        (takes.modes_are_probed port below ∙ ap (λ (ports : List ProbeResult). probed_mode taken.device.cap (probe_result_of ports port)) (sym ports_are));
+    slots_invariant = λ port below. subst (λ (c : ServerState). SlotsInvariant c.probe_results c.modes c.slots port) (sym its_fated.settings)
+        (record { has_32_slots = takes.has_32_slots port below; usable_count_is_of_mode = takes.usable_count_is_of_mode port below; unusable_are_unused = λ slot high. takes.no_slot_is_used port slot });
     slots_queue_as_asked = λ port slot used e its. absurd (let y : None ≡ Some used = sym (unused_then port.0 slot) ∙ its in cc);
     slots_store_commands = λ port slot used its. absurd (let y : None ≡ Some used = sym (unused_then port slot) ∙ its in cc);
     plain_stands_alone = λ port slot used its. absurd (let y : None ≡ Some used = sym (unused_then port slot) ∙ its in cc);
@@ -178,17 +178,17 @@ module _ (laws : ResetLaws) (s taken settled : ServerState) (booked : ServerInva
     owned_frames_are_clients = λ frame client own.
         let o = booked.owned_frames_are_clients frame client (ap (λ (list : List (Option ClientId)). get_or list frame.0 None) (sym (its_fated.owners ∙ takes.loans_are_taken_back.owners_are_kept)) ∙ own) in
         (o.0, subst (λ (n : ℕ). 4096 * frame.0 + 4096 ≤ n) (sym size_then) o.1);
-    requests_are_accepted = all_fated.accepted;
+    entries_are_well_formed = all_fated.accepted;
     revoked_marks_agree = all_fated.marked;
-    book_is_in_order = all_fated.ordered;
-    ids_were_handed_out = All-weaker (Contains settled.book) (λ (e : BookEntry). e.entry.id.0 ≤ settled.last_id)
+    book_is_well_formed = all_fated.ordered;
+    ids_were_handed_out = All-weaker (Contains settled.book) (λ (e : BookEntry). e.request.id.0 ≤ settled.last_id)
         (λ e here.
         let w = was_in e here in
-        let most = All-contains (λ (x : BookEntry). x.entry.id.0 ≤ s.last_id) s.book w.was booked.ids_were_handed_out w.there in
+        let most = All-contains (λ (x : BookEntry). x.request.id.0 ≤ s.last_id) s.book w.was booked.ids_were_handed_out w.there in
         let id = ap (λ (i : RequestId). i.0) w.id in
         let last = ap (λ (c : ServerState). c.last_id) its_fated.settings ∙ ap (λ (c : ServerState). c.last_id) takes.server_is in omega (arith, most, id, last))
         settled.book (All-contains_itself settled.book);
-    requests_are_of_ready_ports = All-weaker (Contains settled.book) (λ (e : BookEntry). state_of (probe_result_of settled.ports e.entry.port.0) ≡ ReadyState)
+    requests_are_of_ready_ports = All-weaker (Contains settled.book) (λ (e : BookEntry). state_of (probe_result_of settled.probe_results e.request.port.0) ≡ ReadyState)
         (λ e here. ap state_of (its_disk e here).3) settled.book (All-contains_itself settled.book);
     machine = z;
     reached = z_reached;
@@ -197,9 +197,9 @@ module _ (laws : ResetLaws) (s taken settled : ServerState) (booked : ServerInva
 
   -- ---- what is due is issued
 
-  module _ (new : ServerState) (issues : IssuePorts 0 taken.ports settled new) where
-    pub its_reissued : AreReissued laws.below settled keeps_all z z_reached stands_regained 4 new
-    its_reissued = all_reissued laws.below settled keeps_all z z_reached stands_regained taken.ports (ap (λ (c : ServerState). c.ports) its_fated.settings) many new issues
+  module _ (new : ServerState) (issues : IssuesOnEachReadyPort 0 taken.probe_results settled new) where
+    pub its_reissued : AreReissued laws.prerequisites settled keeps_all z z_reached stands_regained 4 new
+    its_reissued = all_reissued laws.prerequisites settled keeps_all z z_reached stands_regained taken.probe_results (ap (λ (c : ServerState). c.probe_results) its_fated.settings) many new issues
 
     pub settled_at_last : SettledInvariant new
-    settled_at_last = settled_then laws.below settled keeps_all z z_reached stands_regained new its_reissued
+    settled_at_last = settled_then laws.prerequisites settled keeps_all z z_reached stands_regained new its_reissued

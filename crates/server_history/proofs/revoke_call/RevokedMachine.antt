@@ -15,8 +15,8 @@ use Rattle.ata_types.specs.declared.request.Reply.{Reply}
 use Rattle.ata_types.specs.declared.request.RequestId.{RequestId}
 use Rattle.adapter.specs.declared.access.DeviceStep.{DeviceStep}
 use Rattle.refinement.specs.Fragments.{driver_state_of}
-use Rattle.refinement.specs.Driver.{HasNoSlot, IsBacked, DriverState}
-use Rattle.block_machine.specs.Events.{AllAnswersLawful, AllEnabled, AreStepsOfCall, IsLawfulAnswer, IssuesLast, AbstractState, RevokeOf, RepliesMatch, answers_of, issues_id}
+use Rattle.refinement.specs.Driver.{HasNoSlot, TapeBacksSteps, DriverState}
+use Rattle.block_machine.specs.Events.{AnswersAndWaitsLawful, AllEnabled, AreStepsOfCall, IsLawfulAnswer, IssueIsLastOfRequest, AbstractState, RevokeOf, RepliesMatch, answers_of, issues_id}
 use Rattle.block_machine.specs.Histories.{IsReachable}
 use Rattle.block_machine.specs.Expected.{after}
 use Rattle.block_machine.specs.Ports.{Evidence, Ports}
@@ -24,7 +24,7 @@ use Rattle.block_machine.specs.Rules.{HasRow, IsSameGrantName, without_row}
 use Rattle.block_machine.specs.State.{Machine, Pending}
 use Rattle.block_machine.specs.Steps.{Step, WaitAgain, Answer, Revoke, after_step}
 use Rattle.host_boot.specs.TakeOver.{probe_result_of}
-use Rattle.request_queue.specs.BookEntries.{BookEntry, IsAccepted, BookIsInOrder, unanswered_of}
+use Rattle.request_queue.specs.BookEntries.{BookEntry, IsWellFormedEntry, BookIsWellFormed, unanswered_of}
 use Rattle.request_queue.specs.BookRelation.{BookRelation, EntryRelation}
 use Rattle.request_queue.specs.declared.disposition.Disposition.TheVariants.{Complete, Requeue}
 use Rattle.server_history.specs.Prerequisites.{PrerequisiteLaws}
@@ -57,8 +57,8 @@ IsRevoked e o = (o ≡ Revoked) × (e.issued ≡ false)
 
 -- What it needs of the server's book, and of a machine: this is so whether or not the adapter is on.
 pub record MayRevoke (s : ServerState) (m : Machine) : Type 0 where
-  pub ordered : BookIsInOrder s.book
-  pub accepted : All (IsAccepted s.table) s.book
+  pub ordered : BookIsWellFormed s.book
+  pub accepted : All (IsWellFormedEntry s.table) s.book
   pub marked : All (RevokedMarkInvariant s.grants) s.book
   pub reached : IsReachable m
   pub stands : MachineRelation s m
@@ -70,10 +70,10 @@ module _ (laws : PrerequisiteLaws) (s : ServerState) (client : ClientId) (number
   abbrev reached : IsReachable m
   reached = may_revoke.reached
 
-  abbrev ordered : BookIsInOrder s.book
+  abbrev ordered : BookIsWellFormed s.book
   ordered = may_revoke.ordered
 
-  abbrev accepted : All (IsAccepted s.table) s.book
+  abbrev accepted : All (IsWellFormedEntry s.table) s.book
   accepted = may_revoke.accepted
 
   abbrev marked : All (RevokedMarkInvariant s.grants) s.book
@@ -103,51 +103,51 @@ module _ (laws : PrerequisiteLaws) (s : ServerState) (client : ClientId) (number
   has_row = (r.has.0, row_there, r.has.2)
 
   n_reached : IsReachable n
-  n_reached = laws.basic.reached m (Revoke client number ∷ []) reached (tt, has_row)
+  n_reached = laws.steps_and_accesses.reachable_stays_reachable m (Revoke client number ∷ []) reached (tt, has_row)
 
   n_rows : n.rows ≡ old.grants
   n_rows = ap (without_row client number) is.rows
 
   n_book : BookRelation old.book n.book
-  n_book = laws.revokes s.book m client number is.book
+  n_book = laws.revoke_keeps_book_relation s.book m client number is.book
 
   abbrev k : DriverState
-  k = driver_state_of is.uses is.parked s.device
+  k = driver_state_of is.uses is.awaiting_disposition s.device
 
   -- those that wait under the grant are on its port
-  its_port : (e : BookEntry) → Contains requests e → e.entry.port ≡ port
+  its_port : (e : BookEntry) → Contains requests e → e.request.port ≡ port
   its_port e there =
       let w = of_requests client number s e there in
       let p = at_left EntryRelation old.book n.book n_book e w.0 in
-      sym p.2.port ∙ on_its_port laws.living m reached p.0 p.1 r.has.0 row_there (r.has.2.0 ∙ sym w.1.client_is ∙ sym p.2.client, r.has.2.1 ∙ sym w.1.grant_is ∙ sym p.2.grant)
+      sym p.2.port ∙ on_its_port laws.frame_holders m reached p.0 p.1 r.has.0 row_there (r.has.2.0 ∙ sym w.1.client_is ∙ sym p.2.client, r.has.2.1 ∙ sym w.1.grant_is ∙ sym p.2.grant)
 
-  pub here : (e : BookEntry) → Contains requests e → Contains old.book e × (e.entry.port ≡ port)
+  pub here : (e : BookEntry) → Contains requests e → Contains old.book e × (e.request.port ≡ port)
   here e there = ((of_requests client number s e there).0, its_port e there)
 
-  old_ordered : BookIsInOrder old.book
-  old_ordered = laws.marked s.book client number ordered
+  old_ordered : BookIsWellFormed old.book
+  old_ordered = laws.marking_keeps_book_well_formed s.book client number ordered
 
-  old_accepted : All (IsAccepted s.table) old.book
-  old_accepted = laws.still_marked s.table s.book client number accepted
+  old_accepted : All (IsWellFormedEntry s.table) old.book
+  old_accepted = laws.marking_keeps_entries_well_formed s.table s.book client number accepted
 
-  unserved : (e : BookEntry) → Contains requests e → HasNoSlot is.uses e.entry.id
+  unserved : (e : BookEntry) → Contains requests e → HasNoSlot is.uses e.request.id
   unserved e there =
       let w = of_requests client number s e there in
       let p = at_left EntryRelation old.book n.book n_book e w.0 in
-      subst (HasNoSlot is.uses) p.2.id (laws.slots.waiting is.uses m s.device reached is.driver_relation.state_relation p.0 p.1 (p.2.issued ∙ w.1.waits))
+      subst (HasNoSlot is.uses) p.2.id (laws.slots.waiting_has_no_slot is.uses m s.device reached is.driver_relation.state_relation p.0 p.1 (p.2.issued ∙ w.1.waits))
 
   may_meet : AreResolvable port ends_revoked requests (book_and_loans_of port old) k n
   may_meet = record {
     reached = n_reached;
     driver_relation = laws.slots.revoked_agrees k m client number is.driver_relation;
-    book = n_book;
-    lent = is.lent;
-    book_is_in_order = old_ordered;
-    requests_are_accepted = old_accepted;
-    here = here;
-    marked = λ e there. tells_of n.rows old.grants e.entry n_rows (tells client number s marked e (here e there).0);
-    earlier = earlier client number s old_ordered;
-    unserved = λ e there never. unserved e there;
+    book_relation = n_book;
+    loans_agree = is.lent;
+    book_is_well_formed = old_ordered;
+    entries_are_well_formed = old_accepted;
+    are_in_book_of_port = here;
+    revoked_marks_agree = λ e there. tells_of n.rows old.grants e.request n_rows (tells client number s marked e (here e there).0);
+    are_in_order = earlier client number s old_ordered;
+    released_have_no_slot = λ e there never. unserved e there;
   }
 
   pub met : AreResolvedInMachine port ends_revoked requests replies (book_and_loans_of port old) r.now k n
@@ -161,7 +161,7 @@ module _ (laws : PrerequisiteLaws) (s : ServerState) (client : ClientId) (number
       (record { here = here; earlier = earlier client number s old_ordered; ordered = old_ordered; accepted = old_accepted }) r.meets
 
   -- each request that is left was in the book before
-  pub before : (e : BookEntry) → Contains r.now.book e → (was : BookEntry) × Contains s.book was × (e.entry.id ≡ was.entry.id) × (e.entry.port ≡ was.entry.port) × (e.entry.op ≡ was.entry.op)
+  pub before : (e : BookEntry) → Contains r.now.book e → (was : BookEntry) × Contains s.book was × (e.request.id ≡ was.request.id) × (e.request.port ≡ was.request.port) × (e.request.op ≡ was.request.op)
   before e there =
       let w = left.from e there in
       let b = was_there client number s w.was w.there in
@@ -172,7 +172,7 @@ module _ (laws : PrerequisiteLaws) (s : ServerState) (client : ClientId) (number
   each_left P each = All-weaker (Contains r.now.book) P each r.now.book (All-contains_itself r.now.book)
 
   -- who is left wasn't told so
-  left_other : (e : BookEntry) (there : Contains r.now.book e) → WaitsUnder client number (left.from e there).was.entry → ⊥
+  left_other : (e : BookEntry) (there : Contains r.now.book e) → WaitsUnder client number (left.from e there).was.request → ⊥
   left_other e there waits =
       let w = left.from e there in
       left.gone w.was Revoked (in_requests client number s w.was w.there waits) refl e there w.id
@@ -184,34 +184,34 @@ module _ (laws : PrerequisiteLaws) (s : ServerState) (client : ClientId) (number
 
   -- ---- the machine then
 
-  none_held : met.held ≡ []
-  none_held = nobody met.held (λ e there. false≢true (met.whose e there).3)
+  none_held : met.newly_kept ≡ []
+  none_held = nobody met.newly_kept (λ e there. false≢true (met.newly_kept_are_of_requests e there).3)
 
   same_kept : z.kept ≡ m.kept
-  same_kept = met.kept ∙ ap (λ (held : List Pending). held ++ m.kept) none_held
+  same_kept = met.newly_kept_are_kept ∙ ap (λ (held : List Pending). held ++ m.kept) none_held
 
   leaves : (z.rows ≡ n.rows) × ((frame : Frame) → z.owner frame ≡ n.owner frame) × (z.next_id ≡ n.next_id)
-  leaves = deciding_leaves port n met.steps met.own
+  leaves = deciding_leaves port n met.steps met.steps_are_of_port
 
   stands_z : MachineRelation new z
   stands_z = record {
     uses = is.uses;
     are_uses_of = is.are_uses_of;
-    parked = met.parked;
-    unparked = λ q alive. ⊎_elim
+    awaiting_disposition = met.parked;
+    only_dead_ports_park = λ q alive. ⊎_elim
         (λ (same : q ≡ port.0).
         ap met.parked same
         ∙ nobody (met.parked port.0) (λ id there.
-        nowhere id (subst (λ (ids : List RequestId). Contains ids id) (is.unparked port.0 (λ dead. alive (ap (probe_result_of s.ports) same ∙ dead))) (met.still id there).0)))
-        (λ (other : q ≢ port.0). met.others q other ∙ is.unparked q alive)
+        nowhere id (subst (λ (ids : List RequestId). Contains ids id) (is.only_dead_ports_park port.0 (λ dead. alive (ap (probe_result_of s.probe_results) same ∙ dead))) (met.parked_was_parked_and_not_freed id there).0)))
+        (λ (other : q ≢ port.0). met.parked_of_others_is_kept q other ∙ is.only_dead_ports_park q alive)
         (cases_eq q port.0);
     driver_relation = met.driver_relation;
     book = met.book;
-    quarantine_relation = subst (QuarantineRelation s.ports s.kept) (sym same_kept) is.quarantine_relation;
+    quarantine_relation = subst (QuarantineRelation s.probe_results s.kept_loans) (sym same_kept) is.quarantine_relation;
     rows = leaves.0 ∙ n_rows;
     owner = λ frame. leaves.1 frame ∙ is.owner frame ∙ ap (λ (owners : List (Option ClientId)). get_or owners frame.0 None) (sym (r.lends.owners_are_kept ∙ fates_owners ends_revoked requests replies (book_and_loans_of port old) r.now r.meets));
-    lent = λ frame. met.lent frame ∙ sym (r.lends.others_are_kept frame (nowhere frame));
-    next = leaves.2 ∙ is.next;
+    lent = λ frame. met.loans_agree frame ∙ sym (r.lends.others_are_kept frame (nowhere frame));
+    next_id_is = leaves.2 ∙ is.next_id_is;
   }
 
   -- ---- the steps
@@ -221,36 +221,36 @@ module _ (laws : PrerequisiteLaws) (s : ServerState) (client : ClientId) (number
 
   its_step : (step : Step) → Contains met.steps step → IsResolveStep port step → IsAnswerOf IsRevoked step
   its_step (Answer e o) there own =
-      let x = met.answered e o there in
+      let x = met.answers_are_as_decided e o there in
       let same : Complete Revoked ≡ Complete o = x.3 in
       let is : o ≡ Revoked = cc in
       (is, x.2.issued ∙ (of_requests client number s x.0 x.1).1.waits)
-  its_step (WaitAgain e) there own = let x = met.again e there in let same : Complete Revoked ≡ Requeue = x.3 in absurd cc
+  its_step (WaitAgain e) there own = let x = met.requeues_are_as_decided e there in let same : Complete Revoked ≡ Requeue = x.3 in absurd cc
   its_step step there own = absurd own
 
   all_answers : All (IsAnswerOf IsRevoked) met.steps
-  all_answers = All-weaker (Contains met.steps) (IsAnswerOf IsRevoked) (λ step there. its_step step there (All-contains (IsResolveStep port) met.steps step met.own there)) met.steps (All-contains_itself met.steps)
+  all_answers = All-weaker (Contains met.steps) (IsAnswerOf IsRevoked) (λ step there. its_step step there (All-contains (IsResolveStep port) met.steps step met.steps_are_of_port there)) met.steps (All-contains_itself met.steps)
 
   joined : after m steps ≡ z
-  joined = laws.basic.joined m met.steps (Revoke client number ∷ [])
+  joined = laws.steps_and_accesses.after_joins m met.steps (Revoke client number ∷ [])
 
   pub may : AllEnabled m steps
-  may = laws.basic.may m met.steps (Revoke client number ∷ []) (tt, has_row) met.steps_are_enabled
+  may = laws.steps_and_accesses.enabled_lists_join m met.steps (Revoke client number ∷ []) (tt, has_row) met.steps_are_enabled
 
   pub stands : MachineRelation new (after m steps)
   stands = subst (MachineRelation new) (sym joined) stands_z
 
   pub reached_then : IsReachable (after m steps)
-  reached_then = laws.basic.reached m steps reached may
+  reached_then = laws.steps_and_accesses.reachable_stays_reachable m steps reached may
 
   -- what is asked of another port is as it was
   pub apart : (q : Port) → q ≢ port → requests_of_port q (unanswered_of r.now.book) ≡ requests_of_port q (unanswered_of s.book)
   apart q ne =
       fates_apart laws q ends_revoked requests replies (book_and_loans_of port old) r.now r.meets
-      (All-weaker (Contains requests) (λ (e : BookEntry). IsNoneOf q e.entry.id (unanswered_of old.book)) (λ e there. none_of_one laws q port old.book ne old_ordered e (here e there)) requests (All-contains_itself requests))
-      ∙ ap (requests_of_port q) (laws.asks_marked s.book client number)
+      (All-weaker (Contains requests) (λ (e : BookEntry). IsNoneOf q e.request.id (unanswered_of old.book)) (λ e there. none_of_one laws q port old.book ne old_ordered e (here e there)) requests (All-contains_itself requests))
+      ∙ ap (requests_of_port q) (laws.unanswered_after_marking s.book client number)
 
-  pub backed : IsBacked s.device s.device m steps
+  pub backed : TapeBacksSteps s.device s.device m steps
   backed = laws.backed_parts s.device s.device s.device m (Revoke client number ∷ []) met.steps (laws.backed_own s.device m (Revoke client number) (λ none. none)) (met.backed s.device)
 
   pub belong : (ports : Ports) → AreStepsOfCall {D = DeviceStep} (RevokeOf client number) ports steps
@@ -260,10 +260,10 @@ module _ (laws : PrerequisiteLaws) (s : ServerState) (client : ClientId) (number
   pub issue_none : (id : RequestId) → list_any (issues_id id) steps ≡ false
   issue_none id = any_append (issues_id id) met.steps (Revoke client number ∷ []) ∙ or_none (list_any (issues_id id) met.steps) ∙ answers_issue_none IsRevoked id met.steps all_answers
 
-  pub last : IssuesLast steps
+  pub last : IssueIsLastOfRequest steps
   last = none_last steps issue_none
 
-  pub lawful : (then_at : AbstractState) (evidence : Evidence) (ports : Ports) → AllAnswersLawful then_at evidence ports steps
+  pub lawful : (then_at : AbstractState) (evidence : Evidence) (ports : Ports) → AnswersAndWaitsLawful then_at evidence ports steps
   lawful then_at evidence ports = lawful_join then_at evidence ports met.steps (Revoke client number ∷ [])
       (answers_lawful IsRevoked then_at evidence ports (λ e o told. told_lawful e o told.0 told.1) met.steps all_answers) tt
     where
@@ -271,7 +271,7 @@ module _ (laws : PrerequisiteLaws) (s : ServerState) (client : ClientId) (number
       told_lawful e o is waits = subst (IsLawfulAnswer then_at evidence ports e) (sym is) (inl waits)
 
   pub tells_replies : RepliesMatch steps replies
-  tells_replies = record { answers = met.replies_match.answers; is_permutation = subst (IsPermutation met.replies_match.answers) (sym (answers_append met.steps (Revoke client number ∷ []) ∙ append-nil (answers_of met.steps))) met.replies_match.is_permutation; ordered = met.replies_match.ordered; replies_are = met.replies_match.replies_are }
+  tells_replies = record { answers = met.replies_match.answers; is_permutation = subst (IsPermutation met.replies_match.answers) (sym (answers_append met.steps (Revoke client number ∷ []) ∙ append-nil (answers_of met.steps))) met.replies_match.is_permutation; ordered = met.replies_match.ordered; replies_are_of_answers = met.replies_match.replies_are_of_answers }
 
   -- ---- who is answered
 
@@ -287,7 +287,7 @@ module _ (laws : PrerequisiteLaws) (s : ServerState) (client : ClientId) (number
   pub only : (e : Pending) (o : Outcome) → Contains steps (Answer e o) → Contains m.book e × (e.issued ≡ false) × IsSameGrantName client number e.request.asked.client e.request.asked.grant
   only e o there =
       let first = answered_first e o there in
-      let x = met.answered e o first in
+      let x = met.answers_are_as_decided e o first in
       let w = (of_requests client number s x.0 x.1).1 in (
         answered_stood IsRevoked n met.steps all_answers met.steps_are_enabled e o first,
         (answer_told IsRevoked met.steps all_answers e o first).1,
@@ -299,7 +299,7 @@ module _ (laws : PrerequisiteLaws) (s : ServerState) (client : ClientId) (number
     where
       told : (x : Pending) × (o : Outcome) × Contains met.steps (Answer x o) × (x.request.id.0 ≡ e.request.id.0) → Contains met.steps (Answer e Revoked)
       told (x, o, here, same) =
-          let one : x ≡ e = laws.basic.one m reached x e (answered_stood IsRevoked n met.steps all_answers met.steps_are_enabled x o here) there same in
+          let one : x ≡ e = laws.steps_and_accesses.an_id_is_one_request m reached x e (answered_stood IsRevoked n met.steps all_answers met.steps_are_enabled x o here) there same in
           subst (λ (y : Pending). Contains met.steps (Answer y Revoked)) one
           (subst (λ (p : Outcome). Contains met.steps (Answer x p)) (answer_told IsRevoked met.steps all_answers x o here).0 here)
 
@@ -308,6 +308,6 @@ module _ (laws : PrerequisiteLaws) (s : ServerState) (client : ClientId) (number
           let h = at_right EntryRelation r.now.book z.book met.book e still in
           let w = left.from h.0 h.1 in
           let a = at_right EntryRelation old.book n.book n_book e there in
-          let one : w.was ≡ a.0 = laws.one old.book w.was a.0 old_ordered w.there a.1 (sym w.id ∙ sym h.2.id ∙ a.2.id) in
-          absurd (left_other h.0 h.1 (subst (λ (y : BookEntry). WaitsUnder client number y.entry) (sym one)
+          let one : w.was ≡ a.0 = laws.an_id_is_one_entry old.book w.was a.0 old_ordered w.there a.1 (sym w.id ∙ sym h.2.id ∙ a.2.id) in
+          absurd (left_other h.0 h.1 (subst (λ (y : BookEntry). WaitsUnder client number y.request) (sym one)
           (record { waits = sym a.2.issued ∙ waits; client_is = sym a.2.client ∙ its.0; grant_is = sym a.2.grant ∙ its.1 })))

@@ -23,11 +23,11 @@ stalled_revocation laws s new client number replies t r = subst (λ (n : ServerS
       (goes laws s t s.device t)
       (never_ready s t.served_ports_are_dead each.has.0.port.0)
       (λ q ready. absurd (never_ready s t.served_ports_are_dead q.0 ready))
-      (λ m was is. record { ordered = t.server_invariant.book_is_in_order; accepted = t.server_invariant.requests_are_accepted; marked = t.server_invariant.revoked_marks_agree; reached = was; stands = is });
+      (λ m was is. record { ordered = t.server_invariant.book_is_well_formed; accepted = t.server_invariant.entries_are_well_formed; marked = t.server_invariant.revoked_marks_agree; reached = was; stands = is });
 })
   where
     each : RevokesEach client number replies s new
-    each = revokes_each laws s new client number replies t.server_invariant.book_is_in_order t.server_invariant.requests_are_accepted r
+    each = revokes_each laws s new client number replies t.server_invariant.book_is_well_formed t.server_invariant.entries_are_well_formed r
 
     off : StuckInvariant (with_revoked client number new.table each.now.book s)
     off = revoked_stalled laws s client number replies new each t

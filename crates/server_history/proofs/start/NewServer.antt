@@ -17,7 +17,7 @@ use Rattle.refinement.specs.Replug.{replug_candidates}
 use Rattle.refinement.specs.Fragments.{driver_state_of}
 use Rattle.refinement.specs.Driver.{DriverRelation, idle_driver_state}
 use Rattle.refinement.specs.Slots.{Free, SlotStates}
-use Rattle.refinement.specs.SparedBook.{AllFurther, SparesBook}
+use Rattle.refinement.specs.SparedBook.{AllFurther, KeepsBookAndLoans}
 use Rattle.block_machine.specs.Histories.{IsReachable}
 use Rattle.block_machine.specs.Expected.{after, IsValidRow, IsInitial}
 use Rattle.block_machine.specs.Ports.{PortsWellFormed, IsValidMode}
@@ -29,7 +29,7 @@ use Rattle.host_boot.specs.TakeOver.{StillBacksProbeResult, IsUnusedOrDead, Back
 use Rattle.host_boot.specs.declared.ProbeResult.{ProbeResult}
 use Rattle.host_boot.specs.declared.ProbeResult.TheVariants.{Unserved, Ready, Unready}
 use Rattle.host_boot.specs.declared.Host.{Host}
-use Rattle.identify.specs.Page.{unfit_number}
+use Rattle.identify.specs.IdentityPage.{unfit_number}
 use Rattle.identify.specs.declared.Unfit.{Unfit as Fault}
 use Rattle.identify.specs.declared.Unfit.TheVariants as fault
 use Rattle.identify.specs.Wanted.{serial_of}
@@ -42,10 +42,10 @@ use Rattle.server_history.specs.Prerequisites.{PrerequisiteLaws}
 use Rattle.server_history.specs.ResetLaws.{TakeOverLaws}
 use Rattle.server_history.specs.Histories.{StartsHistory}
 use Rattle.block_machine.specs.DueRequests.{NoneDue}
-use Rattle.request_queue.specs.BookEntries.{BookEntry, IsAccepted, BookIsInOrder, unanswered_of}
+use Rattle.request_queue.specs.BookEntries.{BookEntry, IsWellFormedEntry, BookIsWellFormed, unanswered_of}
 use Rattle.request_queue.specs.BookRelation.{BookRelation}
 use Rattle.slots.specs.SlotUses.{PortSlots}
-use Rattle.server_history.specs.ServerState.{ServerState, AreUsesOf, InCallInvariant, MachineRelation, IsNewServer, PortInvariant, SettledInvariant, IsUsedAs, is_served, QuarantineRelation, DifferInRequest, quarantined_at, mode_in, ports_of, state_of, slot_state_of, used_for, RevokedMarkInvariant}
+use Rattle.server_history.specs.ServerState.{ServerState, SlotUsesAgreeUnlessDead, InCallInvariant, MachineRelation, IsNewServer, PortInvariant, SettledInvariant, SlotUseAgreesUnlessDead, is_served, QuarantineRelation, DifferInRequest, quarantined_at, mode_in, ports_of, state_of, slot_state_of, used_for, RevokedMarkInvariant}
 use Rattle.server_history.proofs.state.FollowedAccesses.{followed_adds}
 use Rattle.server_history.proofs.start.TakenOverPorts.{behind, found_is, four, none_past, ports_on, served_there}
 use Rattle.server_history.proofs.state.FirstMembers.{nowhere}
@@ -62,9 +62,9 @@ abbrev machine_of : Device → List GrantRow → (Frame → Option ClientId) →
 machine_of d rows owner = record {
   present = λ port. (d.port port.0).present;
   disk_ids = λ port. (d.port port.0).disk.name;
-  sizes = λ port. (d.port port.0).disk.size;
-  disks = λ port. told_bytes (d.port port.0).disk.sectors;
-  blocks_since_flush = λ port k. replug_candidates d.tape (d.port port.0).lasting port.0 k;
+  sizes = λ port. (d.port port.0).disk.sector_count;
+  disk_bytes = λ port. told_bytes (d.port port.0).disk.sectors;
+  overwritten_since_flush = λ port k. replug_candidates d.tape (d.port port.0).lasting port.0 k;
   book = [];
   kept = [];
   lent = λ frame. None;
@@ -77,7 +77,7 @@ machine_of d rows owner = record {
 machine_knows : PrerequisiteLaws → (d : Device) (rows : List GrantRow) (owner : Frame → Option ClientId) → IsInitial (machine_of d rows owner) → IsIdle d
     → TellsDisks d → DriverRelation (machine_of d rows owner) (idle_driver_state d)
 machine_knows laws d rows owner start is told =
-    laws.idle_agrees (machine_of d rows owner) d start is (λ q. record { present = refl; id = refl; size = refl }) (λ f b low small. refl) sectors (λ _ port k. refl)
+    laws.idle_device_is_related (machine_of d rows owner) d start is (λ q. record { present = refl; id = refl; sector_count = refl }) (λ f b low small. refl) sectors (λ _ port k. refl)
   where
     sectors : d.telling ≡ true → (port : ℕ) → SameSectors (machine_of d rows owner) (d.port port).disk port
     sectors tells q =
@@ -87,16 +87,16 @@ machine_knows laws d rows owner start is told =
 -- ---- steps of the device
 
 -- steps that spare the book leave a machine to begin with
-start_on : (m later : Machine) → IsInitial m → SparesBook m later → IsInitial later
+start_on : (m later : Machine) → IsInitial m → KeepsBookAndLoans m later → IsInitial later
 start_on m later s spares = record {
-  book = subst (λ (es : List Pending). AllFurther es later.book) s.book spares.book;
-  kept = subst (λ (es : List Pending). AllFurther es later.kept) s.kept spares.kept;
-  lent = λ frame. ap (λ (lent : Frame → Option RequestId). lent frame) spares.lent ∙ s.lent frame;
-  next = spares.next ∙ s.next;
-  few = subst (λ (rows : List GrantRow). length rows ≤ 64) (sym spares.rows) s.few;
-  rows = subst (AllPairs DifferInName) (sym spares.rows) s.rows;
-  configured = λ row here. s.configured row (subst (λ (rows : List GrantRow). Contains rows row) spares.rows here);
-  owned = λ frame client own. s.owned frame client (sym (ap (λ (owner : Frame → Option ClientId). owner frame) spares.owner) ∙ own);
+  book_is_empty = subst (λ (es : List Pending). AllFurther es later.book) s.book_is_empty spares.book;
+  none_is_kept = subst (λ (es : List Pending). AllFurther es later.kept) s.none_is_kept spares.kept;
+  no_frame_is_lent = λ frame. ap (λ (lent : Frame → Option RequestId). lent frame) spares.lent ∙ s.no_frame_is_lent frame;
+  next_id_is_1 = spares.next_id ∙ s.next_id_is_1;
+  rows_are_at_most_64 = subst (λ (rows : List GrantRow). length rows ≤ 64) (sym spares.rows) s.rows_are_at_most_64;
+  rows_differ_in_name = subst (AllPairs DifferInName) (sym spares.rows) s.rows_differ_in_name;
+  rows_are_valid = λ row here. s.rows_are_valid row (subst (λ (rows : List GrantRow). Contains rows row) spares.rows here);
+  owned_frames_are_clients = λ frame client own. s.owned_frames_are_clients frame client (sym (ap (λ (owner : Frame → Option ClientId). owner frame) spares.owner) ∙ own);
 }
 
 -- ---- the ports
@@ -125,10 +125,10 @@ cause_is wanted (Unready state) port cause d s is = unfit_numbered cause port d 
 -- what is known of ports at each moment of a call makes them fit
 pub kept_fit : (s : ServerState) → InCallInvariant s → PortsWellFormed (ports_of s)
 kept_fit s k = record {
-  few_are_served = λ port served. (k.served_ports_exist port.0 served).0;
-  unserved_are_absent = λ port other. absent_is (probe_result_of s.ports port.0) other;
+  served_are_ports_0_to_3 = λ port served. (k.served_ports_exist port.0 served).0;
+  unserved_are_absent = λ port other. absent_is (probe_result_of s.probe_results port.0) other;
   modes_are_valid = λ port ready. (its_mode s port.0 k (ready_found s port.0 k ready).0).0;
-  causes_are_valid = λ port cause is. caused (probe_result_of s.ports port.0) port cause is refl;
+  causes_are_valid = λ port cause is. caused (probe_result_of s.probe_results port.0) port cause is refl;
 }
   where
     absent_is : (f : ProbeResult) → is_served f ≡ false → state_of f ≡ Absent
@@ -136,7 +136,7 @@ kept_fit s k = record {
     absent_is (Ready info) other = absurd (false≢true (sym other))
     absent_is (Unready state) other = absurd (false≢true (sym other))
 
-    caused : (f : ProbeResult) (port : Port) (cause : ℕ) → state_of f ≡ Unfit cause → probe_result_of s.ports port.0 ≡ f → (1 ≤ cause) × (cause ≤ 9)
+    caused : (f : ProbeResult) (port : Port) (cause : ℕ) → state_of f ≡ Unfit cause → probe_result_of s.probe_results port.0 ≡ f → (1 ≤ cause) × (cause ≤ 9)
     caused Unserved port cause is e = absurd (let z : Absent ≡ Unfit cause = is in cc)
     caused (Ready info) port cause is e = absurd (let z : ReadyState ≡ Unfit cause = is in cc)
     caused (Unready state) port cause is e =
@@ -147,93 +147,93 @@ kept_fit s k = record {
 
 -- a slot that was left as it was is used as a server without requests has it
 pub left_as : (ports found : List ProbeResult) (slots : List PortSlots) (uses : SlotStates) (port slot : ℕ) → probe_result_of found port ≡ probe_result_of ports port → used_for slots port slot ≡ None → IsUnusedOrDead ports uses port slot
-    → IsUsedAs (probe_result_of found port) (used_for slots port slot) (uses port slot)
+    → SlotUseAgreesUnlessDead (probe_result_of found port) (used_for slots port slot) (uses port slot)
 left_as ports found list uses port slot same none (inl free) = λ _. free ∙ sym (ap slot_state_of none)
 left_as ports found list uses port slot same none (inr (zero_is, own, dead)) = λ alive. absurd (alive (same ∙ dead))
 
 -- where no request is kept, no loan is
 pub none_are_kept : (found : List ProbeResult) (kept : List (List Lending)) (requests : List Pending) → requests ≡ [] → ((port : ℕ) → quarantined_at kept port ≡ []) → QuarantineRelation found kept requests
 none_are_kept found kept requests none empty = record {
-  dead = λ e here. absurd (nobody e here);
-  loan = λ e here. absurd (nobody e here);
-  whose = λ port loan here. absurd (nowhere loan (subst (λ (loans : List Lending). Contains loans loan) (empty port) here));
-  apart = λ port. subst (AllPairs DifferInRequest) (sym (empty port)) (λ i j d lt small. absurd (omega (arith, small)));
+  quarantine_ports_are_dead = λ e here. absurd (nobody e here);
+  each_request_has_its_loan = λ e here. absurd (nobody e here);
+  each_loan_has_its_request = λ port loan here. absurd (nowhere loan (subst (λ (loans : List Lending). Contains loans loan) (empty port) here));
+  loans_differ_in_request = λ port. subst (AllPairs DifferInRequest) (sym (empty port)) (λ i j d lt small. absurd (omega (arith, small)));
 }
   where
     nobody : (e : Pending) → Contains requests e → ⊥
     nobody e here = nowhere e (subst (λ (es : List Pending). Contains es e) none here)
 
 -- no requests are in order
-none_in_order : BookIsInOrder []
+none_in_order : BookIsWellFormed []
 none_in_order = record {
   ids_rise = λ i j d lt small. absurd (omega (arith, small));
   clients_are_valid = λ k d small. absurd (omega (arith, small));
-  clients_have_few = λ client. omega arith;
-  issues_are_few = λ k d small. absurd (omega (arith, small));
+  clients_are_within_limit = λ client. omega arith;
+  issues_are_within_limit = λ k d small. absurd (omega (arith, small));
 }
 
 -- ---- the whole
 
 module _ (below : PrerequisiteLaws) (laws : TakeOverLaws) (s : ServerState) (host : Host) (d : Device) (is : IsIdle d) (told : TellsDisks d) (taken : TakesOver s.wanted host d s.device) (n : IsNewServer host s) where
-  ports_as : (port : ℕ) → port < 4 → PortInvariant s.wanted s.ports port s.device
-  ports_as port low = ports_on laws s host d is taken n.ports n.four below port low
+  ports_as : (port : ℕ) → port < 4 → PortInvariant s.wanted s.probe_results port s.device
+  ports_as port low = ports_on laws s host d is taken n.probe_results_are_of_host n.host_has_four_ports below port low
 
-  stood : (port : ℕ) → port < 4 → BacksProbeResult (wanted_of s.wanted port) (probe_result_of s.ports port) port s.device
-  stood port low = behind laws s host d is taken n.ports n.four port low
+  stood : (port : ℕ) → port < 4 → BacksProbeResult (wanted_of s.wanted port) (probe_result_of s.probe_results port) port s.device
+  stood port low = behind laws s host d is taken n.probe_results_are_of_host n.host_has_four_ports port low
 
-  found_as : (port : ℕ) → probe_result_of s.ports port ≡ probe_result_of host.ports port
-  found_as port = found_is laws s host d is taken n.ports n.four port
+  found_as : (port : ℕ) → probe_result_of s.probe_results port ≡ probe_result_of host.ports port
+  found_as port = found_is laws s host d is taken n.probe_results_are_of_host n.host_has_four_ports port
 
-  low_as : (port : ℕ) → is_served (probe_result_of s.ports port) ≡ true → port < 4
-  low_as port served = four laws s host d is taken n.ports n.four port served
+  low_as : (port : ℕ) → is_served (probe_result_of s.probe_results port) ≡ true → port < 4
+  low_as port served = four laws s host d is taken n.probe_results_are_of_host n.host_has_four_ports port served
 
   abbrev first_machine : Machine
   first_machine = machine_of d s.grants (owner_of s.table)
 
   start : IsInitial first_machine
   start = record {
-    book = refl;
-    kept = refl;
-    lent = λ frame. refl;
-    next = refl;
-    few = n.few;
-    rows = n.names;
-    configured = λ row here. All-contains (λ (row : GrantRow). IsValidRow row) s.grants row n.rows_are_valid here;
-    owned = λ frame client own. let c = n.clients frame client own in (c.0, c.1, (n.owned_frames_are_clients frame client own).0, c.2);
+    book_is_empty = refl;
+    none_is_kept = refl;
+    no_frame_is_lent = λ frame. refl;
+    next_id_is_1 = refl;
+    rows_are_at_most_64 = n.at_most_64_grants;
+    rows_differ_in_name = n.grants_differ_in_name;
+    rows_are_valid = λ row here. All-contains (λ (row : GrantRow). IsValidRow row) s.grants row n.rows_are_valid here;
+    owned_frames_are_clients = λ frame client own. let c = n.owners_are_clients frame client own in (c.0, c.1, (n.owned_frames_are_clients frame client own).0, c.2);
   }
 
   reached_first : IsReachable first_machine
   reached_first = record { initial_machine = first_machine; steps_since = []; is_initial = start; is_legal = tt; leads_to_machine = refl }
 
-  uses_are : AreUsesOf s taken.uses
-  uses_are port slot = left_as host.ports s.ports s.slots taken.uses port slot (found_as port) (n.unused port slot) (taken.slots_are_unused port slot)
+  uses_are : SlotUsesAgreeUnlessDead s taken.uses
+  uses_are port slot = left_as host.ports s.probe_results s.slots taken.uses port slot (found_as port) (n.no_slot_is_used port slot) (taken.slots_are_unused port slot)
 
-  stands_for : (m : Machine) → IsInitial m → SparesBook first_machine m → DriverRelation m (driver_state_of taken.uses (λ port. []) s.device) → MachineRelation s m
+  stands_for : (m : Machine) → IsInitial m → KeepsBookAndLoans first_machine m → DriverRelation m (driver_state_of taken.uses (λ port. []) s.device) → MachineRelation s m
   stands_for m begun spares knows = record {
     uses = taken.uses;
     are_uses_of = uses_are;
-    parked = λ port. [];
-    unparked = λ port alive. refl;
+    awaiting_disposition = λ port. [];
+    only_dead_ports_park = λ port alive. refl;
     driver_relation = knows;
-    book = subst (λ (book : List BookEntry). BookRelation book m.book) (sym n.book) (subst (λ (es : List Pending). BookRelation [] es) (sym begun.book) tt);
-    quarantine_relation = none_are_kept s.ports s.kept m.kept begun.kept n.unkept;
+    book = subst (λ (book : List BookEntry). BookRelation book m.book) (sym n.book_is_empty) (subst (λ (es : List Pending). BookRelation [] es) (sym begun.book_is_empty) tt);
+    quarantine_relation = none_are_kept s.probe_results s.kept_loans m.kept begun.none_is_kept n.no_loan_is_kept;
     rows = spares.rows;
     owner = λ frame. ap (λ (owner : Frame → Option ClientId). owner frame) spares.owner;
-    lent = λ frame. begun.lent frame ∙ sym (n.lent frame);
-    next = begun.next ∙ ap (λ (k : ℕ). k + 1) (sym n.last_id);
+    lent = λ frame. begun.no_frame_is_lent frame ∙ sym (n.no_frame_is_lent frame);
+    next_id_is = begun.next_id_is_1 ∙ ap (λ (k : ℕ). k + 1) (sym n.no_id_was_handed_out);
   }
 
   ports_fit : PortsWellFormed (ports_of s)
   ports_fit = record {
-    few_are_served = λ port served. low_as port.0 served;
-    unserved_are_absent = λ port other. absent_is (probe_result_of s.ports port.0) other;
+    served_are_ports_0_to_3 = λ port served. low_as port.0 served;
+    unserved_are_absent = λ port other. absent_is (probe_result_of s.probe_results port.0) other;
     modes_are_valid = λ port ready. ⊎_elim
-        (λ (low : port.0 < 4). subst IsValidMode (sym (n.modes port.0 low)) (stood_mode (wanted_of s.wanted port.0) (probe_result_of s.ports port.0) port.0 s.device (ports_as port.0 low).probe_result_is_backed).0)
-        (λ (high : 4 ≤ port.0). absurd (let z : Absent ≡ ReadyState = sym (ap state_of (found_as port.0 ∙ none_past host.ports port.0 (let l = n.four in omega (arith, l, high)))) ∙ ready in cc))
+        (λ (low : port.0 < 4). subst IsValidMode (sym (n.modes_are_probed port.0 low)) (stood_mode (wanted_of s.wanted port.0) (probe_result_of s.probe_results port.0) port.0 s.device (ports_as port.0 low).probe_result_is_backed).0)
+        (λ (high : 4 ≤ port.0). absurd (let z : Absent ≡ ReadyState = sym (ap state_of (found_as port.0 ∙ none_past host.ports port.0 (let l = n.host_has_four_ports in omega (arith, l, high)))) ∙ ready in cc))
         (cases_lt port.0 4);
     causes_are_valid = λ port cause is. ⊎_elim
-        (λ (low : port.0 < 4). cause_is (wanted_of s.wanted port.0) (probe_result_of s.ports port.0) port.0 cause s.device (stood port.0 low) is)
-        (λ (high : 4 ≤ port.0). absurd (let z : Absent ≡ Unfit cause = sym (ap state_of (found_as port.0 ∙ none_past host.ports port.0 (let l = n.four in omega (arith, l, high)))) ∙ is in cc))
+        (λ (low : port.0 < 4). cause_is (wanted_of s.wanted port.0) (probe_result_of s.probe_results port.0) port.0 cause s.device (stood port.0 low) is)
+        (λ (high : 4 ≤ port.0). absurd (let z : Absent ≡ Unfit cause = sym (ap state_of (found_as port.0 ∙ none_past host.ports port.0 (let l = n.host_has_four_ports in omega (arith, l, high)))) ∙ is in cc))
         (cases_lt port.0 4);
   }
     where
@@ -246,25 +246,25 @@ module _ (below : PrerequisiteLaws) (laws : TakeOverLaws) (s : ServerState) (hos
   kept_by m reached stands = record {
     adapter_is_on = taken.adapter_is_on;
     driver_memory_fits = n.driver_memory_fits;
-    served_ports_exist = λ port served. let low = low_as port served in (low, served_there (wanted_of s.wanted port) (probe_result_of s.ports port) port s.device (stood port low) served);
+    served_ports_exist = λ port served. let low = low_as port served in (low, served_there (wanted_of s.wanted port) (probe_result_of s.probe_results port) port s.device (stood port low) served);
     port_invariant = ports_as;
     rows_are_valid = n.rows_are_valid;
     owned_frames_are_clients = n.owned_frames_are_clients;
-    four_slots = n.four_slots;
-    four_modes = n.four_modes;
-    four_remembered = n.four_remembered;
-    four_kept = n.four_kept;
-    few_kept = λ port. let none = ap length (n.unkept port) in omega (arith, none);
-    slots = λ port low. record { places = n.places port low; usable = n.usable port low; unused = λ slot high. n.unused port slot };
-    modes = n.modes;
-    slots_queue_as_asked = λ port slot used e is. absurd (let z : None ≡ Some used = sym (n.unused port.0 slot) ∙ is in cc);
-    slots_store_commands = λ port slot used is. absurd (let z : None ≡ Some used = sym (n.unused port slot) ∙ is in cc);
-    plain_stands_alone = λ port slot used is. absurd (let z : None ≡ Some used = sym (n.unused port slot) ∙ is in cc);
-    requests_are_accepted = subst (λ (book : List BookEntry). All (IsAccepted s.table) book) (sym n.book) (All-nil (IsAccepted s.table));
-    book_is_in_order = subst BookIsInOrder (sym n.book) none_in_order;
-    revoked_marks_agree = subst (λ (book : List BookEntry). All (RevokedMarkInvariant s.grants) book) (sym n.book) (All-nil (RevokedMarkInvariant s.grants));
-    ids_were_handed_out = subst (λ (book : List BookEntry). All (λ e. e.entry.id.0 ≤ s.last_id) book) (sym n.book) (All-nil (λ (e : BookEntry). e.entry.id.0 ≤ s.last_id));
-    requests_are_of_ready_ports = subst (λ (book : List BookEntry). All (λ e. state_of (probe_result_of s.ports e.entry.port.0) ≡ ReadyState) book) (sym n.book) (All-nil (λ (e : BookEntry). state_of (probe_result_of s.ports e.entry.port.0) ≡ ReadyState));
+    slots_are_of_four_ports = n.slots_are_of_four_ports;
+    modes_are_of_four_ports = n.modes_are_of_four_ports;
+    remembered_is_of_four_ports = n.remembered_is_of_four_ports;
+    kept_loans_are_of_four_ports = n.kept_loans_are_of_four_ports;
+    at_most_32_loans_kept_by_port = λ port. let none = ap length (n.no_loan_is_kept port) in omega (arith, none);
+    slots_invariant = λ port low. record { has_32_slots = n.has_32_slots port low; usable_count_is_of_mode = n.usable_count_is_of_mode port low; unusable_are_unused = λ slot high. n.no_slot_is_used port slot };
+    modes_are_probed = n.modes_are_probed;
+    slots_queue_as_asked = λ port slot used e is. absurd (let z : None ≡ Some used = sym (n.no_slot_is_used port.0 slot) ∙ is in cc);
+    slots_store_commands = λ port slot used is. absurd (let z : None ≡ Some used = sym (n.no_slot_is_used port slot) ∙ is in cc);
+    plain_stands_alone = λ port slot used is. absurd (let z : None ≡ Some used = sym (n.no_slot_is_used port slot) ∙ is in cc);
+    entries_are_well_formed = subst (λ (book : List BookEntry). All (IsWellFormedEntry s.table) book) (sym n.book_is_empty) (All-nil (IsWellFormedEntry s.table));
+    book_is_well_formed = subst BookIsWellFormed (sym n.book_is_empty) none_in_order;
+    revoked_marks_agree = subst (λ (book : List BookEntry). All (RevokedMarkInvariant s.grants) book) (sym n.book_is_empty) (All-nil (RevokedMarkInvariant s.grants));
+    ids_were_handed_out = subst (λ (book : List BookEntry). All (λ e. e.request.id.0 ≤ s.last_id) book) (sym n.book_is_empty) (All-nil (λ (e : BookEntry). e.request.id.0 ≤ s.last_id));
+    requests_are_of_ready_ports = subst (λ (book : List BookEntry). All (λ e. state_of (probe_result_of s.probe_results e.request.port.0) ≡ ReadyState) book) (sym n.book_is_empty) (All-nil (λ (e : BookEntry). state_of (probe_result_of s.probe_results e.request.port.0) ≡ ReadyState));
     machine = m;
     reached = reached;
     machine_relation = stands;
@@ -272,31 +272,31 @@ module _ (below : PrerequisiteLaws) (laws : TakeOverLaws) (s : ServerState) (hos
 
   -- nothing is asked, so nothing is due
   none_due : (port : Port) → NoneDue (mode_in s port) (unanswered_of s.book) port
-  none_due port = subst (λ (book : List BookEntry). NoneDue (mode_in s port) (unanswered_of book) port) (sym n.book) (λ r own due. nowhere r due.is_in_book)
+  none_due port = subst (λ (book : List BookEntry). NoneDue (mode_in s port) (unanswered_of book) port) (sym n.book_is_empty) (λ r own due. nowhere r due.is_in_book)
 
   pub new_server : SettledInvariant s × StartsHistory s
   new_server =
       let x = (followed_adds below taken.followed (λ port slot. Free) (λ port. []) refl).simulates first_machine reached_first (machine_knows below d s.grants (owner_of s.table) start is told) in
       let later : Machine = after first_machine x.0 in
-      let spares : SparesBook first_machine later = below.basic.spares first_machine x.0 x.3.only in
+      let spares : KeepsBookAndLoans first_machine later = below.steps_and_accesses.device_steps_spare_book first_machine x.0 x.3.all_steps_are_devices in
       let begun : IsInitial later = start_on first_machine later start spares in
       let stands : MachineRelation s later = stands_for later begun spares x.2 in
-      let reached : IsReachable later = below.basic.reached first_machine x.0 reached_first x.1 in
+      let reached : IsReachable later = below.steps_and_accesses.reachable_stays_reachable first_machine x.0 reached_first x.1 in
       let kept : InCallInvariant s = kept_by later reached stands in (
         record { in_call_invariant = kept; nothing_is_due = none_due },
         (
           record { device = s.device; abstract = record { machine = later; ports = ports_of s } },
           record {
             history = ((begun, ports_fit), ((slots s kept later reached stands, holds_with s kept later reached stands), (kept.adapter_is_on, taken.ie_is_set)));
-            stands = record { device_is = refl; ports_are = refl; machine_stands_for_it = stands };
+            state_is_at_history_end = record { device_is = refl; ports_are = refl; machine_stands_for_it = stands };
           },
         ),
       )
 
 -- ---- a new server
 
-pub new_well : TakeOverLaws → (s : ServerState) (host : Host) (idle : Device) (port : Port) → InCallInvariant s → IsIdle idle → TakesOver s.wanted host idle s.device → s.ports ≡ host.ports
-    → state_of (probe_result_of s.ports port.0) ≡ ReadyState → Undisturbed port.0 idle s.device → RunsWell (s.device.port port.0)
+pub new_well : TakeOverLaws → (s : ServerState) (host : Host) (idle : Device) (port : Port) → InCallInvariant s → IsIdle idle → TakesOver s.wanted host idle s.device → s.probe_results ≡ host.ports
+    → state_of (probe_result_of s.probe_results port.0) ≡ ReadyState → Undisturbed port.0 idle s.device → RunsWell (s.device.port port.0)
 new_well laws s host idle port k rest taken same ready calm =
     let found = (ready_found s port.0 k ready).1 in
     laws.port_runs_well s.wanted host port.0 found.0 idle s.device rest taken (ap (λ (ports : List ProbeResult). probe_result_of ports port.0) (sym same) ∙ found.1) calm

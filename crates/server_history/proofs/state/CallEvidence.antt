@@ -10,20 +10,20 @@ use Rattle.adapter.specs.Access.{Access}
 use Rattle.adapter.specs.Device.{DevicePort, Device}
 use Rattle.adapter.specs.declared.access.DeviceStep.{DeviceStep}
 use Rattle.refinement.specs.Relation.{port_at}
-use Rattle.block_machine.specs.Events.{AbstractCall, CallResult, AbstractState, AllAnswersLawful}
+use Rattle.block_machine.specs.Events.{AbstractCall, AbstractCallResult, AbstractState, AnswersAndWaitsLawful}
 use Rattle.block_machine.specs.Histories.{JointState}
 use Rattle.block_machine.specs.Ports.{Ports, Evidence, IsStoppedOrStuck}
 use Rattle.block_machine.specs.Steps.{Step, WaitAgain, Answer}
 use Rattle.ata_types.specs.declared.request.Outcome.TheVariants as outcome
 use Rattle.server_history.proofs.state.ListMembers.{contains_cases, contains_here, contains_there}
 use Rattle.error_recovery.specs.Evidence.{ShowsFatal}
-use Rattle.driver_history.specs.Evidence.{IsEvidenced, IsEvidencedOf, ShowsChange, ShowsFailure}
+use Rattle.driver_history.specs.Evidence.{IsEvidenced, IsEvidencedOf, ShowsLinkChange, ShowsFailure}
 use Rattle.driver_history.specs.AccessTrace.{LeavesEngine}
 use Rattle.server_history.proofs.state.FirstMembers.{nowhere}
 
 -- no item in any list
 abbrev pub no_evidence : Evidence
-no_evidence = record { faults = []; lost = []; link_changed = []; failed = []; fatal = []; stopped = []; stuck = [] }
+no_evidence = record { faults = []; lost = []; link_changed = []; showing_error = []; showing_fatal_error = []; stopped = []; stuck = [] }
 
 -- ---- ports that are chosen by what they show
 
@@ -115,8 +115,8 @@ ready_that shows d ports port = is_ready (ports.state port) && shows (d.port por
 abbrev pub told_of : List Port → Device → Ports → Evidence
 told_of list d ports = record no_evidence {
   link_changed = chosen (ready_that shows_loss d ports) list;
-  failed = chosen (ready_that shows_failure d ports) list;
-  fatal = chosen (ready_that shows_fatal d ports) list;
+  showing_error = chosen (ready_that shows_failure d ports) list;
+  showing_fatal_error = chosen (ready_that shows_fatal d ports) list;
 }
 
 -- so a call tells of all four
@@ -152,13 +152,13 @@ pub failure_shows : (p : DevicePort) → ShowsFailure p → shows_failure p ≡ 
 failure_shows p (inl f) = or_left (shows_fatal p) (p.is 30) (fatal_shows p f)
 failure_shows p (inr a) = or_right (shows_fatal p) (p.is 30) a
 
-pub unlost : (p : DevicePort) → shows_loss p ≡ true → ShowsChange p ⊎ (p.ssts_det ≢ 3)
+pub unlost : (p : DevicePort) → shows_loss p ≡ true → ShowsLinkChange p ⊎ (p.ssts_det ≢ 3)
 unlost p h = ⊎_elim
     (λ n. inl (inl n))
     (λ more. ⊎_elim (λ x. inl (inr x)) (λ other. inr (λ is. false≢true (sym (ap not (eq-eqb p.ssts_det 3 is)) ∙ other))) (or_cases p.serr_x (not (nat_eq p.ssts_det 3)) more))
     (or_cases p.serr_n (p.serr_x || not (nat_eq p.ssts_det 3)) h)
 
-pub loss_shows : (p : DevicePort) → ShowsChange p ⊎ (p.ssts_det ≢ 3) → shows_loss p ≡ true
+pub loss_shows : (p : DevicePort) → ShowsLinkChange p ⊎ (p.ssts_det ≢ 3) → shows_loss p ≡ true
 loss_shows p (inl (inl n)) = or_left p.serr_n (p.serr_x || not (nat_eq p.ssts_det 3)) n
 loss_shows p (inl (inr x)) = or_right p.serr_n (p.serr_x || not (nat_eq p.ssts_det 3)) (or_left p.serr_x (not (nat_eq p.ssts_det 3)) x)
 loss_shows p (inr other) = or_right p.serr_n (p.serr_x || not (nat_eq p.ssts_det 3)) (or_right p.serr_x (not (nat_eq p.ssts_det 3)) (ap not (ne_eqb p.ssts_det 3 other)))
@@ -179,30 +179,30 @@ module _ (list : List Port) (d : Device) (ports : Ports) (shows : DevicePort →
       is_chosen (ready_that shows d ports) list port there (and_from (is_ready (ports.state port)) (shows (d.port port.0)) (ap is_ready ready) its)
 
 -- what is told of such a port has that behind it
-pub evidenced_of : (list : List Port) (ask : AbstractCall DeviceStep) (said : CallResult) (accesses : List Access) (old : JointState Device) (ports : Ports) (new : Device) (port : Port)
+pub evidenced_of : (list : List Port) (ask : AbstractCall DeviceStep) (said : AbstractCallResult) (accesses : List Access) (old : JointState Device) (ports : Ports) (new : Device) (port : Port)
     → (old.abstract.ports.state port ≡ Ready → Contains list port) → All (LeavesEngine port) accesses
     → IsEvidencedOf ask said accesses old ports new (told_of list old.device old.abstract.ports) port
 evidenced_of list ask said accesses old ports new port there leaves = record {
-  lost = λ here. absurd (nowhere port here);
+  lost_only = λ here. absurd (nowhere port here);
   link_changed_all = λ ready loss. is_named list old.device old.abstract.ports shows_loss port (there ready) ready (loss_shows (old.device.port port.0) (⊎_elim (λ change. inl change) (λ out. inr out.0) loss));
   link_changed_only = λ here.
       let x = named_is list old.device old.abstract.ports shows_loss port here in
       (x.0, ⊎_elim (λ change. inl change) (λ out. inr (inl out)) (unlost (old.device.port port.0) x.1));
-  failed_all = λ ready failure. is_named list old.device old.abstract.ports shows_failure port (there ready) ready (failure_shows (old.device.port port.0) failure);
-  failed_only = λ here. let x = named_is list old.device old.abstract.ports shows_failure port here in (x.0, inl (unfailed (old.device.port port.0) x.1));
-  fatal_all = λ ready fatal. is_named list old.device old.abstract.ports shows_fatal port (there ready) ready (fatal_shows (old.device.port port.0) fatal);
-  fatal_only = λ here. let x = named_is list old.device old.abstract.ports shows_fatal port here in (x.0, inl (unfatal (old.device.port port.0) x.1));
-  stopped_all = inl leaves;
+  showing_error_all = λ ready failure. is_named list old.device old.abstract.ports shows_failure port (there ready) ready (failure_shows (old.device.port port.0) failure);
+  showing_error_only = λ here. let x = named_is list old.device old.abstract.ports shows_failure port here in (x.0, inl (unfailed (old.device.port port.0) x.1));
+  showing_fatal_error_all = λ ready fatal. is_named list old.device old.abstract.ports shows_fatal port (there ready) ready (fatal_shows (old.device.port port.0) fatal);
+  showing_fatal_error_only = λ here. let x = named_is list old.device old.abstract.ports shows_fatal port here in (x.0, inl (unfatal (old.device.port port.0) x.1));
+  engine_is_left_or_stopped = inl leaves;
   stopped_only = λ here. absurd (nowhere port here);
   stuck_only = λ here. absurd (nowhere port here);
 }
 
-pub evidenced : (ask : AbstractCall DeviceStep) (said : CallResult) (accesses : List Access) (old : JointState Device) (ports : Ports) (new : Device)
+pub evidenced : (ask : AbstractCall DeviceStep) (said : AbstractCallResult) (accesses : List Access) (old : JointState Device) (ports : Ports) (new : Device)
     → ((port : Port) → old.abstract.ports.state port ≡ Ready → port.0 < 4) → ((port : Port) → All (LeavesEngine port) accesses)
     → IsEvidenced ask said accesses old ports new (told_by old.device old.abstract.ports)
 evidenced ask said accesses old ports new low leaves = record {
-  faults = λ told here. absurd (nowhere told here);
-  port = λ port. evidenced_of four ask said accesses old ports new port (λ ready. in_four port (low port ready)) (leaves port);
+  faults_are_told = λ told here. absurd (nowhere told here);
+  each_port_is_evidenced = λ port. evidenced_of four ask said accesses old ports new port (λ ready. in_four port (low port ready)) (leaves port);
 }
 
 -- ---- what it changes of what is asked of a call
@@ -215,7 +215,7 @@ module _ (d : Device) (ports : Ports) where
   pub uninterrupted : (port : Port) → IsStoppedOrStuck told port → ⊥
   uninterrupted port i = ⊎_elim (nowhere port) (nowhere port) i
 
-  pub lawful_told : (old : AbstractState) (after : Ports) (steps : List Step) → AllAnswersLawful old no_evidence after steps → AllAnswersLawful old told after steps
+  pub lawful_told : (old : AbstractState) (after : Ports) (steps : List Step) → AnswersAndWaitsLawful old no_evidence after steps → AnswersAndWaitsLawful old told after steps
   lawful_told old after [] l = l
   lawful_told old after (Answer e outcome.Ok ∷ steps) l = (lawful_told old after steps l.0, l.1)
   lawful_told old after (Answer e (outcome.DeviceError status error) ∷ steps) l = (lawful_told old after steps l.0, l.1)

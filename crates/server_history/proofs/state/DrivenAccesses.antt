@@ -23,7 +23,7 @@ by_one May access old new may does = record { accesses = access ∷ []; all_are_
 pub by_then : PrerequisiteLaws → {May : Access → Type 0} {old mid new : Device} → IsDrivenBy May old mid → IsDrivenBy May mid new → IsDrivenBy May old new
 by_then laws {May} {old} {mid} {new} a b = record {
   accesses = a.accesses ++ b.accesses;
-  all_are_done = laws.basic.does_append a.accesses b.accesses old mid new a.all_are_done b.all_are_done;
+  all_are_done = laws.steps_and_accesses.does_append a.accesses b.accesses old mid new a.all_are_done b.all_are_done;
   accesses_are_of_kind = All-append May a.accesses b.accesses a.accesses_are_of_kind b.accesses_are_of_kind;
 }
 

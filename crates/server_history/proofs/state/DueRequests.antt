@@ -16,7 +16,7 @@ use Rattle.request_queue.specs.BookEntries.{BookEntry, as_unanswered, unanswered
 use Rattle.request_queue.specs.BookRelation.{BookRelation, EntryRelation}
 use Rattle.server_history.specs.ServerState.{ServerState, MachineRelation}
 
-pub asked_alike : (e : BookEntry) (p : Pending) → EntryRelation e p → unanswered p ≡ as_unanswered e.entry
+pub asked_alike : (e : BookEntry) (p : Pending) → EntryRelation e p → unanswered p ≡ as_unanswered e.request
 asked_alike e p is = λ i. record { id = is.id i; port = is.port i; op = is.op i; range = is.range i; issued = is.issued i }
 
 pub same_book : (book : List BookEntry) (pending : List Pending) → BookRelation book pending → map unanswered pending ≡ unanswered_of book

@@ -11,7 +11,7 @@ use Rattle.adapter.specs.declared.command.Operation.{Operation}
 use Rattle.refinement.specs.Acts.{Act, act_steps}
 use Rattle.refinement.specs.Fragments.{IsSimulatedChangingUses, NoneWrites, GainsNoMove, driver_state_of}
 use Rattle.refinement.specs.Driver.{IsBackedByDeviceAlone, DriverRelation}
-use Rattle.refinement.specs.Slots.{Own, SlotState, SlotStates, op_of}
+use Rattle.refinement.specs.Slots.{Own, SlotState, SlotStates, client_operation_of}
 use Rattle.block_machine.specs.Histories.{IsReachable, IsSimulatedBySteps}
 use Rattle.block_machine.specs.State.{Machine}
 use Rattle.server_history.specs.Prerequisites.{PrerequisiteLaws}
@@ -21,16 +21,16 @@ module _ (laws : PrerequisiteLaws) {May : Access → Type 0} {Fits : SlotStates 
   pub followed_adds : Fits uses → IsSimulatedBySteps DriverRelation (driver_state_of uses parked old) (driver_state_of (next uses) parked new) (IsBackedByDeviceAlone old new)
   followed_adds fits = record {
     simulates = λ m reached knows.
-        let c = followed.acts_reach (record { uses = uses; parked = parked }) m reached knows fits in
-        let g = laws.slots.acts_go c.acts (driver_state_of uses parked old) (driver_state_of (next uses) parked new) m knows c.acts_are_done in
-        (act_steps c.acts, g.steps_are_enabled, g.driver_relation, record { is_backed = g.is_backed; only = c.tells.only });
+        let c = followed.acts_reach (record { slot_states = uses; awaiting_disposition = parked }) m reached knows fits in
+        let g = laws.slots.acts_advance_driver c.acts (driver_state_of uses parked old) (driver_state_of (next uses) parked new) m knows c.acts_are_done in
+        (act_steps c.acts, g.steps_are_enabled, g.driver_relation, record { is_backed = g.is_backed; all_steps_are_devices = c.acts_are_such.all_steps_are_devices });
   }
 
   -- where they write neither PxCI nor PxSACT of a port, no page comes there for a command of the driver's own that slot 0 hasn't
-  pub followed_silent : (m : Machine) → Fits uses → IsReachable m → DriverRelation m (driver_state_of uses parked old) → (port : Port) (o : Operation) → op_of o ≡ None
+  pub followed_silent : (m : Machine) → Fits uses → IsReachable m → DriverRelation m (driver_state_of uses parked old) → (port : Port) (o : Operation) → client_operation_of o ≡ None
       → NoneWrites May (Px port Ci) → NoneWrites May (Px port Sact) → (uses port.0 0 ≡ Own o → ⊥) → GainsNoMove port.0 o old new
   followed_silent m fits reached knows port o own issues arms none =
-      let c = followed.acts_reach (record { uses = uses; parked = parked }) m reached knows fits in
-      laws.slots.acts_silent c.acts (driver_state_of uses parked old) (driver_state_of (next uses) parked new) m port.0 o own reached knows none
-      (All-weaker (λ (act : Act). act.later.uses port.0 ≡ uses port.0) (λ (act : Act). act.later.uses port.0 0 ≡ Own o → ⊥)
-      (λ act same is. none (ap (λ (f : ℕ → SlotState). f 0) (sym same) ∙ is)) c.acts (c.tells.kept port issues arms)) c.acts_are_done
+      let c = followed.acts_reach (record { slot_states = uses; awaiting_disposition = parked }) m reached knows fits in
+      laws.slots.acts_gain_no_move c.acts (driver_state_of uses parked old) (driver_state_of (next uses) parked new) m port.0 o own reached knows none
+      (All-weaker (λ (act : Act). act.state_after.slot_states port.0 ≡ uses port.0) (λ (act : Act). act.state_after.slot_states port.0 0 ≡ Own o → ⊥)
+      (λ act same is. none (ap (λ (f : ℕ → SlotState). f 0) (sym same) ∙ is)) c.acts (c.acts_are_such.unwritten_ports_keep_slots port issues arms)) c.acts_are_done

@@ -10,7 +10,7 @@ use Rattle.ata_types.specs.declared.request.Outcome.{Outcome}
 use Rattle.ata_types.specs.declared.request.Outcome.TheVariants as outcome
 use Rattle.ata_types.specs.declared.request.RequestId.{RequestId}
 use Rattle.server_history.proofs.state.ListMembers.{contains_cases}
-use Rattle.request_queue.specs.BookEntries.{BookEntry, all_marked_under, update_if_id, has_id, is_of_port, marked_under, requeued_entry}
+use Rattle.request_queue.specs.BookEntries.{BookEntry, all_revoked_under_grant, update_if_id, has_id, is_of_port, revoked_under_grant, requeued_request}
 use Rattle.request_queue.specs.Dispositions.{keeps_loan}
 use Rattle.request_queue.specs.declared.PendingRequest.{PendingRequest}
 use Rattle.server_history.specs.ErrorHandling.{requests_of}
@@ -19,18 +19,18 @@ use Rattle.block_machine.specs.Rules.{is_same_grant_name}
 
 -- how many requests of the port are issued
 abbrev pub issued_of : Port → List BookEntry → ℕ
-issued_of port book = count_by (λ (e : BookEntry). e.entry.issued) (requests_of port book)
+issued_of port book = count_by (λ (e : BookEntry). e.request.issued) (requests_of port book)
 
 -- one, if it is an issued one of the port
 abbrev pub counts : Port → BookEntry → ℕ
-counts port e = cond (is_of_port port e.entry) (cond e.entry.issued 1 0) 0
+counts port e = cond (is_of_port port e.request) (cond e.request.issued 1 0) 0
 
 -- the first, and the others
 pub issued_first : (port : Port) (e : BookEntry) (book : List BookEntry) → issued_of port (e ∷ book) ≡ counts port e + issued_of port book
-issued_first port e book = by (is_of_port port e.entry)
+issued_first port e book = by (is_of_port port e.request)
   where
-    by : (own : Bool) → count_by (λ (x : BookEntry). x.entry.issued) (cond own (e ∷ requests_of port book) (requests_of port book)) ≡ cond own (cond e.entry.issued 1 0) 0 + issued_of port book
-    by true = sum_by-cons (λ (x : BookEntry). cond x.entry.issued 1 0) e (requests_of port book)
+    by : (own : Bool) → count_by (λ (x : BookEntry). x.request.issued) (cond own (e ∷ requests_of port book) (requests_of port book)) ≡ cond own (cond e.request.issued 1 0) 0 + issued_of port book
+    by true = sum_by-cons (λ (x : BookEntry). cond x.request.issued 1 0) e (requests_of port book)
     by false = omega arith
 
 -- of fewer requests no more are issued
@@ -64,34 +64,34 @@ one_fewer port passes (x ∷ book) e here out = ⊎_elim
     by false less = let right = issued_first port x book in omega (arith, less, right)
 
 -- where one waits again, no more are issued
-pub requeued_issued : (port : Port) (id : RequestId) (book : List BookEntry) → issued_of port (map (update_if_id id requeued_entry) book) ≤ issued_of port book
+pub requeued_issued : (port : Port) (id : RequestId) (book : List BookEntry) → issued_of port (map (update_if_id id requeued_request) book) ≤ issued_of port book
 requeued_issued port id [] = le_refl 0
 requeued_issued port id (x ∷ book) =
     let rest = requeued_issued port id book in
     let one = by (has_id id x) in
-    let left = issued_first port (update_if_id id requeued_entry x) (map (update_if_id id requeued_entry) book) in
+    let left = issued_first port (update_if_id id requeued_request x) (map (update_if_id id requeued_request) book) in
     let right = issued_first port x book in
     omega (arith, rest, one, left, right)
   where
-    own : (b : Bool) → cond b (cond false 1 0) 0 ≤ cond b (cond x.entry.issued 1 0) 0
+    own : (b : Bool) → cond b (cond false 1 0) 0 ≤ cond b (cond x.request.issued 1 0) 0
     own true = omega arith
     own false = le_refl 0
 
-    by : (b : Bool) → counts port (if b then record x { entry = requeued_entry x.entry } else x) ≤ counts port x
-    by true = own (is_of_port port x.entry)
+    by : (b : Bool) → counts port (if b then record x { request = requeued_request x.request } else x) ≤ counts port x
+    by true = own (is_of_port port x.request)
     by false = le_refl (counts port x)
 
 -- and where requests are marked, as many are
-pub marked_issued : (port : Port) (client : ClientId) (grant : ℕ) (book : List BookEntry) → issued_of port (all_marked_under client grant book) ≡ issued_of port book
+pub marked_issued : (port : Port) (client : ClientId) (grant : ℕ) (book : List BookEntry) → issued_of port (all_revoked_under_grant client grant book) ≡ issued_of port book
 marked_issued port client grant [] = refl
 marked_issued port client grant (x ∷ book) =
     let rest = marked_issued port client grant book in
-    let one = by (is_same_grant_name client grant x.entry.client x.entry.grant) in
-    let left = issued_first port (record x { entry = marked_under client grant x.entry }) (all_marked_under client grant book) in
+    let one = by (is_same_grant_name client grant x.request.client x.request.grant) in
+    let left = issued_first port (record x { request = revoked_under_grant client grant x.request }) (all_revoked_under_grant client grant book) in
     let right = issued_first port x book in
     omega (arith, rest, one, left, right)
   where
-    by : (b : Bool) → counts port (record x { entry = if b then record (x.entry) { revoked = true } else x.entry }) ≡ counts port x
+    by : (b : Bool) → counts port (record x { request = if b then record (x.request) { revoked = true } else x.request }) ≡ counts port x
     by true = refl
     by false = refl
 

@@ -9,7 +9,7 @@ use Rattle.host_boot.specs.declared.ProbeResult.{ProbeResult}
 use Rattle.server_history.specs.Prerequisites.{PrerequisiteLaws}
 use Rattle.slots.specs.SlotUses.{PortSlots, with_use}
 use Rattle.slots.specs.declared.SlotUse.{SlotUse}
-use Rattle.server_history.specs.ServerState.{SlotsInvariant, IsUsedAs, mode_at, no_slots, usable_slots_of, slot_state_of, used_for, with_slot}
+use Rattle.server_history.specs.ServerState.{SlotsInvariant, SlotUseAgreesUnlessDead, mode_at, no_slots, usable_slots_of, slot_state_of, used_for, with_slot}
 
 -- it is this slot, or another
 pub its_or_other : (port slot q k : ℕ) → ((q ≡ port) × (k ≡ slot)) ⊎ (q ≡ port → k ≡ slot → ⊥)
@@ -18,7 +18,7 @@ its_or_other port slot q k = ⊎_elim
     (λ (ne : q ≢ port). inr (λ same _. ne same))
     (cases_eq q port)
 
-module _ (slots : List PortSlots) (port slot : ℕ) (used : Option SlotUse) (low : port < length slots) (small : slot < length (get_or slots port no_slots).places) where
+module _ (slots : List PortSlots) (port slot : ℕ) (used : Option SlotUse) (low : port < length slots) (small : slot < length (get_or slots port no_slots).slot_uses) where
   abbrev its : PortSlots
   its = get_or slots port no_slots
 
@@ -26,27 +26,27 @@ module _ (slots : List PortSlots) (port slot : ℕ) (used : Option SlotUse) (low
   here = get_or-set_same slots port (with_use its slot used) no_slots low
 
   pub placed_same : used_for (with_slot slots port slot used) port slot ≡ used
-  placed_same = ap (λ (u : PortSlots). get_or u.places slot None) here ∙ get_or-set_same its.places slot used None small
+  placed_same = ap (λ (u : PortSlots). get_or u.slot_uses slot None) here ∙ get_or-set_same its.slot_uses slot used None small
 
   pub placed_other : (q k : ℕ) → (q ≡ port → k ≡ slot → ⊥) → used_for (with_slot slots port slot used) q k ≡ used_for slots q k
   placed_other q k other = ⊎_elim
       (λ (e : q ≡ port).
       ap (λ (p : ℕ). used_for (with_slot slots port slot used) p k) e
-      ∙ ap (λ (u : PortSlots). get_or u.places k None) here ∙ get_or-set_other its.places slot k used None (other e) ∙ ap (λ (p : ℕ). used_for slots p k) (sym e))
-      (λ (n : q ≢ port). ap (λ (u : PortSlots). get_or u.places k None) (get_or-set_other slots port q (with_use its slot used) no_slots n))
+      ∙ ap (λ (u : PortSlots). get_or u.slot_uses k None) here ∙ get_or-set_other its.slot_uses slot k used None (other e) ∙ ap (λ (p : ℕ). used_for slots p k) (sym e))
+      (λ (n : q ≢ port). ap (λ (u : PortSlots). get_or u.slot_uses k None) (get_or-set_other slots port q (with_use its slot used) no_slots n))
       (cases_eq q port)
 
   -- where its uses are what they were but for this slot
-  pub placed_uses : PrerequisiteLaws → (found : List ProbeResult) (uses : SlotStates) → ((q k : ℕ) → IsUsedAs (probe_result_of found q) (used_for slots q k) (uses q k))
-      → (q k : ℕ) → IsUsedAs (probe_result_of found q) (used_for (with_slot slots port slot used) q k) (set_slot_state uses port slot (slot_state_of used) q k)
+  pub placed_uses : PrerequisiteLaws → (found : List ProbeResult) (uses : SlotStates) → ((q k : ℕ) → SlotUseAgreesUnlessDead (probe_result_of found q) (used_for slots q k) (uses q k))
+      → (q k : ℕ) → SlotUseAgreesUnlessDead (probe_result_of found q) (used_for (with_slot slots port slot used) q k) (set_slot_state uses port slot (slot_state_of used) q k)
   placed_uses laws found uses was q k = ⊎_elim
       (λ (at : (q ≡ port) × (k ≡ slot)).
-      λ _. ap (λ (p : ℕ). set_slot_state uses port slot (slot_state_of used) p k) at.0 ∙ ap (λ (n : ℕ). set_slot_state uses port slot (slot_state_of used) port n) at.1 ∙ laws.slots.put_here uses port slot (slot_state_of used)
+      λ _. ap (λ (p : ℕ). set_slot_state uses port slot (slot_state_of used) p k) at.0 ∙ ap (λ (n : ℕ). set_slot_state uses port slot (slot_state_of used) port n) at.1 ∙ laws.slots.set_slot_has_state uses port slot (slot_state_of used)
       ∙ ap slot_state_of (sym placed_same ∙ ap (λ (n : ℕ). used_for (with_slot slots port slot used) port n) (sym at.1) ∙ ap (λ (p : ℕ). used_for (with_slot slots port slot used) p k) (sym at.0)))
       (λ (there : q ≡ port → k ≡ slot → ⊥).
-      let U : SlotState → Type 0 = λ u. IsUsedAs (probe_result_of found q) (used_for (with_slot slots port slot used) q k) u in
-      let P : Option SlotUse → Type 0 = λ p. IsUsedAs (probe_result_of found q) p (uses q k) in
-      subst U (sym (laws.recovery.put_other uses port slot (slot_state_of used) q k there)) (subst P (sym (placed_other q k there)) (was q k)))
+      let U : SlotState → Type 0 = λ u. SlotUseAgreesUnlessDead (probe_result_of found q) (used_for (with_slot slots port slot used) q k) u in
+      let P : Option SlotUse → Type 0 = λ p. SlotUseAgreesUnlessDead (probe_result_of found q) p (uses q k) in
+      subst U (sym (laws.recovery.setting_slot_keeps_others uses port slot (slot_state_of used) q k there)) (subst P (sym (placed_other q k there)) (was q k)))
       (its_or_other port slot q k)
 
   -- what is used afterwards, but for this slot, was used before
@@ -54,7 +54,7 @@ module _ (slots : List PortSlots) (port slot : ℕ) (used : Option SlotUse) (low
   placed_was q k u other is = sym (placed_other q k other) ∙ is
 
 -- what is used once a slot was freed is another, and was used before
-pub freed_was : (slots : List PortSlots) (port slot : ℕ) → port < length slots → slot < length (get_or slots port no_slots).places → (q k : ℕ) (u : SlotUse)
+pub freed_was : (slots : List PortSlots) (port slot : ℕ) → port < length slots → slot < length (get_or slots port no_slots).slot_uses → (q k : ℕ) (u : SlotUse)
     → used_for (with_slot slots port slot None) q k ≡ Some u → used_for slots q k ≡ Some u
 freed_was slots port slot low small q k u is = ⊎_elim
     (λ (its : (q ≡ port) × (k ≡ slot)).
@@ -69,29 +69,29 @@ module _ (found : List ProbeResult) (modes : List QueueMode) (slots : List PortS
   in_list : port < length slots
   in_list = omega (arith, four, low)
 
-  in_places : slot < length (get_or slots port no_slots).places
-  in_places = let p = (has port low).places in omega (arith, p, slot_low, few)
+  in_places : slot < length (get_or slots port no_slots).slot_uses
+  in_places = let p = (has port low).has_32_slots in omega (arith, p, slot_low, few)
 
   pub placed_four : length (with_slot slots port slot used) ≡ 4
   placed_four = length-set slots port (with_use (get_or slots port no_slots) slot used) ∙ four
 
   pub placed_has : (q : ℕ) → q < 4 → SlotsInvariant found modes (with_slot slots port slot used) q
   placed_has q small = record {
-    places = ⊎_elim
+    has_32_slots = ⊎_elim
         (λ (e : q ≡ port).
-        ap (λ (p : ℕ). length (get_or (with_slot slots port slot used) p no_slots).places) e ∙ ap (λ (u : PortSlots). length u.places) (here slots port slot used in_list in_places)
-        ∙ length-set (get_or slots port no_slots).places slot used ∙ (has port low).places)
-        (λ (n : q ≢ port). ap (λ (u : PortSlots). length u.places) (other q n) ∙ (has q small).places)
+        ap (λ (p : ℕ). length (get_or (with_slot slots port slot used) p no_slots).slot_uses) e ∙ ap (λ (u : PortSlots). length u.slot_uses) (here slots port slot used in_list in_places)
+        ∙ length-set (get_or slots port no_slots).slot_uses slot used ∙ (has port low).has_32_slots)
+        (λ (n : q ≢ port). ap (λ (u : PortSlots). length u.slot_uses) (other q n) ∙ (has q small).has_32_slots)
         (cases_eq q port);
-    usable = ⊎_elim
+    usable_count_is_of_mode = ⊎_elim
         (λ (e : q ≡ port).
-        ap (λ (p : ℕ). (get_or (with_slot slots port slot used) p no_slots).usable) e ∙ ap (λ (u : PortSlots). u.usable) (here slots port slot used in_list in_places) ∙ (has port low).usable
-        ∙ ap (λ (p : ℕ). (mode_at modes p).usable) (sym e))
-        (λ (n : q ≢ port). ap (λ (u : PortSlots). u.usable) (other q n) ∙ (has q small).usable)
+        ap (λ (p : ℕ). (get_or (with_slot slots port slot used) p no_slots).usable_count) e ∙ ap (λ (u : PortSlots). u.usable_count) (here slots port slot used in_list in_places) ∙ (has port low).usable_count_is_of_mode
+        ∙ ap (λ (p : ℕ). (mode_at modes p).usable_slots) (sym e))
+        (λ (n : q ≢ port). ap (λ (u : PortSlots). u.usable_count) (other q n) ∙ (has q small).usable_count_is_of_mode)
         (cases_eq q port);
-    unused = λ k high.
+    unusable_are_unused = λ k high.
         placed_other slots port slot used in_list in_places q k (λ e s. let h = subst (λ (p : ℕ). usable_slots_of (probe_result_of found p) (mode_at modes p) ≤ k) e high in absurd (omega (arith, h, s, slot_low)))
-        ∙ (has q small).unused k high;
+        ∙ (has q small).unusable_are_unused k high;
   }
     where
       other : (q : ℕ) → q ≢ port → get_or (with_slot slots port slot used) q no_slots ≡ get_or slots q no_slots

@@ -10,7 +10,7 @@ use Rattle.adapter.specs.declared.command.Operation.TheVariants.{Identify}
 use Rattle.refinement.specs.Relation.{port_at}
 use Rattle.refinement.specs.Fragments.{IsDrivenBy, SparesOtherPorts, LeavesPort, GainsNoMove}
 use Rattle.refinement.specs.Halting.{HaltOfTakenIfSt}
-use Rattle.refinement.specs.Links.{SameAdapter}
+use Rattle.refinement.specs.PreservedParts.{SameAdapter}
 use Rattle.server_history.proofs.state.DrivenAccesses.{by_one}
 use Rattle.host_boot.specs.TakeOver.{StillBacksProbeResult, probe_result_of, wanted_of}
 use Rattle.host_boot.specs.declared.ProbeResult.{ProbeResult}
@@ -45,7 +45,7 @@ bytes_serve (Writing r v) is = absurd is
 -- they leave every port to the device
 pub bytes_leave : PrerequisiteLaws → (access : Access) (old new : Device) → IsOfBytes access → IsOn old → Does access old new → (port : ℕ) → LeavesPort (old.port port) (new.port port)
 bytes_leave laws access old new is on does port =
-    laws.looks.other_left (port_at (suc port)) port old new (λ same. absurd (omega (arith, same))) on
+    laws.port_event_laws.other_ports_are_left (port_at (suc port)) port old new (λ same. absurd (omega (arith, same))) on
     (by_one (SparesOtherPorts (port_at (suc port))) access old new (bytes_of (port_at (suc port)) access is) does)
 
 -- ---- what stands behind a port
@@ -57,17 +57,17 @@ pub port_on : PrerequisiteLaws → (wanted : List Wanted) (found : List ProbeRes
 port_on laws wanted found port old new same on by left silent halts is =
     record {
       probe_result_is_backed = behind (probe_result_of found port) left silent is.probe_result_is_backed;
-      engine_runs = λ ready. runs_on laws (port_at port) old new on by (is.engine_runs ready);
-      shows_disk_if_in = λ bad. shown_on laws (port_at port) old new on by (is.shows_disk_if_in bad);
-      has_disk_if_shown = λ ready. laws.recovery.own_on port by.accesses old new by.all_are_done (is.has_disk_if_shown ready);
-      halt_is_of_taken = λ ready. halts (λ _. is.halt_is_of_taken ready) (runs_on laws (port_at port) old new on by (is.engine_runs ready)).st;
+      ready_engine_runs = λ ready. runs_on laws (port_at port) old new on by (is.ready_engine_runs ready);
+      bad_disk_is_shown_if_in = λ bad. shown_on laws (port_at port) old new on by (is.bad_disk_is_shown_if_in bad);
+      ready_has_disk_if_shown = λ ready. laws.recovery.shown_disk_stays_in port by.accesses old new by.all_are_done (is.ready_has_disk_if_shown ready);
+      queued_halt_has_taken_command = λ ready. halts (λ _. is.queued_halt_has_taken_command ready) (runs_on laws (port_at port) old new on by (is.ready_engine_runs ready)).st_is_set;
     }
   where
     behind : (f : ProbeResult) → (state_of f ≢ ReadyState → LeavesPort (old.port port) (new.port port)) → (f ≢ Unready Dead → GainsNoMove port Identify old new)
         → StillBacksProbeResult (wanted_of wanted port) f port old → StillBacksProbeResult (wanted_of wanted port) f port new
     behind Unserved left silent stays = left_on laws (wanted_of wanted port) Unserved port old new same (left (λ e. let z : Absent ≡ ReadyState = e in cc)) silent stays
     behind (Ready info) left silent stays =
-        let c = laws.looking.services_controls port old new on by in
+        let c = laws.look_laws.services_keep_controls port old new on by in
         ready_on laws (wanted_of wanted port) info port old new same c.0 c.1 c.2 (silent (λ e. let z : Ready info ≡ Unready Dead = e in cc)) stays
     behind (Unready ReadyState) left silent stays = absurd stays.1
     behind (Unready Absent) left silent stays = left_on laws (wanted_of wanted port) (Unready Absent) port old new same (left (λ e. let z : Absent ≡ ReadyState = e in cc)) silent stays

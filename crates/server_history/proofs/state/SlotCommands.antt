@@ -8,24 +8,24 @@ use Rattle.ata_types.specs.declared.request.Frame.{Frame}
 use Rattle.ata_types.specs.declared.request.Op.{Op}
 use Rattle.ata_types.specs.declared.request.Op.TheVariants.{Read, Write}
 use Rattle.ata_types.specs.declared.request.RequestId.{RequestId}
-use Rattle.refinement.specs.MemoryLayout.{place_in}
-use Rattle.refinement.specs.Slots.{AreRequestPlaces, ServesRequest, op_of}
+use Rattle.refinement.specs.MemoryLayout.{sector_address}
+use Rattle.refinement.specs.Slots.{AreRequestPlaces, ServesRequest, client_operation_of}
 use Rattle.refinement.specs.Relation.{port_at}
 use Rattle.adapter.specs.Commands.{Meaning}
 use Rattle.block_machine.specs.Rules.{IsAllowedCount, frame_count_for}
 use Rattle.block_machine.specs.State.{Accepted, Machine, Pending, frame_at}
 use Rattle.dma_frames.specs.FrameTables.{lent_to}
 use Rattle.host_boot.specs.TakeOver.{probe_result_of}
-use Rattle.request_queue.specs.BookEntries.{BookEntry, IsAccepted}
+use Rattle.request_queue.specs.BookEntries.{BookEntry, IsWellFormedEntry}
 use Rattle.request_queue.specs.BookRelation.{EntryRelation}
 use Rattle.slots.specs.declared.SlotUse.{SlotUse}
 use Rattle.server_history.specs.Prerequisites.{PrerequisiteLaws}
-use Rattle.server_history.specs.ServerState.{StandsAlone, ServerState, InCallInvariant, MachineRelation, mode_in, state_of, used_for}
+use Rattle.server_history.specs.ServerState.{IsLoneSlot0, ServerState, InCallInvariant, MachineRelation, mode_in, state_of, used_for}
 use Rattle.server_history.proofs.state.PortSlots.{HasSlot, IsServedBy, issued_has, not_true, queued_op, served_request, serves_used, still_booked}
 use Rattle.server_history.proofs.state.PairedLists.{at_right}
 
 -- the first place of a read or a write is that of its first frame
-first_place : (op : Op) → (op ≡ Read) ⊎ (op ≡ Write) → (port : ℕ) (r : Accepted) (places : List ℕ) → AreRequestPlaces op port r places → 1 ≤ r.asked.count → slice_index places 0 ≡ place_in r.asked.frames.items 0
+first_place : (op : Op) → (op ≡ Read) ⊎ (op ≡ Write) → (port : ℕ) (r : Accepted) (places : List ℕ) → AreRequestPlaces op port r places → 1 ≤ r.asked.count → slice_index places 0 ≡ sector_address r.asked.frames.items 0
 first_place op (inl reads) port r places are some = (subst (λ (o : Op). AreRequestPlaces o port r places) reads are).1 0 some
 first_place op (inr writes) port r places are some = (subst (λ (o : Op). AreRequestPlaces o port r places) writes are).1 0 some
 
@@ -36,31 +36,31 @@ module _ (laws : PrerequisiteLaws) (s : ServerState) (k : InCallInvariant s) (m 
     lent : lent_to s.table (frame_at p.request.asked.frames.items 0) ≡ Some p.request.id
 
   has_first : (p : Pending) → Contains m.book p → (p.request.asked.op ≡ Read) ⊎ (p.request.asked.op ≡ Write) → HasFirst p
-  has_first p here transfers = record { some = subst (λ (n : ℕ). 1 ≤ n) (sym (ap (λ r. r.count) x.2.range)) (sized x.0.entry.op op refl).0; lent = its_lent }
+  has_first p here transfers = record { some = subst (λ (n : ℕ). 1 ≤ n) (sym (ap (λ r. r.count) x.2.range)) (sized x.0.request.op op refl).0; lent = its_lent }
     where
       x : (h : BookEntry) × Contains s.book h × EntryRelation h p
       x = at_right EntryRelation s.book m.book is.book p here
 
-      a : IsAccepted s.table x.0
-      a = All-contains (IsAccepted s.table) s.book x.0 k.requests_are_accepted x.1
+      a : IsWellFormedEntry s.table x.0
+      a = All-contains (IsWellFormedEntry s.table) s.book x.0 k.entries_are_well_formed x.1
 
-      op : (x.0.entry.op ≡ Read) ⊎ (x.0.entry.op ≡ Write)
+      op : (x.0.request.op ≡ Read) ⊎ (x.0.request.op ≡ Write)
       op = subst (λ (o : Op). (o ≡ Read) ⊎ (o ≡ Write)) x.2.op transfers
 
       -- one sector at least, in one frame at least
-      sized : (o : Op) → (o ≡ Read) ⊎ (o ≡ Write) → x.0.entry.op ≡ o → (1 ≤ x.0.entry.range.count) × (1 ≤ length x.0.frames)
+      sized : (o : Op) → (o ≡ Read) ⊎ (o ≡ Write) → x.0.request.op ≡ o → (1 ≤ x.0.request.range.count) × (1 ≤ length x.0.frames)
       sized o (inl reads) same =
-          let c = subst (λ (y : Op). IsAllowedCount y x.0.entry.range.count) (same ∙ reads) a.count_is_allowed in let f = a.frame_count_is ∙ ap (λ (y : Op). frame_count_for y x.0.entry.range.count) (same ∙ reads) in let c0 = c.0 in (c0, omega (arith, c0, f))
+          let c = subst (λ (y : Op). IsAllowedCount y x.0.request.range.count) (same ∙ reads) a.count_is_allowed in let f = a.frame_count_is ∙ ap (λ (y : Op). frame_count_for y x.0.request.range.count) (same ∙ reads) in let c0 = c.0 in (c0, omega (arith, c0, f))
       sized o (inr writes) same =
-          let c = subst (λ (y : Op). IsAllowedCount y x.0.entry.range.count) (same ∙ writes) a.count_is_allowed in let f = a.frame_count_is ∙ ap (λ (y : Op). frame_count_for y x.0.entry.range.count) (same ∙ writes) in let c0 = c.0 in (c0, omega (arith, c0, f))
+          let c = subst (λ (y : Op). IsAllowedCount y x.0.request.range.count) (same ∙ writes) a.count_is_allowed in let f = a.frame_count_is ∙ ap (λ (y : Op). frame_count_for y x.0.request.range.count) (same ∙ writes) in let c0 = c.0 in (c0, omega (arith, c0, f))
 
       its_lent : lent_to s.table (frame_at p.request.asked.frames.items 0) ≡ Some p.request.id
       its_lent =
           subst (λ (frames : List Frame). lent_to s.table (frame_at frames 0) ≡ Some p.request.id) (sym x.2.frames)
-          (a.frames_are_lent 0 (record { 0 = 0 }) (sized x.0.entry.op op refl).1 ∙ ap Some (sym x.2.id))
+          (a.frames_are_lent 0 (record { 0 = 0 }) (sized x.0.request.op op refl).1 ∙ ap Some (sym x.2.id))
 
   -- what a used slot says besides is its own request's
-  module _ (port slot : ℕ) (used : SlotUse) (id : RequestId) (ready : state_of (probe_result_of s.ports port) ≡ ReadyState) (its : used_for s.slots port slot ≡ Some used)
+  module _ (port slot : ℕ) (used : SlotUse) (id : RequestId) (ready : state_of (probe_result_of s.probe_results port) ≡ ReadyState) (its : used_for s.slots port slot ≡ Some used)
       (says : ServesRequest m s.device.memory (s.device.port port) port slot id) where
     x : IsServedBy s m port slot used.id
     x = served_request s m port slot is ready used.id (serves_used s m port is ready slot used its)
@@ -75,7 +75,7 @@ module _ (laws : PrerequisiteLaws) (s : ServerState) (k : InCallInvariant s) (m 
         h : HasSlot s (port_at port) says.pending.request.id
         h = issued_has s m (port_at port) is k ready says.pending booked.0 (ap (λ (n : ℕ). port_at n) says.port_is) booked.1
 
-        a : StandsAlone s.slots port slot
+        a : IsLoneSlot0 s.slots port slot
         a = k.plain_stands_alone port slot used its plain
 
         by : (h.slot ≡ 0) ⊎ (h.slot ≢ 0) → h.used.id ≡ used.id
@@ -94,15 +94,15 @@ module _ (laws : PrerequisiteLaws) (s : ServerState) (k : InCallInvariant s) (m 
         same_some e = cc
 
         same : (says.command ≡ x.serves.command) × (says.places ≡ x.serves.places)
-        same = laws.slots.one_said s.device.memory (s.device.port port).bases.clb slot says.command x.serves.command says.places x.serves.places says.slot_decodes_to.decodes_to x.serves.slot_decodes_to.decodes_to
+        same = laws.slots.decoding_is_unique s.device.memory (s.device.port port).bases.clb slot says.command x.serves.command says.places x.serves.places says.slot_decodes_to.decodes_to x.serves.slot_decodes_to.decodes_to
 
         its_op : (x.serves.pending.request.asked.op ≡ Read) ⊎ (x.serves.pending.request.asked.op ≡ Write)
         its_op =
             subst (λ (o : Op). (o ≡ Read) ⊎ (o ≡ Write)) (sym x.entry.op)
-            (queued_op (mode_in s (port_at port)) x.request.entry.op (not_true _ (sym (k.slots_queue_as_asked (port_at port) slot used x.request its x.there x.id_is) ∙ queued)))
+            (queued_op (mode_in s (port_at port)) x.request.request.op (not_true _ (sym (k.slots_queue_as_asked (port_at port) slot used x.request its x.there x.id_is) ∙ queued)))
 
         op_is : says.pending.request.asked.op ≡ x.serves.pending.request.asked.op
-        op_is = same_op (sym says.means.op_is ∙ ap (λ (c : Meaning). op_of c.operation) same.0 ∙ x.serves.means.op_is)
+        op_is = same_op (sym says.means.op_is ∙ ap (λ (c : Meaning). client_operation_of c.operation) same.0 ∙ x.serves.means.op_is)
           where
             same_op : {a b : Op} → Some a ≡ Some b → a ≡ b
             same_op e = cc
@@ -116,7 +116,7 @@ module _ (laws : PrerequisiteLaws) (s : ServerState) (k : InCallInvariant s) (m 
         own : HasFirst x.serves.pending
         own = has_first x.serves.pending x.here its_op
 
-        first_is : place_in says.pending.request.asked.frames.items 0 ≡ place_in x.serves.pending.request.asked.frames.items 0
+        first_is : sector_address says.pending.request.asked.frames.items 0 ≡ sector_address x.serves.pending.request.asked.frames.items 0
         first_is =
             sym (first_place says.pending.request.asked.op op_says port says.pending.request says.places says.means.places_are there.some)
             ∙ ap (λ (places : List ℕ). slice_index places 0) same.1

@@ -17,7 +17,7 @@ use Rattle.server_history.proofs.state.PortSlots.{free_unused, ready_found, serv
 -- ---- bytes of another slot
 
 -- Where a slot of a ready port serves a request, bytes of another slot may say its command still: then it has ended, and that slot isn't used.
-module _ (laws : PrerequisiteLaws) (s : ServerState) (k : InCallInvariant s) (m : Machine) (reached : IsReachable m) (is : MachineRelation s m) (n : ℕ) (ready : state_of (probe_result_of s.ports n) ≡ ReadyState) (e : Pending) (here : Contains m.book e)
+module _ (laws : PrerequisiteLaws) (s : ServerState) (k : InCallInvariant s) (m : Machine) (reached : IsReachable m) (is : MachineRelation s m) (n : ℕ) (ready : state_of (probe_result_of s.probe_results n) ≡ ReadyState) (e : Pending) (here : Contains m.book e)
     (its : ℕ) (used : SlotUse) (used_is : used_for s.slots n its ≡ Some used) (id_is : used.id ≡ e.request.id) (slot : ℕ) (apart : slot ≢ its)
     (says : ServesRequest m s.device.memory (s.device.port n) n slot e.request.id) where
   pub unused : used_for s.slots n slot ≡ None
@@ -26,7 +26,7 @@ module _ (laws : PrerequisiteLaws) (s : ServerState) (k : InCallInvariant s) (m 
       let same : e.request.id ≡ y.0.id = one_said laws s k m is n slot y.0 e.request.id ready y.1 says in
       let there = serves_used s m n is ready slot y.0 y.1 ∙ ap Serves (sym same) in
       let own = serves_used s m n is ready its used used_is ∙ ap Serves id_is in
-      absurd (apart (is.driver_relation.state_relation.serve_apart n slot n its e.request.id there own).1))
+      absurd (apart (is.driver_relation.state_relation.serve_distinct_requests n slot n its e.request.id there own).1))
       (λ none. none)
       (used_or_not (used_for s.slots n slot))
 
@@ -37,10 +37,10 @@ module _ (laws : PrerequisiteLaws) (s : ServerState) (k : InCallInvariant s) (m 
   has_ended = ap (λ (y : Pending). y.ended) (sym same) ∙ by says.stage
     where
       same : says.pending ≡ e
-      same = laws.basic.one m reached says.pending e (still_booked s m n is ready says.pending says.may_still_move says.port_is).0 here (ap (λ (i : RequestId). i.0) says.id_is)
+      same = laws.steps_and_accesses.an_id_is_one_request m reached says.pending e (still_booked s m n is ready says.pending says.may_still_move says.port_is).0 here (ap (λ (i : RequestId). i.0) says.id_is)
 
       by : IsInSomeStage s.device.memory (s.device.port n) n slot says.pending says.command says.places → says.pending.ended ≡ true
-      by (inl waits) = absurd (false≢true (sym is_free.issued ∙ waits.issued))
-      by (inr (inl taken)) = let z : None ≡ Some taken.command = sym is_free.free ∙ taken.taken in absurd cc
+      by (inl waits) = absurd (false≢true (sym is_free.is_not_issued ∙ waits.issued))
+      by (inr (inl taken)) = let z : None ≡ Some taken.command = sym is_free.is_not_taken ∙ taken.taken in absurd cc
       by (inr (inr (inl ended))) = ended.ended
-      by (inr (inr (inr dropped))) = absurd (false≢true (sym dropped.stopped ∙ ((k.port_invariant n (ready_found s n k ready).0).engine_runs ready).st))
+      by (inr (inr (inr dropped))) = absurd (false≢true (sym dropped.st_is_clear ∙ ((k.port_invariant n (ready_found s n k ready).0).ready_engine_runs ready).st_is_set))

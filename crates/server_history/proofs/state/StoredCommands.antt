@@ -6,16 +6,16 @@ use Rattle.ata_types.specs.declared.request.Op.{Op}
 use Rattle.ata_types.specs.declared.request.Op.TheVariants.{Read, Write, Trim, Flush}
 use Rattle.std.proofs.lemmas.Bool.{cases_eq, cases_lt}
 use Rattle.ata_types.specs.declared.Port.{Port}
-use Rattle.ata_types.specs.declared.memory.TheConstants.{PORT_BYTES, SCRATCH_OFFSET, TABLES_OFFSET, TABLE_BYTES}
+use Rattle.ata_types.specs.declared.memory.TheConstants.{DRIVER_BYTES_PER_PORT, SCRATCH_OFFSET, TABLES_OFFSET, TABLE_BYTES}
 use Rattle.hba_regs.specs.declared.reg.PortReg.TheVariants.{Ci, Cmd, Clb, Sact}
 use Rattle.hba_regs.specs.declared.reg.Reg.{Reg}
 use Rattle.hba_regs.specs.declared.reg.Reg.TheVariants.{Px}
 use Rattle.adapter.specs.Access.{Access}
 use Rattle.adapter.specs.Access.Access.{Storing, Writing}
-use Rattle.refinement.specs.Links.{DoesNotWrite}
-use Rattle.refinement.specs.MemoryLayout.{IsTableByte}
-use Rattle.refinement.specs.ReadySlots.{LeavesStored}
-use Rattle.command_table.specs.TableStores.{IsBlockStore, IsStoreWithBlock, IsTableStore}
+use Rattle.refinement.specs.PreservedParts.{DoesNotWrite}
+use Rattle.refinement.specs.MemoryLayout.{IsHeaderOrTableByte}
+use Rattle.refinement.specs.ReadySlots.{KeepsStoredCommand}
+use Rattle.command_table.specs.TableStores.{IsBlockStore, IsHeaderTableOrBlockStore, IsHeaderOrTableStore}
 use Rattle.commands.specs.Batches.{IsBatchAccess, IsStoreForBatch, PlacedTask, StoresThenWritesAll}
 use Rattle.commands.specs.Tasks.{IsStoreFor, issuing_writes}
 use Rattle.port_control.specs.ServiceAccesses.{IsServiceAccess}
@@ -29,19 +29,19 @@ AreApart port slot other k = other ≡ port → k ≡ slot → ⊥
 -- a byte of the slot's header or table
 abbrev pub IsWithin : (port slot place : ℕ) → Type 0
 IsWithin port slot place =
-    ((PORT_BYTES * port + 32 * slot ≤ place) × (place < PORT_BYTES * port + 32 * slot + 32))
-    ⊎ ((PORT_BYTES * port + TABLES_OFFSET + TABLE_BYTES * slot ≤ place) × (place < PORT_BYTES * port + TABLES_OFFSET + TABLE_BYTES * slot + TABLE_BYTES))
+    ((DRIVER_BYTES_PER_PORT * port + 32 * slot ≤ place) × (place < DRIVER_BYTES_PER_PORT * port + 32 * slot + 32))
+    ⊎ ((DRIVER_BYTES_PER_PORT * port + TABLES_OFFSET + TABLE_BYTES * slot ≤ place) × (place < DRIVER_BYTES_PER_PORT * port + TABLES_OFFSET + TABLE_BYTES * slot + TABLE_BYTES))
 
-pub of_table : (port slot place : ℕ) → IsTableByte port slot place → IsWithin port slot place
+pub of_table : (port slot place : ℕ) → IsHeaderOrTableByte port slot place → IsWithin port slot place
 of_table port slot place (inl t) = inl (omega (arith, t.0), omega (arith, t.1))
 of_table port slot place (inr (inl t)) = inl (omega (arith, t.0), omega (arith, t.1))
 of_table port slot place (inr (inr t)) = inr (omega (arith, t.0), omega (arith, t.1))
 
 -- and one of the scratch frame
 abbrev IsBeyond : (port place : ℕ) → Type 0
-IsBeyond port place = (PORT_BYTES * port + SCRATCH_OFFSET ≤ place) × (place < PORT_BYTES * port + SCRATCH_OFFSET + 512)
+IsBeyond port place = (DRIVER_BYTES_PER_PORT * port + SCRATCH_OFFSET ≤ place) × (place < DRIVER_BYTES_PER_PORT * port + SCRATCH_OFFSET + 512)
 
-pub of_store : (port slot at place : ℕ) (bytes : List ℕ) → IsTableStore port slot (Storing at bytes) → at ≤ place → place < at + length bytes → IsWithin port slot place
+pub of_store : (port slot at place : ℕ) (bytes : List ℕ) → IsHeaderOrTableStore port slot (Storing at bytes) → at ≤ place → place < at + length bytes → IsWithin port slot place
 of_store port slot at place bytes (inl h) from to = inl (omega (arith, h.0, from), omega (arith, h.0, h.1, to))
 of_store port slot at place bytes (inr t) from to = inr (omega (arith, t.0, from), omega (arith, t.1, to))
 
@@ -66,11 +66,11 @@ never_both port slot other k place a b c d apart x y = ⊎_elim
 
 -- an access that serves ports leaves what is stored for a slot, if its store misses header and table
 pub service_leaves_stored : PrerequisiteLaws → (other : Port) (k : ℕ) (access : Access) → IsServiceAccess access
-    → ((at : ℕ) (bytes : List ℕ) (place : ℕ) → access ≡ Storing at bytes → IsTableByte other.0 k place → at ≤ place → place < at + length bytes → ⊥) → LeavesStored other k access
+    → ((at : ℕ) (bytes : List ℕ) (place : ℕ) → access ≡ Storing at bytes → IsHeaderOrTableByte other.0 k place → at ≤ place → place < at + length bytes → ⊥) → KeepsStoredCommand other k access
 service_leaves_stored laws other k access is misses = record {
-  ghc_is_not_written = laws.looking.services_spare_host access is;
-  st_is_not_cleared = λ v e. absurd (subst (DoesNotWrite (Px other Cmd)) e (laws.looking.services_spare other Cmd (λ e. cc) (λ e. cc) (λ e. cc) access is) refl);
-  clb_is_not_written = laws.looking.services_spare other Clb (λ e. cc) (λ e. cc) (λ e. cc) access is;
+  ghc_is_not_written = laws.look_laws.services_spare_host access is;
+  st_is_not_cleared = λ v e. absurd (subst (DoesNotWrite (Px other Cmd)) e (laws.look_laws.services_spare_other_registers other Cmd (λ e. cc) (λ e. cc) (λ e. cc) access is) refl);
+  clb_is_not_written = laws.look_laws.services_spare_other_registers other Clb (λ e. cc) (λ e. cc) (λ e. cc) access is;
   table_is_not_stored_to = λ at bytes e place t from to. misses at bytes place e t from to;
 }
 
@@ -92,8 +92,8 @@ IsOfBatch port tasks access = IsStoreForBatch port.0 tasks access ⊎ ((r : Reg)
 -- so are all that issue it
 pub of_batch : (port : Port) (queued : Bool) (tasks : List PlacedTask) (accesses : List Access) → StoresThenWritesAll port queued tasks accesses → All (IsOfBatch port tasks) accesses
 of_batch port queued tasks accesses order =
-    subst (All (IsOfBatch port tasks)) (sym order.order)
-    (All-append (IsOfBatch port tasks) order.stores (issuing_writes port queued order.mask) (All-weaker (IsStoreForBatch port.0 tasks) (IsOfBatch port tasks) (λ access is. inl is) order.stores order.only) (writes queued))
+    subst (All (IsOfBatch port tasks)) (sym order.accesses_are)
+    (All-append (IsOfBatch port tasks) order.stores (issuing_writes port queued order.mask) (All-weaker (IsStoreForBatch port.0 tasks) (IsOfBatch port tasks) (λ access is. inl is) order.stores order.all_are_batch_stores) (writes queued))
   where
     write : (r : Reg) (v : ℕ) → IsOfBatch port tasks (Writing r v)
     write r v = inr (r, v, refl)
@@ -106,19 +106,19 @@ of_batch port queued tasks accesses order =
 
 -- what issues in some slots leaves what is stored for another
 pub batch_leaves_stored : PrerequisiteLaws → (port other : Port) (tasks : List PlacedTask) (k : ℕ) → port.0 < 4 → other.0 < 4 → k < 32 → ((t : PlacedTask) → Contains tasks t → (t.slot < 32) × AreApart port.0 t.slot other.0 k)
-    → (access : Access) → IsBatchAccess port access → IsOfBatch port tasks access → LeavesStored other k access
+    → (access : Access) → IsBatchAccess port access → IsOfBatch port tasks access → KeepsStoredCommand other k access
 batch_leaves_stored laws port other tasks k a c d apart access is (inr (r, v, same)) =
     service_leaves_stored laws other k access (issuing_serves port access is) (λ at bytes place e t from to. let z : Writing r v ≡ Storing at bytes = sym same ∙ e in cc)
 batch_leaves_stored laws port other tasks k a c d apart access is (inl (task, there, store)) = service_leaves_stored laws other k access (issuing_serves port access is) (λ at bytes place e t from to.
     let its = apart task there in
     let b : task.slot < 32 = its.0 in
     ⊎_elim
-    (λ (table : IsTableStore port.0 task.slot (Storing at bytes)). never_both port.0 task.slot other.0 k place a b c d its.1 (of_store port.0 task.slot at place bytes table from to) (of_table other.0 k place t))
+    (λ (table : IsHeaderOrTableStore port.0 task.slot (Storing at bytes)). never_both port.0 task.slot other.0 k place a b c d its.1 (of_store port.0 task.slot at place bytes table from to) (of_table other.0 k place t))
     (λ (block : IsBlockStore port.0 task.slot (Storing at bytes)).
     never_beyond port.0 other.0 k place a c d (let here = block.1 in let size = block.2 in (omega (arith, here, from), omega (arith, here, size, to))) (of_table other.0 k place t))
-    (subst (IsStoreWithBlock port.0 task.slot) e (with_block task.task.op store)))
+    (subst (IsHeaderTableOrBlockStore port.0 task.slot) e (with_block task.task.op store)))
   where
-    with_block : (op : Op) → IsStoreFor op port.0 task.slot access → IsStoreWithBlock port.0 task.slot access
+    with_block : (op : Op) → IsStoreFor op port.0 task.slot access → IsHeaderTableOrBlockStore port.0 task.slot access
     with_block Read table = inl table
     with_block Write table = inl table
     with_block Trim its = its

@@ -19,12 +19,12 @@ use Rattle.adapter.specs.Rules.{IsOn}
 use Rattle.adapter.specs.Steps.{Steps}
 use Rattle.refinement.specs.Fragments.{IsSoleBit, IsDrivenBy, SparesOtherPorts}
 use Rattle.refinement.specs.PortFacts.{RunsWell, Undisturbed}
-use Rattle.command_table.specs.TableStores.{IsStoreWithBlock, IsTableStore}
+use Rattle.command_table.specs.TableStores.{IsHeaderTableOrBlockStore, IsHeaderOrTableStore}
 use Rattle.driver_history.specs.Histories.{IsIssuingAccess}
 use Rattle.commands.specs.Batches.{IsBatchAccess}
-use Rattle.driver_history.specs.AccessTrace.{IsDriversOwn, DoesNotWriteCmd, LeavesEngine, ReadsCiAndSact}
+use Rattle.driver_history.specs.AccessTrace.{StaysInDriverFrames, DoesNotWriteCmd, LeavesEngine, ReadsMasksBeforeCmdWrite}
 use Rattle.server_history.specs.Prerequisites.{PrerequisiteLaws}
-use Rattle.server_history.specs.IssuingAndAnswering.{PollsSlots, IsEmptyMask, HasTurnWithoutError, IsMaskOf, is_used}
+use Rattle.server_history.specs.IssuingAndAnswering.{PollsSlots, IsEmptyMask, PollsInTurnWithoutEvent, IsMaskOf, is_used}
 use Rattle.slots.specs.SlotUses.{PortSlots, use_at}
 use Rattle.server_history.proofs.state.TransferAccesses.{both_read, issuing_serves}
 use Rattle.port_control.specs.PortEvents.{TakesEvent}
@@ -43,15 +43,15 @@ none_loaded old new steps = record { steps = steps; shows = refl }
 
 -- it serves ports, is of this one, and what it loads or stores is the driver's own
 abbrev pub IsTurn : Port → Access → Type 0
-IsTurn port access = IsServiceAccess access × (IsDriversOwn access × SparesOtherPorts port access)
+IsTurn port access = IsServiceAccess access × (StaysInDriverFrames access × SparesOtherPorts port access)
 
 -- header and table of a slot lie in the driver's frames
-pub table_own : (port slot at : ℕ) (bytes : List ℕ) → port < 4 → slot < 32 → IsTableStore port slot (Storing at bytes) → at + length bytes ≤ DRIVER_BYTES
+pub table_own : (port slot at : ℕ) (bytes : List ℕ) → port < 4 → slot < 32 → IsHeaderOrTableStore port slot (Storing at bytes) → at + length bytes ≤ DRIVER_BYTES
 table_own port slot at bytes low small (inl h) = omega (arith, low, small, h.0, h.1)
 table_own port slot at bytes low small (inr h) = omega (arith, low, small, h.0, h.1)
 
 -- and so does a trim's block
-stored_own : (port slot at : ℕ) (bytes : List ℕ) → port < 4 → slot < 32 → IsStoreWithBlock port slot (Storing at bytes) → at + length bytes ≤ DRIVER_BYTES
+stored_own : (port slot at : ℕ) (bytes : List ℕ) → port < 4 → slot < 32 → IsHeaderTableOrBlockStore port slot (Storing at bytes) → at + length bytes ≤ DRIVER_BYTES
 stored_own port slot at bytes low small (inl table) = table_own port slot at bytes low small table
 stored_own port slot at bytes low small (inr block) = let here = block.1 in let size = block.2 in omega (arith, low, here, size)
 
@@ -62,9 +62,9 @@ issuing_is port low (Reading r v) here = absurd here
 issuing_is port low (Loading at bytes) here = absurd here
 
 pub issuing_turns : PrerequisiteLaws → (port : Port) → port.0 < 4 → (access : Access) → IsBatchAccess port access → IsTurn port access
-issuing_turns laws port low access here = (issuing_serves port access here, (own access (issuing_is port low access here), laws.issuing_of port access here))
+issuing_turns laws port low access here = (issuing_serves port access here, (own access (issuing_is port low access here), laws.batch_access_is_of_port port access here))
   where
-    own : (access : Access) → IsIssuingAccess port access → IsDriversOwn access
+    own : (access : Access) → IsIssuingAccess port access → StaysInDriverFrames access
     own (Writing r v) on = tt
     own (Storing at bytes) on = on
     own (Reading r v) on = tt
@@ -72,7 +72,7 @@ issuing_turns laws port low access here = (issuing_serves port access here, (own
 
 -- what serves ports writes neither PxCMD nor PxSCTL, nor GHC
 service_leaves : PrerequisiteLaws → (port : Port) (access : Access) → IsServiceAccess access → LeavesEngine port access
-service_leaves laws port access here = (laws.looking.services_spare port Cmd (λ e. cc) (λ e. cc) (λ e. cc) access here, laws.looking.services_spare port Sctl (λ e. cc) (λ e. cc) (λ e. cc) access here)
+service_leaves laws port access here = (laws.look_laws.services_spare_other_registers port Cmd (λ e. cc) (λ e. cc) (λ e. cc) access here, laws.look_laws.services_spare_other_registers port Sctl (λ e. cc) (λ e. cc) (λ e. cc) access here)
 
 pub issuing_leaves : PrerequisiteLaws → (port other : Port) (access : Access) → IsBatchAccess port access → LeavesEngine other access
 issuing_leaves laws port other access here = service_leaves laws other access (issuing_serves port access here)
@@ -121,88 +121,88 @@ module _ (port : Port) where
       (All-cons (IsTurn port) (Reading (Px port Ssts) status) [] (tt, (tt, refl)) (All-nil (IsTurn port)))))
 
   pub look_does : (look : PortEvent) (old new : Device) → (l : TakesEvent port look old new) → DoesAll (look_list l.causes l.port_mask l.status) old new
-  look_does look old new l = (l.seen, l.reads, (l.cleared, l.clears, (l.acknowledged, l.acknowledges, (new, l.reads_status, refl))))
+  look_does look old new l = (l.after_is_read, l.reads, (l.cleared, l.clears, (l.acknowledged, l.acknowledges, (new, l.reads_status, refl))))
 
   -- The accesses of a turn. Where the port goes well, the look tells nothing; and where slots were checked, they read the masks.
-  pub record TurnList (slots : PortSlots) (replies : List Reply) (old new : Device) (t : HasTurnWithoutError port slots replies old new) : Type 0 where
+  pub record TurnList (slots : PortSlots) (replies : List Reply) (old new : Device) (t : PollsInTurnWithoutEvent port slots replies old new) : Type 0 where
     pub driven : IsDrivenBy (IsTurn port) old new
     pub of : All (SparesOtherPorts port) driven.accesses
-    pub own : All IsDriversOwn driven.accesses
+    pub own : All StaysInDriverFrames driven.accesses
     pub leaves : All (LeavesEngine port) driven.accesses
     pub no_disturbance : IsOn old → RunsWell (old.port port.0) → Undisturbed port.0 old new → t.look ≡ NoEvent
-    pub masks : t.look ≡ NoEvent → IsBusy slots → (mask : ℕ) × IsMaskOf slots mask × ((c : PollsSlots port slots mask replies t.seen new) × ReadsCiAndSact port c.reads.issued c.reads.active driven.accesses)
+    pub masks : t.look ≡ NoEvent → IsBusy slots → (mask : ℕ) × IsMaskOf slots mask × ((c : PollsSlots port slots mask replies t.device_after_look new) × ReadsMasksBeforeCmdWrite port c.reads.issued c.reads.active driven.accesses)
 
-  module _ (laws : PrerequisiteLaws) (low : port.0 < 4) (slots : PortSlots) (replies : List Reply) (old new : Device) (t : HasTurnWithoutError port slots replies old new) where
+  module _ (laws : PrerequisiteLaws) (low : port.0 < 4) (slots : PortSlots) (replies : List Reply) (old new : Device) (t : PollsInTurnWithoutEvent port slots replies old new) where
     of_all : (driven : IsDrivenBy (IsTurn port) old new) → All (SparesOtherPorts port) driven.accesses
     of_all driven = All-weaker (IsTurn port) (SparesOtherPorts port) (λ access is. is.1.1) driven.accesses driven.accesses_are_of_kind
 
-    own_all : (driven : IsDrivenBy (IsTurn port) old new) → All IsDriversOwn driven.accesses
-    own_all driven = All-weaker (IsTurn port) IsDriversOwn (λ access is. is.1.0) driven.accesses driven.accesses_are_of_kind
+    own_all : (driven : IsDrivenBy (IsTurn port) old new) → All StaysInDriverFrames driven.accesses
+    own_all driven = All-weaker (IsTurn port) StaysInDriverFrames (λ access is. is.1.0) driven.accesses driven.accesses_are_of_kind
 
     leaves_all : (driven : IsDrivenBy (IsTurn port) old new) → All (LeavesEngine port) driven.accesses
     leaves_all driven = All-weaker (IsTurn port) (LeavesEngine port) (turn_leaves laws port port) driven.accesses driven.accesses_are_of_kind
 
     -- it was looked at, and that was all
-    looked : (replies ≡ []) × (new ≡ t.seen) → (t.look ≡ NoEvent → IsBusy slots → ⊥) → TurnList slots replies old new t
+    looked : (replies ≡ []) × (new ≡ t.device_after_look) → (t.look ≡ NoEvent → IsBusy slots → ⊥) → TurnList slots replies old new t
     looked stop never = record {
       driven = driven;
       of = of_all driven;
       own = own_all driven;
       leaves = leaves_all driven;
-      no_disturbance = λ on well undisturbed. (laws.looking.looks_well port t.look old t.seen on t.looks well (subst (Undisturbed port.0 old) stop.1 undisturbed)).0;
+      no_disturbance = λ on well undisturbed. (laws.look_laws.well_port_shows_no_event port t.look old t.device_after_look on t.takes_event well (subst (Undisturbed port.0 old) stop.1 undisturbed)).0;
       masks = λ is busy. absurd (never is busy);
     }
       where
         driven : IsDrivenBy (IsTurn port) old new
         driven = subst (IsDrivenBy (IsTurn port) old) (sym stop.1) (record {
-          accesses = look_list t.looks.causes t.looks.port_mask t.looks.status;
-          all_are_done = look_does t.look old t.seen t.looks;
-          accesses_are_of_kind = look_turns t.looks.causes t.looks.port_mask t.looks.status t.looks.is_sole_bit;
+          accesses = look_list t.takes_event.causes t.takes_event.port_mask t.takes_event.status;
+          all_are_done = look_does t.look old t.device_after_look t.takes_event;
+          accesses_are_of_kind = look_turns t.takes_event.causes t.takes_event.port_mask t.takes_event.status t.takes_event.is_sole_bit;
         })
 
-    module _ (some : IsEmptyMask t.checked.mask → ⊥) where
-      abbrev c : PollsSlots port slots t.checked.mask replies t.seen new
-      c = t.checked.checks some
+    module _ (some : IsEmptyMask t.polls_used_slots.mask → ⊥) where
+      abbrev c : PollsSlots port slots t.polls_used_slots.mask replies t.device_after_look new
+      c = t.polls_used_slots.polls_slots some
 
       -- the accesses that come after the masks
-      more : IsDrivenBy (IsTurn port) c.read new
-      more = record { accesses = c.over.accesses; all_are_done = c.over.all_are_done; accesses_are_of_kind = λ i e small. issuing_turns laws port low _ (c.over.accesses_are_of_kind i e small) }
+      more : IsDrivenBy (IsTurn port) c.device_after_read new
+      more = record { accesses = c.only_issuing_follows.accesses; all_are_done = c.only_issuing_follows.all_are_done; accesses_are_of_kind = λ i e small. issuing_turns laws port low _ (c.only_issuing_follows.accesses_are_of_kind i e small) }
 
       abbrev early : List Access
-      early = look_list t.looks.causes t.looks.port_mask t.looks.status
+      early = look_list t.takes_event.causes t.takes_event.port_mask t.takes_event.status
 
       abbrev late : List Access
       late = Reading (Px port Ci) c.reads.issued ∷ Reading (Px port Sact) c.reads.active ∷ more.accesses
 
       leaves : All (DoesNotWriteCmd port) early
-      leaves i e small = (turn_leaves laws port port _ (look_turns t.looks.causes t.looks.port_mask t.looks.status t.looks.is_sole_bit i e small)).0
+      leaves i e small = (turn_leaves laws port port _ (look_turns t.takes_event.causes t.takes_event.port_mask t.takes_event.status t.takes_event.is_sole_bit i e small)).0
 
       checked_driven : IsDrivenBy (IsTurn port) old new
       checked_driven = record {
         accesses = early ++ late;
-        all_are_done = laws.basic.does_append early late old t.seen new (look_does t.look old t.seen t.looks) (let r = both_read port t.checked.mask c.done t.seen c.read c.reads in (r.0, r.1, (c.read, r.2, more.all_are_done)));
-        accesses_are_of_kind = All-append (IsTurn port) early late (look_turns t.looks.causes t.looks.port_mask t.looks.status t.looks.is_sole_bit)
+        all_are_done = laws.steps_and_accesses.does_append early late old t.device_after_look new (look_does t.look old t.device_after_look t.takes_event) (let r = both_read port t.polls_used_slots.mask c.done t.device_after_look c.device_after_read c.reads in (r.0, r.1, (c.device_after_read, r.2, more.all_are_done)));
+        accesses_are_of_kind = All-append (IsTurn port) early late (look_turns t.takes_event.causes t.takes_event.port_mask t.takes_event.status t.takes_event.is_sole_bit)
             (All-cons (IsTurn port) (Reading (Px port Ci) c.reads.issued) (Reading (Px port Sact) c.reads.active ∷ more.accesses) (tt, (tt, refl))
             (All-cons (IsTurn port) (Reading (Px port Sact) c.reads.active) more.accesses (tt, (tt, refl)) more.accesses_are_of_kind));
       }
 
-      masks_there : ReadsCiAndSact port c.reads.issued c.reads.active checked_driven.accesses
+      masks_there : ReadsMasksBeforeCmdWrite port c.reads.issued c.reads.active checked_driven.accesses
       unfolding checked_driven
       masks_there = record { before = early; later = more.accesses; accesses_are_split = refl; cmd_is_unwritten_before = leaves }
 
-    with_masks : (IsEmptyMask t.checked.mask → ⊥) → TurnList slots replies old new t
+    with_masks : (IsEmptyMask t.polls_used_slots.mask → ⊥) → TurnList slots replies old new t
     with_masks some = record {
       driven = checked_driven some;
       of = of_all (checked_driven some);
       own = own_all (checked_driven some);
       leaves = leaves_all (checked_driven some);
       no_disturbance = λ _ _ _. t.look_is_no_event;
-      masks = λ _ _. (t.checked.mask, t.checked.is_mask_of, (c some, masks_there some));
+      masks = λ _ _. (t.polls_used_slots.mask, t.polls_used_slots.is_mask_of, (c some, masks_there some));
     }
 
     pub turn_list : TurnList slots replies old new t
     turn_list =
         ⊎_elim
-        (λ (none : IsEmptyMask t.checked.mask). looked (t.checked.idle none) (λ _ busy. unmasked slots t.checked.mask t.checked.is_mask_of none busy))
+        (λ (none : IsEmptyMask t.polls_used_slots.mask). looked (t.polls_used_slots.none_used_reads_nothing none) (λ _ busy. unmasked slots t.polls_used_slots.mask t.polls_used_slots.is_mask_of none busy))
         (λ some. with_masks (λ none. false≢true (sym (none some.0 some.1) ∙ some.2)))
-        (none_or_some 32 t.checked.mask)
+        (none_or_some 32 t.polls_used_slots.mask)

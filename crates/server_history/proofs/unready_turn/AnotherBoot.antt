@@ -14,9 +14,9 @@ use Rattle.adapter.specs.Device.{Device}
 use Rattle.adapter.specs.Rules.{HasPort, IsOn}
 use Rattle.adapter.specs.declared.command.Operation.TheVariants.{ReadLog}
 use Rattle.refinement.specs.Acts.{DriverSlots}
-use Rattle.refinement.specs.Fragments.{RelatesWith, AnyUse, IsSimulated, SparesOtherPorts, GainsNoMove}
+use Rattle.refinement.specs.Fragments.{SomeMachineAgreesWith, AnySlotStates, IsSimulated, SparesOtherPorts, GainsNoMove}
 use Rattle.block_machine.specs.Ports.{IsStoppedOrStuck, IsServiced}
-use Rattle.driver_history.specs.AccessTrace.{IsDriversOwn}
+use Rattle.driver_history.specs.AccessTrace.{StaysInDriverFrames}
 use Rattle.error_recovery.specs.Recovery.{EndsAsNext, StopsForReset, IsRecoveryAccess}
 use Rattle.error_recovery.specs.declared.Next.{Next}
 use Rattle.error_recovery.specs.declared.Next.TheVariants as next
@@ -31,9 +31,9 @@ use Rattle.port_control.specs.Ports.{IsStopped}
 use Rattle.port_control.specs.declared.Stopped.{Stopped}
 use Rattle.port_control.specs.PortEvents.{IsEventAccess}
 use Rattle.server_history.specs.Prerequisites.{PrerequisiteLaws}
-use Rattle.server_history.specs.ErrorHandling.{IsRevalidated}
+use Rattle.server_history.specs.ErrorHandling.{IsFoundAfterError}
 use Rattle.server_history.specs.ServerState.{InCallInvariant, ServerState, last_disk_in, last_disk_of, is_served, no_slots, plain_mode, ports_of, remembered_at, last_sectors_of, last_serial_of, state_of}
-use Rattle.server_history.specs.Probing.{BootsUnreadyPort, IsProbedAnew}
+use Rattle.server_history.specs.Probing.{BootsUnreadyPort, IsFoundAfterStop}
 use Rattle.server_history.specs.Turns.{LeavesOthers}
 use Rattle.port_control.specs.declared.events.PortError.TheVariants.{TimedOut}
 use Rattle.server_history.proofs.recovery_turn.MendedPort.{dead_is, disk_is, found_served}
@@ -51,26 +51,26 @@ use Rattle.server_history.proofs.dispositions.RemainingBook.{was_itself}
 -- ---- a port that isn't ready
 
 -- where it isn't dead, it is no ready one either
-pub never_ready : (s : ServerState) (port : Port) (state : PortState) → InCallInvariant s → probe_result_of s.ports port.0 ≡ Unready state → state ≢ ReadyState
+pub never_ready : (s : ServerState) (port : Port) (state : PortState) → InCallInvariant s → probe_result_of s.probe_results port.0 ≡ Unready state → state ≢ ReadyState
 never_ready s port state k is ready =
     absurd (subst (λ (f : ProbeResult). StillBacksProbeResult (wanted_of s.wanted port.0) f port.0 s.device) (is ∙ ap Unready ready) (k.port_invariant port.0 (k.served_ports_exist port.0 (ap is_served is)).0).probe_result_is_backed).1
 
 -- it is served
-pub its_service : (s : ServerState) (port : Port) (state : PortState) → InCallInvariant s → probe_result_of s.ports port.0 ≡ Unready state → IsServed (wanted_of s.wanted port.0) port.0 s.device
+pub its_service : (s : ServerState) (port : Port) (state : PortState) → InCallInvariant s → probe_result_of s.probe_results port.0 ≡ Unready state → IsServed (wanted_of s.wanted port.0) port.0 s.device
 its_service s port state k is = (subst (λ (f : ProbeResult). StillBacksProbeResult (wanted_of s.wanted port.0) f port.0 s.device) is (k.port_invariant port.0 (k.served_ports_exist port.0 (ap is_served is)).0).probe_result_is_backed).0
 
 -- the accesses of a look
 pub looking_part : PrerequisiteLaws → (port : Port) (access : Access) → IsEventAccess port access → IsPart port access
-looking_part laws port access is = (own access is, laws.looking.looking_of port access is)
+looking_part laws port access is = (own access is, laws.look_laws.look_access_is_of_port port access is)
   where
-    own : (access : Access) → IsEventAccess port access → IsDriversOwn access
+    own : (access : Access) → IsEventAccess port access → StaysInDriverFrames access
     own (Reading r v) is = tt
     own (Writing r v) is = tt
     own (Loading at bytes) is = absurd is
     own (Storing at bytes) is = absurd is
 
-module _ (laws : PrerequisiteLaws) (s : ServerState) (seen : Device) (port : Port) (state : PortState) (k : InCallInvariant s) (is : probe_result_of s.ports port.0 ≡ Unready state) (lives : state ≢ DeadState)
-    (looks : IsSimulated (IsEventAccess port) AnyUse s.device seen) where
+module _ (laws : PrerequisiteLaws) (s : ServerState) (seen : Device) (port : Port) (state : PortState) (k : InCallInvariant s) (is : probe_result_of s.probe_results port.0 ≡ Unready state) (lives : state ≢ DeadState)
+    (looks : IsSimulated (IsEventAccess port) AnySlotStates s.device seen) where
   pub low : port.0 < 4
   low = (k.served_ports_exist port.0 (ap is_served is)).0
 
@@ -79,11 +79,11 @@ module _ (laws : PrerequisiteLaws) (s : ServerState) (seen : Device) (port : Por
   passed = look_passes laws s port k low (slots_of s k) s.device seen (passes_none s port k) looks
 
   -- once it was looked at, the port may be given up
-  pub may_give_up : IsOn seen × HasPort seen port.0 × RelatesWith AnyUse seen
+  pub may_give_up : IsOn seen × HasPort seen port.0 × SomeMachineAgreesWith AnySlotStates seen
   may_give_up = (
     passed.on,
     still_there port.0 s.device seen (same_over laws port s.device seen passed.driven) (k.served_ports_exist port.0 (ap is_served is)),
-    ((slots_of s k).uses, tt, record { machine = passed.machine; parked = (slots_of s k).parked; reached = passed.reached; driver_relation = passed.driver_relation }),
+    ((slots_of s k).slot_states, tt, record { machine = passed.machine; parked = (slots_of s k).awaiting_disposition; reached = passed.reached; driver_relation = passed.driver_relation }),
   )
 
   module _ (stopped : Device) (result : Recovered) (g : StopsForReset port 0 true result seen stopped) where
@@ -99,8 +99,8 @@ module _ (laws : PrerequisiteLaws) (s : ServerState) (seen : Device) (port : Por
           record {
             adapter_is_on = done.1.on;
             has_port = still_there port.0 s.device stopped same (k.served_ports_exist port.0 (ap is_served is));
-            driver_memory_fits = let room = k.driver_memory_fits in let size = same.size in omega (arith, room, size);
-            machine_is_related = (done.0.uses, done.2 (λ dead. let z : next.Restart token ≡ next.Dead = sym so ∙ dead in absurd cc), record { machine = done.1.machine; parked = done.0.parked; reached = done.1.reached; driver_relation = done.1.driver_relation });
+            driver_memory_fits = let room = k.driver_memory_fits in let size = same.memory_size in omega (arith, room, size);
+            machine_is_related = (done.0.slot_states, done.2 (λ dead. let z : next.Restart token ≡ next.Dead = sym so ∙ dead in absurd cc), record { machine = done.1.machine; parked = done.0.awaiting_disposition; reached = done.1.reached; driver_relation = done.1.driver_relation });
           },
           ends.1,
         )
@@ -111,7 +111,7 @@ module _ (laws : PrerequisiteLaws) (s : ServerState) (seen : Device) (port : Por
 pub no_disk : DiskInfo
 no_disk = record { serial = []; depth = 0; ncq = false; sectors = 0; trim = false }
 
-found_after : (wanted : Wanted) (port : Port) (then : Next) (old new : Device) (found : ProbeResult) → IsProbedAnew wanted port then old new found → IsRevalidated wanted port TimedOut no_disk then old new found
+found_after : (wanted : Wanted) (port : Port) (then : Next) (old new : Device) (found : ProbeResult) → IsFoundAfterStop wanted port then old new found → IsFoundAfterError wanted port TimedOut no_disk then old new found
 found_after wanted port (next.Running token) old new found none = absurd none
 found_after wanted port (next.Restart token) old new found is = is
 found_after wanted port next.Dead old new found is = is
@@ -141,15 +141,15 @@ stopped_its port (next.Running token) = All-cons (λ q. q ≡ port) port [] refl
 stopped_its port (next.Restart token) = All-cons (λ q. q ≡ port) port [] refl (All-nil (λ q. q ≡ port))
 stopped_its port next.Dead = All-nil (λ q. q ≡ port)
 
-pub interrupted : (wanted : Wanted) (port : Port) (then : Next) (old new : Device) (found : ProbeResult) → IsProbedAnew wanted port then old new found → IsStoppedOrStuck (evidence_tried (stopped_of port then) (stuck_if port found)) port
+pub interrupted : (wanted : Wanted) (port : Port) (then : Next) (old new : Device) (found : ProbeResult) → IsFoundAfterStop wanted port then old new found → IsStoppedOrStuck (evidence_tried (stopped_of port then) (stuck_if port found)) port
 interrupted wanted port (next.Running token) old new found none = absurd none
 interrupted wanted port (next.Restart token) old new found is = inl (first_here port [])
 interrupted wanted port next.Dead old new found is = inr (stuck_all port found is.0)
 
-module _ (laws : PrerequisiteLaws) (s new : ServerState) (seen : Device) (port : Port) (state : PortState) (k : InCallInvariant s) (is : probe_result_of s.ports port.0 ≡ Unready state) (lives : state ≢ DeadState)
-    (looks : IsSimulated (IsEventAccess port) AnyUse s.device seen) (b : BootsUnreadyPort port (record s { device = seen }) new) where
+module _ (laws : PrerequisiteLaws) (s new : ServerState) (seen : Device) (port : Port) (state : PortState) (k : InCallInvariant s) (is : probe_result_of s.probe_results port.0 ≡ Unready state) (lives : state ≢ DeadState)
+    (looks : IsSimulated (IsEventAccess port) AnySlotStates s.device seen) (b : BootsUnreadyPort port (record s { device = seen }) new) where
   abbrev g : StopsForReset port 0 true b.probes_anew.result seen b.probes_anew.stopped
-  g = b.probes_anew.gives_up
+  g = b.probes_anew.stops_for_reset
 
   abbrev part : List Access
   part = g.handling.accesses
@@ -158,15 +158,15 @@ module _ (laws : PrerequisiteLaws) (s new : ServerState) (seen : Device) (port :
   wanted = wanted_of s.wanted port.0
 
   abbrev pub then_is : ServerState
-  then_is = with_found port new.device s.table b.found s.remembered b.mode b.slots s.kept s.book s
+  then_is = with_found port new.device s.table b.found s.remembered b.mode b.slots s.kept_loans s.book s
 
   small : port.0 < 4
   small = low laws s seen port state k is lives looks
 
-  pub unready : state_of (probe_result_of s.ports port.0) ≢ ReadyState
+  pub unready : state_of (probe_result_of s.probe_results port.0) ≢ ReadyState
   unready ready = never_ready s port state k is (sym (ap state_of is) ∙ ready)
 
-  pub after_it : IsRevalidated wanted port TimedOut no_disk b.probes_anew.result.next b.probes_anew.stopped new.device b.found
+  pub after_it : IsFoundAfterError wanted port TimedOut no_disk b.probes_anew.result.next b.probes_anew.stopped new.device b.found
   after_it = found_after wanted port b.probes_anew.result.next b.probes_anew.stopped new.device b.found b.probes_anew.is_probed_anew
 
   given : PassesTo laws s port k small b.probes_anew.result.next b.probes_anew.stopped
@@ -189,17 +189,17 @@ module _ (laws : PrerequisiteLaws) (s new : ServerState) (seen : Device) (port :
   pub book_left : IsBookLeft port b.found s.table s.book s
   book_left = record {
     owners = refl;
-    accepted = k.requests_are_accepted;
-    ordered = k.book_is_in_order;
+    accepted = k.entries_are_well_formed;
+    ordered = k.book_is_well_formed;
     from = was_itself s.book;
-    ready = λ e here own. absurd (unready (ap (λ (q : ℕ). state_of (probe_result_of s.ports q)) (sym own) ∙ of_ready s k e here));
+    ready = λ e here own. absurd (unready (ap (λ (q : ℕ). state_of (probe_result_of s.probe_results q)) (sym own) ∙ of_ready s k e here));
   }
 
-  pub listed : port.0 < length s.ports
-  listed = is_listed s.ports port.0 (ap is_served is)
+  pub listed : port.0 < length s.probe_results
+  listed = is_listed s.probe_results port.0 (ap is_served is)
 
-  pub found_then : probe_result_of then_is.ports port.0 ≡ b.found
-  found_then = get_or-set_same s.ports port.0 b.found Unserved listed
+  pub found_then : probe_result_of then_is.probe_results port.0 ≡ b.found
+  found_then = get_or-set_same s.probe_results port.0 b.found Unserved listed
 
   -- a dead port's engine was awaited in vain
   counted : b.found ≡ Unready DeadState → (new.device.port port.0).notes.engine_count ≡ MOST_READINGS
@@ -214,20 +214,20 @@ module _ (laws : PrerequisiteLaws) (s new : ServerState) (seen : Device) (port :
   accesses = looks.is_driven.accesses ++ (part ++ afterwards.driven.accesses)
 
   does_part : DoesAll part seen b.probes_anew.stopped
-  does_part = recovery_does port.0 b.probes_anew.result.next part seen b.probes_anew.stopped g.handling.does.slots
+  does_part = recovery_does port.0 b.probes_anew.result.next part seen b.probes_anew.stopped g.handling.does.slots_after
 
   pub until : DoesAll (looks.is_driven.accesses ++ part) s.device b.probes_anew.stopped
-  until = laws.basic.does_append looks.is_driven.accesses part s.device seen b.probes_anew.stopped looks.is_driven.all_are_done does_part
+  until = laws.steps_and_accesses.does_append looks.is_driven.accesses part s.device seen b.probes_anew.stopped looks.is_driven.all_are_done does_part
 
   pub does : DoesAll accesses s.device new.device
-  does = laws.basic.does_append looks.is_driven.accesses (part ++ afterwards.driven.accesses) s.device seen new.device looks.is_driven.all_are_done
-      (laws.basic.does_append part afterwards.driven.accesses seen b.probes_anew.stopped new.device does_part afterwards.driven.all_are_done)
+  does = laws.steps_and_accesses.does_append looks.is_driven.accesses (part ++ afterwards.driven.accesses) s.device seen new.device looks.is_driven.all_are_done
+      (laws.steps_and_accesses.does_append part afterwards.driven.accesses seen b.probes_anew.stopped new.device does_part afterwards.driven.all_are_done)
 
   looking_only : All (IsPart port) looks.is_driven.accesses
   looking_only = All-weaker (IsEventAccess port) (IsPart port) (looking_part laws port) looks.is_driven.accesses looks.is_driven.accesses_are_of_kind
 
   part_only : All (IsPart port) part
-  part_only = All-weaker (IsRecoveryAccess port) (IsPart port) (recovering_part laws port small) part g.handling.does.only
+  part_only = All-weaker (IsRecoveryAccess port) (IsPart port) (recovering_part laws port small) part g.handling.does.accesses_are_recovery
 
   pub until_of : All (SparesOtherPorts port) (looks.is_driven.accesses ++ part)
   until_of = All-weaker (IsPart port) (SparesOtherPorts port) (λ access its. its.1) (looks.is_driven.accesses ++ part) (All-append (IsPart port) looks.is_driven.accesses part looking_only part_only)
@@ -242,9 +242,9 @@ module _ (laws : PrerequisiteLaws) (s new : ServerState) (seen : Device) (port :
     λ dead. absurd (lives (sym (ap state_of is) ∙ dead)),
     λ _. (
       record {
-        served_is_kept = ap is_served found_then ∙ found_served wanted port TimedOut no_disk b.probes_anew.result.next b.probes_anew.stopped new.device b.found after_it ∙ sym (ap is_served is);
+        served_is_unchanged = ap is_served found_then ∙ found_served wanted port TimedOut no_disk b.probes_anew.result.next b.probes_anew.stopped new.device b.found after_it ∙ sym (ap is_served is);
         dead_is_stuck = (λ dead. stuck_all port b.found (dead_is b.found (sym (ap state_of found_then) ∙ dead)), λ here. ap state_of found_then ∙ ap state_of (stuck_only port b.found here));
-        disk_is_kept = λ other. (ap last_serial_of (same_disk other), ap last_sectors_of (same_disk other));
+        disk_is_remembered = λ other. (ap last_serial_of (same_disk other), ap last_sectors_of (same_disk other));
       },
       inr (interrupted wanted port b.probes_anew.result.next b.probes_anew.stopped new.device b.found b.probes_anew.is_probed_anew),
     ),
@@ -262,10 +262,10 @@ module _ (laws : PrerequisiteLaws) (s new : ServerState) (seen : Device) (port :
     its_stuck = stuck_its port b.found;
     becomes = becomes;
     engine = inr (interrupted wanted port b.probes_anew.result.next b.probes_anew.stopped new.device b.found b.probes_anew.is_probed_anew);
-    stops = engine_stops laws port looks.is_driven.accesses part afterwards.driven.accesses b.probes_anew.result.next g.handling.does.engine;
+    stops = engine_stops laws port looks.is_driven.accesses part afterwards.driven.accesses b.probes_anew.result.next g.handling.does.tells_engine_outcome;
     sticks = λ here.
         let dead = stuck_only port b.found here in
-        (engine_sticks laws port looks.is_driven.accesses part afterwards.driven.accesses b.probes_anew.result.next g.handling.does.engine (afterwards.sticks dead), counted dead);
+        (engine_sticks laws port looks.is_driven.accesses part afterwards.driven.accesses b.probes_anew.result.next g.handling.does.tells_engine_outcome (afterwards.sticks dead), counted dead);
   }
 
   -- ---- the other ports
@@ -275,12 +275,12 @@ module _ (laws : PrerequisiteLaws) (s new : ServerState) (seen : Device) (port :
     grants = refl;
     wanted = refl;
     last_id = refl;
-    found = λ q ne. get_or-set_other s.ports port.0 q b.found Unserved ne;
-    remembered = λ q ne. refl;
-    modes = λ q ne. get_or-set_other s.modes port.0 q b.mode plain_mode ne;
-    slots = λ q ne. get_or-set_other s.slots port.0 q b.slots no_slots ne;
-    book = λ q ne. refl;
+    other_probe_results_are_same = λ q ne. get_or-set_other s.probe_results port.0 q b.found Unserved ne;
+    other_remembered_are_same = λ q ne. refl;
+    other_modes_are_same = λ q ne. get_or-set_other s.modes port.0 q b.mode plain_mode ne;
+    other_slots_are_same = λ q ne. get_or-set_other s.slots port.0 q b.slots no_slots ne;
+    others_requests_are_same = λ q ne. refl;
   }
 
-  pub silent : (q : ℕ) → q ≢ port.0 → state_of (probe_result_of s.ports q) ≢ DeadState → GainsNoMove q ReadLog s.device new.device
+  pub silent : (q : ℕ) → q ≢ port.0 → state_of (probe_result_of s.probe_results q) ≢ DeadState → GainsNoMove q ReadLog s.device new.device
   silent q other alive = whole.1.silent q ReadLog refl other (λ dead. alive (ap state_of dead))

@@ -11,21 +11,21 @@ use Rattle.hba_regs.specs.declared.reg.Reg.TheVariants.{Px}
 use Rattle.adapter.specs.Access.{Reads}
 use Rattle.adapter.specs.Access.Access.{Reading}
 use Rattle.adapter.specs.Device.{Device, Notes, DevicePort}
-use Rattle.adapter.specs.KeptBySteps.{KeepsControls, KeepsPort}
+use Rattle.adapter.specs.KeptBySteps.{KeepsControlsFlagsRise, PortBitsOnlyFall}
 use Rattle.adapter.specs.Rules.{IsOn}
 use Rattle.adapter.specs.RegisterEffects.{PortRegisterRead}
 use Rattle.adapter.specs.declared.command.Operation.TheVariants.{Identify}
 use Rattle.refinement.specs.Fragments.{LeavesPort, GainsNoMove}
-use Rattle.refinement.specs.Links.{SameAdapter}
+use Rattle.refinement.specs.PreservedParts.{SameAdapter}
 use Rattle.host_boot.specs.TakeOver.{StillBacksProbeResult}
 use Rattle.host_boot.specs.declared.ProbeResult.TheVariants.{Unready}
 use Rattle.identify.specs.Wanted.{serial_of}
 use Rattle.identify.specs.declared.wanted.Wanted.{Wanted}
-use Rattle.port_boot.specs.States.{BacksState, HasIdentity, IsUnfit}
+use Rattle.port_boot.specs.States.{BacksState, HasLastIdentifyPage, IsUnfit}
 use Rattle.port_control.specs.Ports.{IsStopped, SawDevice}
-use Rattle.port_control.specs.DeviceChecks.{FindsChange}
+use Rattle.port_control.specs.DeviceChecks.{ChecksForChange}
 use Rattle.server_history.specs.Prerequisites.{PrerequisiteLaws}
-use Rattle.server_history.specs.Probing.{IsLookedAt}
+use Rattle.server_history.specs.Probing.{FindsReasonToBoot}
 use Rattle.server_history.proofs.state.PortGrounds.{left_on}
 use Rattle.server_history.proofs.state.RunningPorts.{link_still}
 
@@ -53,10 +53,10 @@ abbrev noted_before : Device → Device → Device
 noted_before old new = record new { port = λ q. record (new.port q) { notes = (old.port q).notes } }
 
 -- a port is left to the device, but for what was noted
-but_notes : (noted : Notes) (old new : DevicePort) → KeepsPort old new → KeepsControls old new → LeavesPort (record old { notes = noted }) (record new { notes = noted })
+but_notes : (noted : Notes) (old new : DevicePort) → PortBitsOnlyFall old new → KeepsControlsFlagsRise old new → LeavesPort (record old { notes = noted }) (record new { notes = noted })
 but_notes noted old new k c = record {
-  keeps = record { bases = k.bases; st = k.st; fre = k.fre; cr = k.cr; fr = k.fr; ci = k.ci; sact = k.sact; stays_without_commands = k.stays_without_commands; fall_drops_commands = k.fall_drops_commands; slots_stay_free = k.slots_stay_free };
-  controls = record { st = c.st; fre = c.fre; sctl_det = c.sctl_det; ie = c.ie; is = c.is; ips = c.ips; serr_n = c.serr_n; serr_x = c.serr_x; engine_stays_running = c.engine_stays_running };
+  port_is_kept_by_device = record { bases_are_kept = k.bases_are_kept; st_stays_clear = k.st_stays_clear; fre_stays_clear = k.fre_stays_clear; cr_stays_clear = k.cr_stays_clear; fr_stays_clear = k.fr_stays_clear; ci_stays_clear = k.ci_stays_clear; sact_stays_clear = k.sact_stays_clear; stays_without_commands = k.stays_without_commands; fall_drops_commands = k.fall_drops_commands; slots_stay_free = k.slots_stay_free };
+  controls = record { st_is_kept = c.st_is_kept; fre_is_kept = c.fre_is_kept; sctl_det_is_kept = c.sctl_det_is_kept; ie_is_kept = c.ie_is_kept; causes_stay_set = c.causes_stay_set; ips_is_kept = c.ips_is_kept; serr_n_stays_set = c.serr_n_stays_set; serr_x_stays_set = c.serr_x_stays_set; engine_stays_running = c.engine_stays_running };
   notes = refl;
 }
 
@@ -68,7 +68,7 @@ module _ (laws : PrerequisiteLaws) (wanted : Wanted) (port : Port) (first old ne
     (left : LeavesPort (first.port port.0) (record (old.port port.0) { notes = (first.port port.0).notes })) (noted : SameButAcknowledged (first.port port.0).notes (old.port port.0).notes)
     (reads : Reads (Px port Ssts) v old new) (silent : GainsNoMove port.0 Identify first new) where
   at : PortRegisterRead port.0 Ssts v old new
-  at = laws.looking.seen port Ssts v old new reads on.no_reset
+  at = laws.look_laws.port_register_read port Ssts v old new reads on.no_reset
 
   abbrev was : Notes
   was = (first.port port.0).notes
@@ -85,8 +85,8 @@ module _ (laws : PrerequisiteLaws) (wanted : Wanted) (port : Port) (first old ne
   busy : now.busy_count ≡ was.busy_count
   busy = ap (λ (n : Notes). n.busy_count) at.notes ∙ ap (λ (n : Notes). n.busy_count) noted
 
-  commands : now.command_count ≡ was.command_count
-  commands = ap (λ (n : Notes). n.command_count) at.notes ∙ ap (λ (n : Notes). n.command_count) noted
+  commands : now.slot0_issued_count ≡ was.slot0_issued_count
+  commands = ap (λ (n : Notes). n.slot0_issued_count) at.notes ∙ ap (λ (n : Notes). n.slot0_issued_count) noted
 
   file : now.last_tfd ≡ was.last_tfd
   file = ap (λ (n : Notes). n.last_tfd) at.notes ∙ ap (λ (n : Notes). n.last_tfd) noted
@@ -97,19 +97,19 @@ module _ (laws : PrerequisiteLaws) (wanted : Wanted) (port : Port) (first old ne
   written : now.sctl_written_at ≡ was.sctl_written_at
   written = ap (λ (n : Notes). n.sctl_written_at) at.notes ∙ ap (λ (n : Notes). n.sctl_written_at) noted
 
-  counted : was.link_count ≡ MOST_READINGS → now.link_count ≡ MOST_READINGS
-  counted count = link_still laws port (Reading (Px port Ssts) v) old new on tt reads (ap (λ (n : Notes). n.link_count) noted ∙ count)
+  counted : was.link_wait_count ≡ MOST_READINGS → now.link_wait_count ≡ MOST_READINGS
+  counted count = link_still laws port (Reading (Px port Ssts) v) old new on tt reads (ap (λ (n : Notes). n.link_wait_count) noted ∙ count)
 
   -- but for that, the port is left to the device
   left_before : LeavesPort (first.port port.0) (before.port port.0)
   left_before =
-      laws.looking.leaves_more (first.port port.0) (record (old.port port.0) { notes = was }) (before.port port.0) left
-      (but_notes was (old.port port.0) (new.port port.0) (at.keeps.ports_are_kept port.0) (at.keeps.keeps_outside_reset.controls port.0))
+      laws.look_laws.leaves_port_is_transitive (first.port port.0) (record (old.port port.0) { notes = was }) (before.port port.0) left
+      (but_notes was (old.port port.0) (new.port port.0) (at.keeps.ports_keep_what_steps_keep port.0) (at.keeps.keeps_outside_reset.controls_are_kept port.0))
 
   stopped : IsStopped (before.port port.0) → IsStopped (new.port port.0)
-  stopped s = record { halted = record { st = s.halted.st; cr = s.halted.cr; ci = s.halted.ci; taken = s.halted.taken }; sact = s.sact }
+  stopped s = record { engine_is_stopped = record { st_is_clear = s.engine_is_stopped.st_is_clear; cr_is_clear = s.engine_is_stopped.cr_is_clear; no_command_is_issued = s.engine_is_stopped.no_command_is_issued; no_command_is_taken = s.engine_is_stopped.no_command_is_taken }; sact_is_clear = s.sact_is_clear }
 
-  paged : (page : List ℕ) → HasIdentity port.0 before page → HasIdentity port.0 new page
+  paged : (page : List ℕ) → HasLastIdentifyPage port.0 before page → HasLastIdentifyPage port.0 new page
   paged page h = record {
     before = h.before;
     move = h.move;
@@ -142,27 +142,27 @@ module _ (laws : PrerequisiteLaws) (wanted : Wanted) (port : Port) (first old ne
 
   stands : (state : Shown) → state ≢ Dead → ShowsAsBefore state v → StillBacksProbeResult wanted (Unready state) port.0 first → StillBacksProbeResult wanted (Unready state) port.0 new
   stands state lives shows s =
-      let x = left_on laws wanted (Unready state) port.0 first before (record { telling = same.telling; size = same.size; cap = same.cap; pi = same.pi }) left_before (λ _. silent) s in
+      let x = left_on laws wanted (Unready state) port.0 first before (record { telling = same.telling; memory_size = same.memory_size; cap = same.cap; pi = same.pi }) left_before (λ _. silent) s in
       (x.0, ends state lives shows x.1)
 
 -- ---- a look
 
-pub looked_stands : (laws : PrerequisiteLaws) (wanted : Wanted) (port : Port) (state : Shown) (result : Bool) (old new : Device) → IsOn old → state ≢ Dead → IsLookedAt state port result old new → result ≡ false → SameAdapter old new
+pub looked_stands : (laws : PrerequisiteLaws) (wanted : Wanted) (port : Port) (state : Shown) (result : Bool) (old new : Device) → IsOn old → state ≢ Dead → FindsReasonToBoot state port result old new → result ≡ false → SameAdapter old new
     → GainsNoMove port.0 Identify old new → StillBacksProbeResult wanted (Unready state) port.0 old → StillBacksProbeResult wanted (Unready state) port.0 new
 looked_stands laws wanted port state result old new on lives looks none same silent s = by state lives looks s
   where
-    change : (its : Shown) → its ≢ Dead → (ShowsAsBefore its ≡ (λ v. v % 16 ≡ 3)) → FindsChange port result old new → StillBacksProbeResult wanted (Unready its) port.0 old → StillBacksProbeResult wanted (Unready its) port.0 new
+    change : (its : Shown) → its ≢ Dead → (ShowsAsBefore its ≡ (λ v. v % 16 ≡ 3)) → ChecksForChange port result old new → StillBacksProbeResult wanted (Unready its) port.0 old → StillBacksProbeResult wanted (Unready its) port.0 new
     change its alive kind f behind =
-        let first = laws.looking.seen port Is f.causes old f.seen f.reads on.no_reset in
-        let there = laws.looks.access_on (Reading (Px port Is) f.causes) old f.seen on (λ v e. absurd cc) f.reads in
+        let first = laws.look_laws.port_register_read port Is f.causes old f.after_is_read f.reads on.no_reset in
+        let there = laws.port_event_laws.access_keeps_on (Reading (Px port Is) f.causes) old f.after_is_read on (λ v e. absurd cc) f.reads in
         let link : (f.status % 16) ≡ 3 = eqb-true (f.status % 16) 3 (unchanged (bit f.causes 6) (bit f.causes 22) (f.status % 16 == 3) (sym f.result_is ∙ none)).1 in
         let was : Notes = (old.port port.0).notes in
-        let noted : SameButAcknowledged was (f.seen.port port.0).notes =
+        let noted : SameButAcknowledged was (f.after_is_read.port port.0).notes =
         first.notes ∙ ap (λ (yes : Bool). record was { acknowledged = yes }) (sym (ap (λ (n : Notes). n.acknowledged) first.notes)) in
-        stands laws wanted port old f.seen new f.status there same (but_notes was (old.port port.0) (f.seen.port port.0) (first.keeps.ports_are_kept port.0) (first.keeps.keeps_outside_reset.controls port.0)) noted f.reads_status silent its alive (subst (λ (P : ℕ → Type 0). P f.status) (sym kind) link) behind
+        stands laws wanted port old f.after_is_read new f.status there same (but_notes was (old.port port.0) (f.after_is_read.port port.0) (first.keeps.ports_keep_what_steps_keep port.0) (first.keeps.keeps_outside_reset.controls_are_kept port.0)) noted f.reads_status silent its alive (subst (λ (P : ℕ → Type 0). P f.status) (sym kind) link) behind
 
-    by : (its : Shown) → its ≢ Dead → IsLookedAt its port result old new → StillBacksProbeResult wanted (Unready its) port.0 old → StillBacksProbeResult wanted (Unready its) port.0 new
-    by Absent alive f behind = stands laws wanted port old old new f.status on same (laws.looking.leaves_none (old.port port.0)) refl f.reads silent Absent alive (unequal (f.status % 16) 3 (sym f.result_is ∙ none)) behind
+    by : (its : Shown) → its ≢ Dead → FindsReasonToBoot its port result old new → StillBacksProbeResult wanted (Unready its) port.0 old → StillBacksProbeResult wanted (Unready its) port.0 new
+    by Absent alive f behind = stands laws wanted port old old new f.status on same (laws.look_laws.leaves_port_is_reflexive (old.port port.0)) refl f.reads silent Absent alive (unequal (f.status % 16) 3 (sym f.result_is ∙ none)) behind
     by Foreign alive f behind = change Foreign alive refl f behind
     by (Unfit cause) alive f behind = change (Unfit cause) alive refl f behind
     by Dead alive f behind = absurd (alive refl)

@@ -14,11 +14,11 @@ use Rattle.adapter.specs.Device.{Device, DevicePort}
 use Rattle.adapter.specs.Rules.{IsOn}
 use Rattle.refinement.specs.Fragments.{TapeGrows}
 use Rattle.refinement.specs.Errors.{NoDiskComes}
-use Rattle.refinement.specs.Links.{IsPlugEvent, NoPlugEvents}
+use Rattle.refinement.specs.PreservedParts.{IsPlugEvent, NoPlugEvents}
 use Rattle.refinement.specs.Vacant.{HasFirstFisIfShown, IsVacant}
 use Rattle.block_machine.specs.Events.{ShowsDisk}
-use Rattle.driver_history.specs.Evidence.{TapeGainsEntry, ShowsChange}
-use Rattle.driver_history.specs.Histories.{HasSignatureOrNoDevice}
+use Rattle.driver_history.specs.Evidence.{TapeGainsEntry, ShowsLinkChange}
+use Rattle.driver_history.specs.Histories.{HasFirstFisOrNoDevice}
 use Rattle.driver_history.specs.AccessTrace.{ResetsLink}
 use Rattle.host_boot.specs.Reboots.{BootsStopped}
 use Rattle.port_boot.specs.Outcomes.{EndsUnready}
@@ -28,7 +28,7 @@ use Rattle.identify.specs.Wanted.{serial_of}
 use Rattle.identify.specs.declared.DiskInfo.{DiskInfo}
 use Rattle.identify.specs.declared.wanted.Wanted.{Wanted}
 use Rattle.port_boot.specs.States.{BacksState, EndsBeforeStart, EndsAfterStart, IsStateOfFault}
-use Rattle.port_control.specs.Ports.{HasClearErrors}
+use Rattle.port_control.specs.Ports.{SerrShowsOnlyNewPlugs}
 use Rattle.port_control.specs.PortEvents.{IsEventAccess}
 use Rattle.server_history.specs.Prerequisites.{PrerequisiteLaws}
 use Rattle.server_history.specs.ServerState.{state_of}
@@ -48,34 +48,34 @@ split (access ∷ early) late old new (next, one, rest) = let x = split early la
 module _ (laws : PrerequisiteLaws) (port : Port) where
   -- the first and the second of two parts, each by accesses
   pub none_parts : (old mid new : Device) → TapeGrows old mid → TapeGrows mid new → NoDiskComes port.0 old new → NoDiskComes port.0 old mid × NoDiskComes port.0 mid new
-  none_parts old mid new early late none = laws.looks.tape.comes_parts port.0 old mid new early.0 late.0 early.1 late.1 none
+  none_parts old mid new early late none = laws.port_event_laws.tape.no_disk_comes_in_parts port.0 old mid new early.0 late.0 early.1 late.1 none
 
   pub stays_vacant : (accesses : List Access) (old new : Device) → DoesAll accesses old new → NoDiskComes port.0 old new → IsVacant (old.port port.0) → IsVacant (new.port port.0)
-  stays_vacant = stays_so laws port IsVacant (laws.vacant_on port)
+  stays_vacant = stays_so laws port IsVacant (laws.vacant_port_stays_vacant port)
 
   -- once the link was reset, the first FIS of a disk that shows has come
   reset_fresh : (accesses : List Access) (old new : Device) → ResetsLink port accesses → DoesAll accesses old new → NoDiskComes port.0 old new → HasFirstFisIfShown (new.port port.0)
   reset_fresh accesses old new r does none =
-      let rest = r.between ++ (Writing (Px port Sctl) r.ending ∷ r.later) in
-      let x = split r.before (Writing (Px port Sctl) r.sending ∷ rest) old new (subst (λ (list : List Access). DoesAll list old new) r.accesses_are_split does) in
+      let rest = r.between ++ (Writing (Px port Sctl) r.end_of_comreset_value ∷ r.later) in
+      let x = split r.before (Writing (Px port Sctl) r.comreset_value ∷ rest) old new (subst (λ (list : List Access). DoesAll list old new) r.accesses_are_split does) in
       let sent = x.2.0 in
-      let early = laws.looks.tape.grows_more old x.0 sent (grows_over laws r.before old x.0 x.1) (laws.looks.tape.access_grows (Writing (Px port Sctl) r.sending) x.0 sent x.2.1) in
-      stays_so laws port HasFirstFisIfShown (laws.fresh_on port) rest sent new x.2.2 (none_parts old sent new early (grows_over laws rest sent new x.2.2) none).1 (laws.fresh_reset port r.sending x.0 sent r.sends_comreset x.2.1)
+      let early = laws.port_event_laws.tape.growth_is_transitive old x.0 sent (grows_over laws r.before old x.0 x.1) (laws.port_event_laws.tape.access_grows (Writing (Px port Sctl) r.comreset_value) x.0 sent x.2.1) in
+      stays_so laws port HasFirstFisIfShown (laws.first_fis_stays port) rest sent new x.2.2 (none_parts old sent new early (grows_over laws rest sent new x.2.2) none).1 (laws.comreset_has_first_fis_if_shown port r.comreset_value x.0 sent r.sends_comreset x.2.1)
 
-  fresh_or_gone : (p : DevicePort) → HasFirstFisIfShown p → HasSignatureOrNoDevice p
+  fresh_or_gone : (p : DevicePort) → HasFirstFisIfShown p → HasFirstFisOrNoDevice p
   fresh_or_gone p fresh = ⊎_elim (λ (shows : p.ssts_det ≡ 3). inl (fresh shows)) (λ (gone : p.ssts_det ≢ 3). inr gone) (cases_eq p.ssts_det 3)
 
-  pub reset_fresh_or_gone : (accesses : List Access) (old new : Device) → ResetsLink port accesses → DoesAll accesses old new → NoDiskComes port.0 old new → HasSignatureOrNoDevice (new.port port.0)
+  pub reset_fresh_or_gone : (accesses : List Access) (old new : Device) → ResetsLink port accesses → DoesAll accesses old new → NoDiskComes port.0 old new → HasFirstFisOrNoDevice (new.port port.0)
   reset_fresh_or_gone accesses old new r does none = fresh_or_gone (new.port port.0) (reset_fresh accesses old new r does none)
 
   -- a device that showed, and shows no more, has gone
   pub has_gone : (v : ℕ) (old new : Device) → IsOn old → Reads (Px port Ssts) v old new → (old.port port.0).ssts_det ≡ 3 → (new.port port.0).ssts_det ≢ 3 → TapeGainsEntry (IsPlugEvent port.0) old new
   has_gone v old new on reads shows gone =
-      let grows = laws.looks.tape.access_grows (Reading (Px port Ssts) v) old new reads in
+      let grows = laws.port_event_laws.tape.access_grows (Reading (Px port Ssts) v) old new reads in
       ⊎_elim
       (λ found. record { new_entries = grows.0; tape_is = grows.1; entry = found.0; entry_is_new = found.1; entry_is_of_kind = found.2 })
       (λ none. absurd (gone (⊎_elim (λ same. same.det ∙ shows) (λ up. up.det)
-      (laws.looks.access_link port (Reading (Px port Ssts) v) old new on.no_reset tt reads (record { new_entries = grows.0; tape_is = grows.1; no_such_entry = none })))))
+      (laws.port_event_laws.access_leaves_link port (Reading (Px port Ssts) v) old new on.no_reset tt reads (record { new_entries = grows.0; tape_is = grows.1; no_such_entry = none })))))
       (one_or_none (IsPlugEvent port.0) (is_plugging port.0) grows.0)
 
 -- ---- a look
@@ -87,20 +87,20 @@ record KeepsChange (port : ℕ) (old new : Device) : Type 0 where
 
 module _ (laws : PrerequisiteLaws) (port : Port) where
   change_over : (accesses : List Access) (old new : Device) → IsOn old → All (IsEventAccess port) accesses → DoesAll accesses old new → KeepsChange port.0 old new
-  change_over [] old new on all is = subst (KeepsChange port.0 old) (sym is) (record { disk = λ clear. (clear, laws.looks.tape.plugs_none port.0 old); came = λ came. came })
+  change_over [] old new on all is = subst (KeepsChange port.0 old) (sym is) (record { disk = λ clear. (clear, laws.port_event_laws.tape.no_plug_events_reflexive port.0 old); came = λ came. came })
   change_over (access ∷ accesses) old new on all (mid, does, rest) =
       let its = All-head (IsEventAccess port) access accesses all in
       let spares = looking_spares port port Serr (λ e. let z : Is ≡ Serr = e in cc) access its in
-      let later = change_over accesses mid new (on_one laws port access old mid on (laws.of_host port access (laws.looking.looking_of port access its)) does) (All-tail (IsEventAccess port) access accesses all) rest in
+      let later = change_over accesses mid new (on_one laws port access old mid on (laws.one_port_spares_ghc port access (laws.look_laws.look_access_is_of_port port access its)) does) (All-tail (IsEventAccess port) access accesses all) rest in
       record {
         disk = λ clear.
             let l = later.disk clear in
-            let e = laws.port_error.shows_disk port access old mid on.no_reset spares does l.0 in (e.0, laws.looks.tape.plugs_more port.0 old mid new e.1 l.1);
-        came = λ came. later.came ((laws.looks.access_news port access old mid on.no_reset spares does).1 came);
+            let e = laws.port_error.serr_n_shows_plug_events port access old mid on.no_reset spares does l.0 in (e.0, laws.port_event_laws.tape.no_plug_events_transitive port.0 old mid new e.1 l.1);
+        came = λ came. later.came ((laws.port_event_laws.access_keeps_serr_changes port access old mid on.no_reset spares does).1 came);
       }
 
   -- what the link told before, and what came, is shown still
-  pub change_shown : (accesses : List Access) (old new : Device) → IsOn old → All (IsEventAccess port) accesses → DoesAll accesses old new → ShowsChange (old.port port.0) ⊎ TapeGainsEntry (IsPlugEvent port.0) old new → ShowsChange (new.port port.0)
+  pub change_shown : (accesses : List Access) (old new : Device) → IsOn old → All (IsEventAccess port) accesses → DoesAll accesses old new → ShowsLinkChange (old.port port.0) ⊎ TapeGainsEntry (IsPlugEvent port.0) old new → ShowsLinkChange (new.port port.0)
   change_shown accesses old new on all does port_error = ⊎_elim
       (λ (is : (new.port port.0).serr_n ≡ true). inl is)
       (λ (clear : (new.port port.0).serr_n ≡ false).
@@ -134,7 +134,7 @@ module _ (wanted : Wanted) (port : Port) (old new : Device) where
 
   -- A boot that finds a disk leaves nothing of before in PxSERR; and where no disk came, no link is due.
   pub record LeavesClear : Type 0 where
-    pub clear : HasClearErrors port.0 old new
+    pub clear : SerrShowsOnlyNewPlugs port.0 old new
     pub undue : NoDiskComes port.0 old new → (new.port port.0).link_due ≡ false
 
   early_clear : (state : Shown) → state ≢ Absent → EndsBeforeStart port state old new → LeavesClear
@@ -161,5 +161,5 @@ module _ (wanted : Wanted) (port : Port) (old new : Device) where
 
   pub boot_clear : (found : ProbeResult) → BootsStopped wanted port found old new → ShowsDisk (state_of found) → LeavesClear
   boot_clear Unserved none shows = absurd none
-  boot_clear (Ready info) e shows = record { clear = e.shows_only_new_errors.errors_are_clear; undue = λ none. (e.shows_only_new_errors.faults_are_on_record e.ready.runs.st).no_link_is_due }
+  boot_clear (Ready info) e shows = record { clear = e.shows_only_new_errors.errors_are_clear; undue = λ none. (e.shows_only_new_errors.faults_are_on_record e.ready.runs.st_is_set).no_link_is_due }
   boot_clear (Unready state) e shows = unready_clear state e shows

@@ -10,14 +10,14 @@ use Rattle.ata_types.specs.declared.request.Outcome.TheVariants.{Unplugged}
 use Rattle.ata_types.specs.declared.limits.TheConstants.{MOST_READINGS}
 use Rattle.adapter.specs.Access.{Access}
 use Rattle.adapter.specs.declared.access.DeviceStep.{DeviceStep}
-use Rattle.refinement.specs.Driver.{IsBacked}
+use Rattle.refinement.specs.Driver.{TapeBacksSteps}
 use Rattle.refinement.specs.Errors.{NoDiskComes}
-use Rattle.block_machine.specs.Events.{AllByDevice, AllEnabled, ShownDiskWasInOrCame, Served, Service, RepliesMatch, AnswersAllUnplugged}
+use Rattle.block_machine.specs.Events.{AllByDevice, AllEnabled, ShownDiskWasInOrCame, Replied, Service, RepliesMatch, UnpluggedEmptiesPort}
 use Rattle.block_machine.specs.Expected.{after}
 use Rattle.block_machine.specs.Ports.{Evidence, IsStoppedOrStuck, IsServiced, SamePort}
 use Rattle.block_machine.specs.State.{Machine}
 use Rattle.block_machine.specs.Steps.{Step}
-use Rattle.driver_history.specs.EvidenceHandling.{OnlyFailedPortsRequeue}
+use Rattle.driver_history.specs.EvidenceHandling.{OnlyFailedPortsRequeueOrFault}
 use Rattle.driver_history.specs.Evidence.{IsEvidencedOf}
 use Rattle.driver_history.specs.Histories.{LosesNoPortError, RunsWellAnew, ProbesDisk}
 use Rattle.driver_history.specs.PortInvariants.{HasNoUnanswered}
@@ -29,7 +29,7 @@ use Rattle.request_queue.specs.BookEntries.{BookEntry}
 use Rattle.request_queue.specs.BookRelation.{EntryRelation}
 use Rattle.server_history.specs.Prerequisites.{PrerequisiteLaws}
 use Rattle.server_history.specs.ServerState.{InCallInvariant, MachineRelation, SettledInvariant, ServerState, mode_in, ports_of, state_of}
-use Rattle.server_history.specs.Turns.{InService, InProbe, IsOfTurn, SimulatesTurn, NamesOnly, MeetsTurnDuty, TurnCorresponds, joint_state_of, abstract_state_of}
+use Rattle.server_history.specs.Turns.{ServingReady, InProbe, IsTurnOrDeviceStep, SimulatesTurn, PortListsNameOnly, MeetsTurnDuty, TurnCorresponds, joint_state_of, abstract_state_of}
 use Rattle.server_history.proofs.state.AnswerSteps.{no_answer}
 use Rattle.server_history.proofs.state.DueRequests.{none_issued}
 use Rattle.server_history.proofs.state.DeviceSteps.{devices_belong, devices_last, devices_lawful}
@@ -41,7 +41,7 @@ use Rattle.server_history.proofs.state.PairedLists.{at_right}
 
 -- the evidence of such a turn: whether the port was stopped, and whether it got stuck
 abbrev pub evidence_tried : List Port → List Port → Evidence
-evidence_tried stopped stuck = record { faults = []; lost = []; link_changed = []; failed = []; fatal = []; stopped = stopped; stuck = stuck }
+evidence_tried stopped stuck = record { faults = []; lost = []; link_changed = []; showing_error = []; showing_fatal_error = []; stopped = stopped; stuck = stuck }
 
 -- What is told of the port then, by accesses that led to this device.
 pub record TellsTried (port : Port) (stopped stuck : List Port) (accesses : List Access) (old new : ServerState) : Type 0 where
@@ -58,7 +58,7 @@ pub record AddsTried (port : Port) (old new : ServerState) (m : Machine) : Type 
   pub only : AllByDevice steps
   pub may : AllEnabled m steps
   pub stands : MachineRelation new (after m steps)
-  pub backed : IsBacked old.device new.device m steps
+  pub backed : TapeBacksSteps old.device new.device m steps
   pub disk : SamePort (ports_of old) (ports_of new) port ⊎ ShownDiskWasInOrCame (abstract_state_of old m) steps (abstract_state_of new (after m steps)) port
 
 -- What the turn has done of the port besides: where no disk of it came, what is there was tried, after which no link is due; it was booted anew, unless it is what it was, or dead or
@@ -72,15 +72,15 @@ pub record DoesTried (port : Port) (evidence : Evidence) (accesses : List Access
 
 -- ---- what such a turn makes of a machine
 
-module _ (laws : PrerequisiteLaws) (port : Port) (old : ServerState) (k : InCallInvariant old) (unready : state_of (probe_result_of old.ports port.0) ≢ ReadyState) where
+module _ (laws : PrerequisiteLaws) (port : Port) (old : ServerState) (k : InCallInvariant old) (unready : state_of (probe_result_of old.probe_results port.0) ≢ ReadyState) where
   -- none of its requests is unanswered
-  pub none_held : (e : BookEntry) → Contains old.book e → e.entry.port ≢ port
-  none_held e here same = unready (ap (λ (q : Port). state_of (probe_result_of old.ports q.0)) (sym same) ∙ of_ready old k e here)
+  pub none_held : (e : BookEntry) → Contains old.book e → e.request.port ≢ port
+  none_held e here same = unready (ap (λ (q : Port). state_of (probe_result_of old.probe_results q.0)) (sym same) ∙ of_ready old k e here)
 
   module _ (m : Machine) (is : MachineRelation old m) (steps : List Step) (only : AllByDevice steps) where
     pub none_waits : HasNoUnanswered (after m steps) port
     none_waits e here same =
-        let b = laws.basic.found_before m.book (after m steps).book e (laws.basic.spares m steps only).book here in
+        let b = laws.steps_and_accesses.found_before m.book (after m steps).book e (laws.steps_and_accesses.device_steps_spare_book m steps only).book here in
         let h = at_right EntryRelation old.book m.book is.book b.0 b.1 in
         none_held h.0 h.1 (sym h.2.port ∙ ap (λ r. r.port) (sym b.2.request) ∙ same)
 
@@ -89,26 +89,26 @@ module _ (laws : PrerequisiteLaws) (port : Port) (old : ServerState) (k : InCall
     abbrev its : Evidence
     its = evidence_tried stopped stuck
 
-    names : NamesOnly port its
+    names : PortListsNameOnly port its
     names = record {
       lost = All-nil (λ q. q ≡ port);
       link_changed = All-nil (λ q. q ≡ port);
-      failed = All-nil (λ q. q ≡ port);
-      fatal = All-nil (λ q. q ≡ port);
+      showing_error = All-nil (λ q. q ≡ port);
+      showing_fatal_error = All-nil (λ q. q ≡ port);
       stopped = t.its_stopped;
       stuck = t.its_stuck;
     }
 
-    evidenced : (m : Machine) → IsEvidencedOf Service (Served []) accesses (joint_state_of old m) (ports_of new) new.device its port
+    evidenced : (m : Machine) → IsEvidencedOf Service (Replied []) accesses (joint_state_of old m) (ports_of new) new.device its port
     evidenced m = record {
-      lost = λ here. absurd (nowhere port here);
+      lost_only = λ here. absurd (nowhere port here);
       link_changed_all = λ ready. absurd (unready ready);
       link_changed_only = λ here. absurd (nowhere port here);
-      failed_all = λ ready. absurd (unready ready);
-      failed_only = λ here. absurd (nowhere port here);
-      fatal_all = λ ready. absurd (unready ready);
-      fatal_only = λ here. absurd (nowhere port here);
-      stopped_all = t.engine;
+      showing_error_all = λ ready. absurd (unready ready);
+      showing_error_only = λ here. absurd (nowhere port here);
+      showing_fatal_error_all = λ ready. absurd (unready ready);
+      showing_fatal_error_only = λ here. absurd (nowhere port here);
+      engine_is_left_or_stopped = t.engine;
       stopped_only = λ here. inl (t.stops here);
       stuck_only = λ here. inl (t.sticks here);
     }
@@ -119,14 +119,14 @@ module _ (laws : PrerequisiteLaws) (port : Port) (old : ServerState) (k : InCall
         answers = [];
         is_permutation = subst (IsPermutation []) (sym (devices_answers x.steps x.only)) (IsPermutation-refl []);
         ordered = λ i j d lt below. absurd (omega (arith, lt, below));
-        replies_are = refl;
+        replies_are_of_answers = refl;
       }
 
-      unplugs : AnswersAllUnplugged x.steps (after m x.steps)
+      unplugs : UnpluggedEmptiesPort x.steps (after m x.steps)
       unplugs = record { none_is_left = λ e other here. absurd (no_answer x.steps x.only e Unplugged here); none_is_told_dead = λ e other here. absurd (no_answer x.steps x.only e Unplugged here) }
 
       owes : MeetsTurnDuty InProbe port accesses old new m its x.steps
-      owes = (devices_all (OnlyFailedPortsRequeue its) (device_grounded its) tt x.steps x.only, refl, refl)
+      owes = (devices_all (OnlyFailedPortsRequeueOrFault its) (device_grounded its) tt x.steps x.only, refl, refl)
 
       ties : TurnCorresponds InProbe port [] accesses old new m its x.steps
       ties = (
@@ -149,20 +149,20 @@ module _ (laws : PrerequisiteLaws) (port : Port) (old : ServerState) (k : InCall
         steps_are_enabled = x.may;
         machine_relation = x.stands;
         is_backed = x.backed;
-        steps_are_of_turn = devices_all (All (IsOfTurn port)) (λ step base device rest. All-cons (IsOfTurn port) step base (device_own port step device) rest) (All-nil (IsOfTurn port)) x.steps x.only;
+        steps_are_of_turn = devices_all (All (IsTurnOrDeviceStep port)) (λ step base device rest. All-cons (IsTurnOrDeviceStep port) step base (device_own port step device) rest) (All-nil (IsTurnOrDeviceStep port)) x.steps x.only;
         steps_are_of_call = devices_belong {D = DeviceStep} Service (ports_of new) x.steps x.only;
         issues_are_last = devices_last x.steps x.only;
         names_only_port = names;
         answers_are_lawful = devices_lawful (abstract_state_of old m) its (ports_of new) x.steps x.only;
         meets_turn_duty = owes;
         replies_match = tells;
-        answers_all_unplugged = unplugs;
+        unplugged_empties_port = unplugs;
         port_is_serviced = t.becomes;
         shown_disk_was_in_or_came = x.disk;
-        disk_is_kept_or_none_waits = inr (none_waits m is x.steps x.only);
+        same_disk_or_none_unanswered = inr (none_waits m is x.steps x.only);
         issues_due = λ _. none_issued new (after m x.steps) x.stands x.steps (λ id. devices_issue_none id x.steps x.only) (mode_in new port) port (settled.nothing_is_due port);
         is_evidenced = evidenced m;
-        faults = λ told here. absurd (nowhere told here);
+        faults_are_told = λ told here. absurd (nowhere told here);
         turn_corresponds = ties;
-        finds_done = λ other. absurd (let z : InProbe ≡ InService = other in cc);
+        finds_done = λ other. absurd (let z : InProbe ≡ ServingReady = other in cc);
       }

@@ -12,32 +12,32 @@ use Rattle.adapter.specs.Access.{Access, DoesAll}
 use Rattle.adapter.specs.Access.Access.{Reading}
 use Rattle.adapter.specs.Device.{Device}
 use Rattle.adapter.specs.Rules.{IsOn}
-use Rattle.refinement.specs.Fragments.{AnyUse, IsSimulated, IsDrivenBy}
-use Rattle.refinement.specs.Errors.{NoDiskComes, IsFatalOf}
+use Rattle.refinement.specs.Fragments.{AnySlotStates, IsSimulated, IsDrivenBy}
+use Rattle.refinement.specs.Errors.{NoDiskComes, IsFatalErrorOf}
 use Rattle.refinement.specs.PortFacts.{IsFaultOf, RunsWell}
-use Rattle.refinement.specs.Links.{NoPlugEvents}
+use Rattle.refinement.specs.PreservedParts.{NoPlugEvents}
 use Rattle.refinement.specs.Vacant.{IsVacant}
 use Rattle.block_machine.specs.Events.{ShowsDisk}
 use Rattle.block_machine.specs.Ports.{Evidence, IsStoppedOrStuck}
 use Rattle.block_machine.specs.State.{Machine}
-use Rattle.driver_history.specs.Histories.{HasUnservedDisk, HasSignatureOrNoDevice, ProbesDisk}
+use Rattle.driver_history.specs.Histories.{IsForeignOrUnfit, HasFirstFisOrNoDevice, ProbesDisk}
 use Rattle.driver_history.specs.AccessTrace.{ResetsLink}
 use Rattle.driver_history.specs.PortTurn.{EndsNoLinkDue}
 use Rattle.error_recovery.specs.Evidence.{GainsSinceStart, HidesNoTrouble}
 use Rattle.error_recovery.specs.declared.Next.{Next}
 use Rattle.error_recovery.specs.declared.Next.TheVariants as next
 use Rattle.host_boot.specs.Reboots.{RebootsPort}
-use Rattle.host_boot.specs.TakeOver.{FoundBadDisk, probe_result_of, wanted_of}
+use Rattle.host_boot.specs.TakeOver.{FoundUnusableDevice, probe_result_of, wanted_of}
 use Rattle.host_boot.specs.declared.Booted.{Booted}
 use Rattle.host_boot.specs.declared.ProbeResult.{ProbeResult}
 use Rattle.host_boot.specs.declared.ProbeResult.TheVariants.{Ready, Unready}
 use Rattle.identify.specs.declared.DiskInfo.{DiskInfo}
 use Rattle.port_control.specs.declared.Stopped.{Stopped}
-use Rattle.port_control.specs.DeviceChecks.{FindsChange, FindsDevice}
+use Rattle.port_control.specs.DeviceChecks.{ChecksForChange, ChecksForDevice}
 use Rattle.port_control.specs.PortEvents.{IsEventAccess}
 use Rattle.server_history.specs.Prerequisites.{PrerequisiteLaws}
 use Rattle.server_history.specs.ServerState.{InCallInvariant, ServerState, is_served, ports_of, state_of}
-use Rattle.server_history.specs.Probing.{BootsUnreadyPort, IsProbedAnew, IsLookedAt}
+use Rattle.server_history.specs.Probing.{BootsUnreadyPort, IsFoundAfterStop, FindsReasonToBoot}
 use Rattle.server_history.specs.Turns.{joint_state_of}
 use Rattle.port_control.specs.declared.events.PortError.TheVariants.{TimedOut, LinkChanged}
 use Rattle.server_history.proofs.unready_turn.AnotherBoot.{interrupted, never_ready, stuck_if, whole, accesses, afterwards, does, found_then, then_is, until, until_of}
@@ -55,55 +55,55 @@ use Rattle.server_history.proofs.unready_turn.UnfitPort.{found_bad}
 
 -- ---- a port in which a disk was found that isn't served
 
-module _ (s : ServerState) (port : Port) (state : PortState) (k : InCallInvariant s) (is : probe_result_of s.ports port.0 ≡ Unready state) where
-  bad_found : HasUnservedDisk (ports_of s) port → FoundBadDisk (state_of (probe_result_of s.ports port.0))
-  bad_found bad = found_bad (state_of (probe_result_of s.ports port.0)) bad
+module _ (s : ServerState) (port : Port) (state : PortState) (k : InCallInvariant s) (is : probe_result_of s.probe_results port.0 ≡ Unready state) where
+  bad_found : IsForeignOrUnfit (ports_of s) port → FoundUnusableDevice (state_of (probe_result_of s.probe_results port.0))
+  bad_found bad = found_bad (state_of (probe_result_of s.probe_results port.0)) bad
 
   -- no disk is in then, where none shows
-  vacant : HasUnservedDisk (ports_of s) port → (s.device.port port.0).ssts_det ≢ 3 → IsVacant (s.device.port port.0)
+  vacant : IsForeignOrUnfit (ports_of s) port → (s.device.port port.0).ssts_det ≢ 3 → IsVacant (s.device.port port.0)
   vacant bad out = ⊎_elim
       (λ (shows : (s.device.port port.0).ssts_det ≡ 3). absurd (out shows))
-      (λ (gone : (s.device.port port.0).present ≡ false). record { no_disk_is_in = gone; det = out })
-      ((k.port_invariant port.0 (k.served_ports_exist port.0 (ap is_served is)).0).shows_disk_if_in (bad_found bad))
+      (λ (gone : (s.device.port port.0).present ≡ false). record { no_disk_is_in = gone; det_is_not_3 = out })
+      ((k.port_invariant port.0 (k.served_ports_exist port.0 (ap is_served is)).0).bad_disk_is_shown_if_in (bad_found bad))
 
   -- ---- it was looked at, and that is all
 
-  module _ (laws : PrerequisiteLaws) (seen : Device) (result : Bool) (l : IsLookedAt state port result s.device seen) (none : result ≡ false) where
-    device_found : (ports_of s).state port ≡ Absent → FindsDevice port result s.device seen
-    device_found absent = subst (λ (its : PortState). IsLookedAt its port result s.device seen) (sym (ap state_of is) ∙ absent) l
+  module _ (laws : PrerequisiteLaws) (seen : Device) (result : Bool) (l : FindsReasonToBoot state port result s.device seen) (none : result ≡ false) where
+    device_found : (ports_of s).state port ≡ Absent → ChecksForDevice port result s.device seen
+    device_found absent = subst (λ (its : PortState). FindsReasonToBoot its port result s.device seen) (sym (ap state_of is) ∙ absent) l
 
-    change_found : HasUnservedDisk (ports_of s) port → FindsChange port result s.device seen
+    change_found : IsForeignOrUnfit (ports_of s) port → ChecksForChange port result s.device seen
     change_found bad = ⊎_elim
-        (λ foreign. subst (λ (its : PortState). IsLookedAt its port result s.device seen) (sym (ap state_of is) ∙ foreign) l)
-        (λ unfit. subst (λ (its : PortState). IsLookedAt its port result s.device seen) (sym (ap state_of is) ∙ unfit.1) l)
+        (λ foreign. subst (λ (its : PortState). FindsReasonToBoot its port result s.device seen) (sym (ap state_of is) ∙ foreign) l)
+        (λ unfit. subst (λ (its : PortState). FindsReasonToBoot its port result s.device seen) (sym (ap state_of is) ∙ unfit.1) l)
         bad
 
     -- an absent one shows none then
     gone : (ports_of s).state port ≡ Absent → (seen.port port.0).ssts_det ≢ 3
     gone absent shows =
         let f = device_found absent in
-        unequal (f.status % 16) 3 (sym f.result_is ∙ none) (laws.looks.shown_after port Ssts f.status s.device seen k.adapter_is_on.no_reset f.reads ∙ shows)
+        unequal (f.status % 16) 3 (sym f.result_is ∙ none) (laws.port_event_laws.shown_after port Ssts f.status s.device seen k.adapter_is_on.no_reset f.reads ∙ shows)
 
-    still_there : NoDiskComes port.0 s.device seen → HasUnservedDisk (ports_of s) port → (s.device.port port.0).ssts_det ≢ 3 → ⊥
+    still_there : NoDiskComes port.0 s.device seen → IsForeignOrUnfit (ports_of s) port → (s.device.port port.0).ssts_det ≢ 3 → ⊥
     still_there comes bad out =
         let f = change_found bad in
-        let on = laws.looks.access_on (Reading (Px port Is) f.causes) s.device f.seen k.adapter_is_on (λ v e. absurd cc) f.reads in
+        let on = laws.port_event_laws.access_keeps_on (Reading (Px port Is) f.causes) s.device f.after_is_read k.adapter_is_on (λ v e. absurd cc) f.reads in
         let link = eqb-true (f.status % 16) 3 (unchanged (bit f.causes 6) (bit f.causes 22) (f.status % 16 == 3) (sym f.result_is ∙ none)).1 in
-        (stays_vacant laws port (Reading (Px port Is) f.causes ∷ Reading (Px port Ssts) f.status ∷ []) s.device seen (f.seen, f.reads, (seen, f.reads_status, refl)) comes (vacant bad out)).det
-        (sym (laws.looks.shown_after port Ssts f.status f.seen seen on.no_reset f.reads_status) ∙ link)
+        (stays_vacant laws port (Reading (Px port Is) f.causes ∷ Reading (Px port Ssts) f.status ∷ []) s.device seen (f.after_is_read, f.reads, (seen, f.reads_status, refl)) comes (vacant bad out)).det_is_not_3
+        (sym (laws.port_event_laws.shown_after port Ssts f.status f.after_is_read seen on.no_reset f.reads_status) ∙ link)
 
-    still_same : HasUnservedDisk (ports_of s) port → (s.device.port port.0).serr_x ≡ true → ⊥
+    still_same : IsForeignOrUnfit (ports_of s) port → (s.device.port port.0).serr_x ≡ true → ⊥
     still_same bad came =
         let f = change_found bad in
-        let told = (laws.looks.changes_told port f.causes s.device f.seen k.adapter_is_on.no_reset f.reads).1 came in
+        let told = (laws.port_event_laws.serr_changes_are_read port f.causes s.device f.after_is_read k.adapter_is_on.no_reset f.reads).1 came in
         false≢true (sym (unchanged (bit f.causes 6) (bit f.causes 22) (f.status % 16 == 3) (sym f.result_is ∙ none)).0 ∙ told)
 
     rests_tries : NoDiskComes port.0 s.device seen → (made : List Access) (m : Machine) → ProbesDisk made (joint_state_of s m) (ports_of s) seen port
     rests_tries comes made m = record {
-      shown = λ absent shows. let f = device_found absent in inr (inr (has_gone laws port f.status s.device seen k.adapter_is_on f.reads shows (gone absent)));
-      absent = λ absent shows fresh. inr (inr (gone absent));
-      missing = λ bad out. absurd (still_there comes bad out);
-      changed = λ bad came. absurd (still_same bad came);
+      absent_with_device_is_booted = λ absent shows. let f = device_found absent in inr (inr (has_gone laws port f.status s.device seen k.adapter_is_on f.reads shows (gone absent)));
+      absent_gets_first_fis = λ absent shows fresh. inr (inr (gone absent));
+      missing_disk_makes_absent = λ bad out. absurd (still_there comes bad out);
+      changed_disk_is_booted = λ bad came. absurd (still_same bad came);
     }
 
     -- but for that, the port is what it was
@@ -113,22 +113,22 @@ module _ (s : ServerState) (port : Port) (state : PortState) (k : InCallInvarian
       linked = λ m bad came comes. absurd (still_same bad came);
       boots = inl (refl, refl, refl, refl, refl, refl);
       port_error = λ m. record {
-        errors = λ ready. absurd (never ready);
-        changes = λ _ port_error. inr (change_shown laws port made s.device seen k.adapter_is_on only did port_error);
-        fault = λ ready. absurd (never ready);
-        fatal = λ ready. absurd (never ready);
-        disk = λ ready. absurd (never ready);
+        errors_are_handled_or_shown = λ ready. absurd (never ready);
+        changes_are_handled_or_shown = λ _ port_error. inr (change_shown laws port made s.device seen k.adapter_is_on only did port_error);
+        new_fault_is_shown = λ ready. absurd (never ready);
+        new_fatal_is_shown = λ ready. absurd (never ready);
+        new_plug_event_is_shown = λ ready. absurd (never ready);
       };
       well = λ m _ ready. absurd (never ready);
     }
       where
-        never : state_of (probe_result_of s.ports port.0) ≢ ReadyState
+        never : state_of (probe_result_of s.probe_results port.0) ≢ ReadyState
         never ready = never_ready s port state k is (sym (ap state_of is) ∙ ready)
 
 -- ---- it was booted
 
-module _ (laws : PrerequisiteLaws) (s new : ServerState) (seen : Device) (port : Port) (state : PortState) (k : InCallInvariant s) (is : probe_result_of s.ports port.0 ≡ Unready state) (lives : state ≢ DeadState)
-    (looks : IsSimulated (IsEventAccess port) AnyUse s.device seen) (b : BootsUnreadyPort port (record s { device = seen }) new) where
+module _ (laws : PrerequisiteLaws) (s new : ServerState) (seen : Device) (port : Port) (state : PortState) (k : InCallInvariant s) (is : probe_result_of s.probe_results port.0 ≡ Unready state) (lives : state ≢ DeadState)
+    (looks : IsSimulated (IsEventAccess port) AnySlotStates s.device seen) (b : BootsUnreadyPort port (record s { device = seen }) new) where
   abbrev then : ServerState
   then = then_is laws s new seen port state k is lives looks b
 
@@ -136,7 +136,7 @@ module _ (laws : PrerequisiteLaws) (s new : ServerState) (seen : Device) (port :
   made = accesses laws s new seen port state k is lives looks b
 
   abbrev first : List Access
-  first = looks.is_driven.accesses ++ b.probes_anew.gives_up.handling.accesses
+  first = looks.is_driven.accesses ++ b.probes_anew.stops_for_reset.handling.accesses
 
   -- what its boot found, where it isn't dead
   record FindsSome : Type 0 where
@@ -155,7 +155,7 @@ module _ (laws : PrerequisiteLaws) (s new : ServerState) (seen : Device) (port :
       reset : (token : Stopped) → b.probes_anew.result.next ≡ next.Restart token → b.found ≢ Unready DeadState → ResetsLink port made
       reset token so alive =
           let late = afterwards laws s new seen port state k is lives looks b in
-          resets_since port looks.is_driven.accesses (b.probes_anew.gives_up.handling.accesses ++ late.driven.accesses) (resets_since port b.probes_anew.gives_up.handling.accesses late.driven.accesses
+          resets_since port looks.is_driven.accesses (b.probes_anew.stops_for_reset.handling.accesses ++ late.driven.accesses) (resets_since port b.probes_anew.stops_for_reset.handling.accesses late.driven.accesses
           (⊎_elim (λ lost. let z : TimedOut ≡ LinkChanged = lost.0 in absurd cc) (λ resets. resets) (late.resets token so alive)))
 
       some : (token : Stopped) → b.probes_anew.result.next ≡ next.Restart token → (booted : Booted) → booted.found ≡ b.found → RebootsPort (wanted_of s.wanted port.0) port booted b.probes_anew.stopped new.device → ((ports_of then).state port ≡ DeadState) ⊎ FindsSome
@@ -179,30 +179,30 @@ module _ (laws : PrerequisiteLaws) (s new : ServerState) (seen : Device) (port :
           more)
           (shows_or_not b.found)
 
-      by : (n : Next) → b.probes_anew.result.next ≡ n → IsProbedAnew (wanted_of s.wanted port.0) port n b.probes_anew.stopped new.device b.found → ((ports_of then).state port ≡ DeadState) ⊎ FindsSome
+      by : (n : Next) → b.probes_anew.result.next ≡ n → IsFoundAfterStop (wanted_of s.wanted port.0) port n b.probes_anew.stopped new.device b.found → ((ports_of then).state port ≡ DeadState) ⊎ FindsSome
       by (next.Running token) so none = absurd none
       by (next.Restart token) so (booted, same, boots) = some token so booted same boots
       by next.Dead so (dead, same) = inl (state_then ∙ ap state_of dead)
 
   -- the moment at which it saw a device
-  sees : (f : FindsSome) → ShowsDisk (state_of f.booted.found) → SeesOver port s.device f.boots.surveyed new.device
+  sees : (f : FindsSome) → ShowsDisk (state_of f.booted.found) → SeesOver port s.device f.boots.device_after_survey new.device
   sees f shows = booted_sees laws port (wanted_of s.wanted port.0) f.booted first s.device b.probes_anew.stopped new.device k.adapter_is_on (until laws s new seen port state k is lives looks b) (until_of laws s new seen port state k is lives looks b) f.boots shows
 
   -- where no disk was in, it saw none
-  saw_none : NoDiskComes port.0 s.device new.device → (f : FindsSome) → HasUnservedDisk (ports_of s) port → (s.device.port port.0).ssts_det ≢ 3 → (ports_of then).state port ≡ Absent
+  saw_none : NoDiskComes port.0 s.device new.device → (f : FindsSome) → IsForeignOrUnfit (ports_of s) port → (s.device.port port.0).ssts_det ≢ 3 → (ports_of then).state port ≡ Absent
   saw_none comes f bad out = ⊎_elim
       (λ shows.
       let x = sees f shows in
       let early = grows_over laws x.accesses s.device x.seen x.does in
-      absurd ((stays_vacant laws port x.accesses s.device x.seen x.does (none_parts laws port s.device x.seen new.device early x.later comes).0 (vacant s port state k is bad out)).det x.shows))
+      absurd ((stays_vacant laws port x.accesses s.device x.seen x.does (none_parts laws port s.device x.seen new.device early x.later comes).0 (vacant s port state k is bad out)).det_is_not_3 x.shows))
       (λ absent. absent)
       f.shows
 
-  clear : (f : FindsSome) → ShowsDisk (state_of f.booted.found) → LeavesClear (wanted_of s.wanted port.0) port f.boots.surveyed new.device
-  clear f shows = boot_clear (wanted_of s.wanted port.0) port f.boots.surveyed new.device f.booted.found f.boots.boots shows
+  clear : (f : FindsSome) → ShowsDisk (state_of f.booted.found) → LeavesClear (wanted_of s.wanted port.0) port f.boots.device_after_survey new.device
+  clear f shows = boot_clear (wanted_of s.wanted port.0) port f.boots.device_after_survey new.device f.booted.found f.boots.boots shows
 
-  since : (f : FindsSome) → ShowsDisk (state_of f.booted.found) → NoDiskComes port.0 s.device new.device → NoDiskComes port.0 f.boots.surveyed new.device
-  since f shows comes = let x = sees f shows in (none_parts laws port s.device f.boots.surveyed new.device x.before x.since comes).1
+  since : (f : FindsSome) → ShowsDisk (state_of f.booted.found) → NoDiskComes port.0 s.device new.device → NoDiskComes port.0 f.boots.device_after_survey new.device
+  since f shows comes = let x = sees f shows in (none_parts laws port s.device f.boots.device_after_survey new.device x.before x.since comes).1
 
   boot_linked : (m : Machine) → EndsNoLinkDue port (joint_state_of s m) (ports_of then) new.device
   boot_linked m bad came comes = ⊎_elim
@@ -212,24 +212,24 @@ module _ (laws : PrerequisiteLaws) (s new : ServerState) (seen : Device) (port :
 
   boot_tries : (m : Machine) → NoDiskComes port.0 s.device new.device → ProbesDisk made (joint_state_of s m) (ports_of then) new.device port
   boot_tries m comes = record {
-    shown = λ absent shows. ⊎_elim (λ dead. inl dead) (λ f. inr (inl f.resets)) finds;
-    absent = λ absent shows fresh. ⊎_elim (λ dead. inl dead) (λ f. inr (fresh_then f)) finds;
-    missing = λ bad out. ⊎_elim (λ dead. inr dead) (λ f. inl (saw_none comes f bad out)) finds;
-    changed = λ bad came. ⊎_elim (λ dead. inr (inl dead)) (λ f. ⊎_elim (λ shows. inr (inr (f.resets, (clear f shows).clear.serr_x (since f shows comes), fresh_then f))) (λ absent. inl absent) f.shows) finds;
+    absent_with_device_is_booted = λ absent shows. ⊎_elim (λ dead. inl dead) (λ f. inr (inl f.resets)) finds;
+    absent_gets_first_fis = λ absent shows fresh. ⊎_elim (λ dead. inl dead) (λ f. inr (fresh_then f)) finds;
+    missing_disk_makes_absent = λ bad out. ⊎_elim (λ dead. inr dead) (λ f. inl (saw_none comes f bad out)) finds;
+    changed_disk_is_booted = λ bad came. ⊎_elim (λ dead. inr (inl dead)) (λ f. ⊎_elim (λ shows. inr (inr (f.resets, (clear f shows).clear.serr_x_is_clear (since f shows comes), fresh_then f))) (λ absent. inl absent) f.shows) finds;
   }
     where
-      fresh_then : (f : FindsSome) → HasSignatureOrNoDevice (new.device.port port.0)
+      fresh_then : (f : FindsSome) → HasFirstFisOrNoDevice (new.device.port port.0)
       fresh_then f = reset_fresh_or_gone laws port made s.device new.device f.resets (does laws s new seen port state k is lives looks b) comes
 
   -- ---- trouble
 
   stopped_on : IsOn b.probes_anew.stopped
-  stopped_on = laws.of_on port s.device b.probes_anew.stopped k.adapter_is_on (record { accesses = first; all_are_done = until laws s new seen port state k is lives looks b; accesses_are_of_kind = until_of laws s new seen port state k is lives looks b })
+  stopped_on = laws.one_port_keeps_adapter_on port s.device b.probes_anew.stopped k.adapter_is_on (record { accesses = first; all_are_done = until laws s new seen port state k is lives looks b; accesses_are_of_kind = until_of laws s new seen port state k is lives looks b })
 
   -- it is ready then
   module _ (f : FindsSome) (ready : (ports_of then).state port ≡ ReadyState) where
     found : (info : DiskInfo) × (f.booted.found ≡ Ready info)
-    found = boot_ready (wanted_of s.wanted port.0) port f.boots.surveyed new.device f.booted.found f.boots.boots (ap state_of f.same ∙ sym state_then ∙ ready)
+    found = boot_ready (wanted_of s.wanted port.0) port f.boots.device_after_survey new.device f.booted.found f.boots.boots (ap state_of f.same ∙ sym state_then ∙ ready)
 
     nothing : IsDrivenBy (LeavesTrouble port) new.device new.device
     nothing = by_none (LeavesTrouble port) new.device
@@ -240,7 +240,7 @@ module _ (laws : PrerequisiteLaws) (s new : ServerState) (seen : Device) (port :
     shows_trouble : HidesNoTrouble port.0 s.device new.device
     shows_trouble = boot_shows laws port low_port (wanted_of s.wanted port.0) found.0 f.booted s.device b.probes_anew.stopped new.device new.device stopped_on f.boots found.1 nothing
 
-    runs_well : NoPlugEvents port.0 s.device new.device → (GainsSinceStart (IsFaultOf port.0) port.0 s.device new.device → ⊥) → (GainsSinceStart (IsFatalOf port.0) port.0 s.device new.device → ⊥) → RunsWell (new.device.port port.0)
+    runs_well : NoPlugEvents port.0 s.device new.device → (GainsSinceStart (IsFaultOf port.0) port.0 s.device new.device → ⊥) → (GainsSinceStart (IsFatalErrorOf port.0) port.0 s.device new.device → ⊥) → RunsWell (new.device.port port.0)
     runs_well = booted_well laws port low_port (wanted_of s.wanted port.0) found.0 f.booted s.device b.probes_anew.stopped new.device new.device stopped_on f.boots found.1 nothing (whole laws s new seen port state k is lives looks b).1.on
         (grows_over laws first s.device b.probes_anew.stopped (until laws s new seen port state k is lives looks b))
 
@@ -257,11 +257,11 @@ module _ (laws : PrerequisiteLaws) (s new : ServerState) (seen : Device) (port :
     linked = boot_linked;
     boots = inr (⊎_elim (λ dead. inl dead) (λ f. inr (inr f.resets)) finds);
     port_error = λ m. record {
-      errors = λ _ _. inl stops;
-      changes = λ _ _. inl stops;
-      fault = λ ready. (shows_trouble (some_found ready) ready).fault_is_shown;
-      fatal = λ ready. (shows_trouble (some_found ready) ready).fatal_is_shown;
-      disk = λ ready. (shows_trouble (some_found ready) ready).plug_is_shown;
+      errors_are_handled_or_shown = λ _ _. inl stops;
+      changes_are_handled_or_shown = λ _ _. inl stops;
+      new_fault_is_shown = λ ready. (shows_trouble (some_found ready) ready).fault_is_shown;
+      new_fatal_is_shown = λ ready. (shows_trouble (some_found ready) ready).fatal_is_shown;
+      new_plug_event_is_shown = λ ready. (shows_trouble (some_found ready) ready).plug_is_shown;
     };
     well = λ m _ ready none unfailed unbroken _. runs_well (some_found ready) ready none unfailed unbroken;
   }

@@ -2,14 +2,14 @@
 use Rattle.std.proofs.Common.{ℕ, true, ◌≡◌, ◌≢◌, ◌⊎◌, refl, sym, ◌∙◌, subst, inl, inr}
 use Rattle.ata_types.specs.declared.PortState.{PortState}
 use Rattle.ata_types.specs.declared.PortState.TheVariants.{Absent, Dead, Foreign, Ready as ReadyState, Unfit}
-use Rattle.host_boot.specs.TakeOver.{FoundBadDisk}
+use Rattle.host_boot.specs.TakeOver.{FoundUnusableDevice}
 use Rattle.host_boot.specs.declared.ProbeResult.{ProbeResult}
 use Rattle.host_boot.specs.declared.ProbeResult.TheVariants.{Ready, Unready, Unserved}
 use Rattle.server_history.specs.ServerState.{is_served, state_of}
 
-pub found_bad : (state : PortState) → (state ≡ Foreign) ⊎ ((cause : ℕ) × (state ≡ Unfit cause)) → FoundBadDisk state
-found_bad state (inl foreign) = subst FoundBadDisk (sym foreign) tt
-found_bad state (inr (cause, unfit)) = subst FoundBadDisk (sym unfit) tt
+pub found_bad : (state : PortState) → (state ≡ Foreign) ⊎ ((cause : ℕ) × (state ≡ Unfit cause)) → FoundUnusableDevice state
+found_bad state (inl foreign) = subst FoundUnusableDevice (sym foreign) tt
+found_bad state (inr (cause, unfit)) = subst FoundUnusableDevice (sym unfit) tt
 
 -- a port with a disk that isn't served is served, and isn't dead
 pub bad_tends : (found : ProbeResult) → (state_of found ≡ Foreign) ⊎ ((cause : ℕ) × (state_of found ≡ Unfit cause)) → (is_served found ≡ true) × (state_of found ≢ Dead)

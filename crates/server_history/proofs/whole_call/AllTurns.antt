@@ -18,10 +18,10 @@ use Rattle.adapter.specs.Rules.{IsOn}
 use Rattle.refinement.specs.Relation.{port_at}
 use Rattle.refinement.specs.Fragments.{IsDrivenBy, SparesOtherPorts}
 use Rattle.refinement.specs.Slots.{IsMove, ServesRequest}
-use Rattle.block_machine.specs.Events.{AbstractCall, AllAnswersLawful, AreStepsOfCall, IsIssuedIn, AbstractState, Served, ShowsDisk, WasIssued, changes_disk, issues_id}
+use Rattle.block_machine.specs.Events.{AbstractCall, AnswersAndWaitsLawful, AreStepsOfCall, IsIssuedIn, AbstractState, Replied, ShowsDisk, IsIssuedInBook, changes_disk, issues_id}
 use Rattle.block_machine.specs.Histories.{JointState, IsReachable}
 use Rattle.block_machine.specs.Expected.{after}
-use Rattle.block_machine.specs.Ports.{Evidence, RequestFault, Ports, SameDisk, SamePort}
+use Rattle.block_machine.specs.Ports.{Evidence, RequestFault, Ports, SameSerialAndSize, SamePort}
 use Rattle.block_machine.specs.DueRequests.{requests_of_port}
 use Rattle.block_machine.specs.State.{Pending, Machine, unanswered}
 use Rattle.block_machine.specs.declared.due.Unanswered.{Unanswered}
@@ -30,13 +30,13 @@ use Rattle.server_history.proofs.state.ListMembers.{map_in}
 use Rattle.host_boot.specs.TakeOver.{probe_result_of}
 use Rattle.host_boot.specs.declared.ProbeResult.{ProbeResult}
 use Rattle.host_boot.specs.declared.ProbeResult.TheVariants.{Unserved, Ready, Unready}
-use Rattle.driver_history.specs.Evidence.{FailsPlain, FailsQueued, IsEvidencedOf}
+use Rattle.driver_history.specs.Evidence.{BacksPlainFault, BacksQueuedFault, IsEvidencedOf}
 use Rattle.error_recovery.specs.Evidence.{BringsLog, HasFailed}
 use Rattle.driver_history.specs.Histories.{IssuesDue}
 use Rattle.driver_history.specs.PortTurn.{HasTurnIn, IsOfOtherPort, EvidenceAgreesOn}
-use Rattle.driver_history.specs.AccessTrace.{IsAccessForPorts}
+use Rattle.driver_history.specs.AccessTrace.{UsesPortsAndNotGhc}
 use Rattle.server_history.specs.Prerequisites.{PrerequisiteLaws}
-use Rattle.server_history.specs.Turns.{IsPortTurn, IsFaultOfCommand, IsStepOf, SimulatesTurn, EachPortTakesTurn, TellsFault, abstract_state_of}
+use Rattle.server_history.specs.Turns.{IsPortTurn, IsFaultOfCommand, IsByDeviceOrOnSuchPort, SimulatesTurn, EachPortTakesTurn, IsFaultOfUsedSlot, abstract_state_of}
 use Rattle.server_history.specs.ServerState.{ServerState, InCallInvariant, MachineRelation, SettledInvariant, is_served, mode_in, ports_of, state_of, used_for}
 use Rattle.server_history.proofs.state.DueRequests.{same_book}
 use Rattle.server_history.proofs.any_turn.TurnSteps.{answered_own, issued_before, stood}
@@ -64,10 +64,10 @@ module _ (plan : Plan) (laws : PrerequisiteLaws) (s : ServerState) (start : Sett
   began = record { device = s.device; abstract = old }
 
   abbrev state_at : ℕ → PortState
-  state_at q = state_of (probe_result_of s.ports q)
+  state_at q = state_of (probe_result_of s.probe_results q)
 
   abbrev HadTurn : ℕ → Port → Type 0
-  HadTurn n q = (q.0 < n) × TakesTurn plan (probe_result_of s.ports q.0)
+  HadTurn n q = (q.0 < n) × TakesTurn plan (probe_result_of s.probe_results q.0)
 
   abbrev IsDone : ServerState → List Access → List Step → Evidence → Port → Type 0
   IsDone c accesses steps evidence q = progress.IsDone plan laws s start old reached at ports_are c accesses steps evidence q
@@ -80,14 +80,14 @@ module _ (plan : Plan) (laws : PrerequisiteLaws) (s : ServerState) (start : Sett
 
   -- ---- a turn
 
-  module _ (n : ℕ) (c mid : ServerState) (before its : List Reply) (low : n < 4) (takes : TakesTurn plan (probe_result_of s.ports n)) (p : Progress n c before) (next : SettledInvariant mid) (part : IsPortTurn (turn_at plan (probe_result_of s.ports n) n) (port_at n) its c mid) where
+  module _ (n : ℕ) (c mid : ServerState) (before its : List Reply) (low : n < 4) (takes : TakesTurn plan (probe_result_of s.probe_results n)) (p : Progress n c before) (next : SettledInvariant mid) (part : IsPortTurn (turn_at plan (probe_result_of s.probe_results n) n) (port_at n) its c mid) where
     abbrev m : Machine
     m = after old.machine p.steps
 
     m_reached : IsReachable m
-    m_reached = laws.basic.reached old.machine p.steps reached p.turns.may
+    m_reached = laws.steps_and_accesses.reachable_stays_reachable old.machine p.steps reached p.turns.may
 
-    abbrev x : SimulatesTurn (turn_at plan (probe_result_of s.ports n) n) (port_at n) its part.accesses c mid m
+    abbrev x : SimulatesTurn (turn_at plan (probe_result_of s.probe_results n) n) (port_at n) its part.accesses c mid m
     x = part.simulates_turn m m_reached p.machine_relation
 
     abbrev all : List Step
@@ -103,23 +103,23 @@ module _ (plan : Plan) (laws : PrerequisiteLaws) (s : ServerState) (start : Sett
     not_yet served = let lt = served.0 in omega (arith, lt)
 
     -- it has its turn now
-    takes_at : (q : ℕ) → q ≡ n → TakesTurn plan (probe_result_of s.ports q)
-    takes_at q is = subst (λ (k : ℕ). TakesTurn plan (probe_result_of s.ports k)) (sym is) takes
+    takes_at : (q : ℕ) → q ≡ n → TakesTurn plan (probe_result_of s.probe_results q)
+    takes_at q is = subst (λ (k : ℕ). TakesTurn plan (probe_result_of s.probe_results k)) (sym is) takes
 
     silent_or_ready : (state_at n ≡ ReadyState) ⊎ ((x.evidence.faults ≡ []) × (x.evidence.lost ≡ []))
-    silent_or_ready = ready_or_silent plan (probe_result_of s.ports n) n (port_at n) part.accesses c mid m x.evidence x.steps takes x.meets_turn_duty
+    silent_or_ready = ready_or_silent plan (probe_result_of s.probe_results n) n (port_at n) part.accesses c mid m x.evidence x.steps takes x.meets_turn_duty
 
     its_driven : IsDrivenBy (SparesOtherPorts (port_at n)) c.device mid.device
     its_driven = record { accesses = part.accesses; all_are_done = part.accesses_are_done; accesses_are_of_kind = part.accesses_are_of_port }
 
     on_mid : IsOn mid.device
-    on_mid = laws.of_on (port_at n) c.device mid.device p.adapter_is_on its_driven
+    on_mid = laws.one_port_keeps_adapter_on (port_at n) c.device mid.device p.adapter_is_on its_driven
 
     its_turns : AreTurns old (n + 1) all
     its_turns = turn_on laws old reached n p.steps x.steps p.turns x.steps_are_of_turn x.steps_are_enabled x.issues_are_last
 
     whole_is : after old.machine all ≡ after m x.steps
-    whole_is = laws.basic.joined old.machine x.steps p.steps
+    whole_is = laws.steps_and_accesses.after_joins old.machine x.steps p.steps
 
     -- a port that had its turn is another
     earlier : (q : Port) → q.0 < n → q ≢ port_at n
@@ -133,7 +133,7 @@ module _ (plan : Plan) (laws : PrerequisiteLaws) (s : ServerState) (start : Sett
     same_n = subst (λ (ports : Ports). SamePort ports (ports_of c) (port_at n)) (sym ports_are) (same_at s c (port_at n) (p.found (port_at n) not_yet) (p.remembered (port_at n) not_yet) (p.modes (port_at n) not_yet))
 
     same_other : (q : Port) → q.0 ≢ n → SamePort (ports_of c) (ports_of mid) q
-    same_other q ne = same_at c mid q (part.leaves_others.found q.0 ne) (part.leaves_others.remembered q.0 ne) (part.leaves_others.modes q.0 ne)
+    same_other q ne = same_at c mid q (part.leaves_others.other_probe_results_are_same q.0 ne) (part.leaves_others.other_remembered_are_same q.0 ne) (part.leaves_others.other_modes_are_same q.0 ne)
 
     same_self : (ports : Ports) (q : Port) → SamePort ports ports q
     same_self ports q = (refl, refl, refl, refl, refl, refl)
@@ -180,7 +180,7 @@ module _ (plan : Plan) (laws : PrerequisiteLaws) (s : ServerState) (start : Sett
     }
 
     undue : (q : Port) → state_at q.0 ≡ ReadyState → (s.device.port q.0).link_due ≡ false
-    undue q is = ((kept.port_invariant q.0 (ready_found s q.0 kept is).0).engine_runs is).faults_are_recorded.no_link_is_due
+    undue q is = ((kept.port_invariant q.0 (ready_found s q.0 kept is).0).ready_engine_runs is).faults_are_recorded.no_link_is_due
 
     -- where a link may be due nothing is asked of a port
     state_was : (q : Port) → old.ports.state q ≡ state_at q.0
@@ -201,33 +201,33 @@ module _ (plan : Plan) (laws : PrerequisiteLaws) (s : ServerState) (start : Sett
         (λ silent. subst (All (λ (r : Port). state_at r.0 ≡ ReadyState)) (sym silent.1) (All-nil (λ (r : Port). state_at r.0 ≡ ReadyState)))
         silent_or_ready
 
-    its_evidenced : IsEvidencedOf (asks_for plan) (Served its) part.accesses (record { device = c.device; abstract = abstract_state_of c m }) (ports_of mid) mid.device x.evidence (port_at n)
-    its_evidenced = subst (λ (ask : AbstractCall DeviceStep). IsEvidencedOf ask (Served its) part.accesses (record { device = c.device; abstract = abstract_state_of c m }) (ports_of mid) mid.device x.evidence (port_at n)) (asks_so plan (probe_result_of s.ports n) n) x.is_evidenced
+    its_evidenced : IsEvidencedOf (asks_for plan) (Replied its) part.accesses (record { device = c.device; abstract = abstract_state_of c m }) (ports_of mid) mid.device x.evidence (port_at n)
+    its_evidenced = subst (λ (ask : AbstractCall DeviceStep). IsEvidencedOf ask (Replied its) part.accesses (record { device = c.device; abstract = abstract_state_of c m }) (ports_of mid) mid.device x.evidence (port_at n)) (asks_so plan (probe_result_of s.probe_results n) n) x.is_evidenced
 
-    evidenced_n : IsEvidencedOf (asks_for plan) (Served []) accesses began (ports_of mid) mid.device evidence (port_at n)
+    evidenced_n : IsEvidencedOf (asks_for plan) (Replied []) accesses began (ports_of mid) mid.device evidence (port_at n)
     unfolding turn_of
-    evidenced_n = subst (λ (list : List Access). IsEvidencedOf (asks_for plan) (Served []) (p.accesses ++ list) began (ports_of mid) mid.device evidence (port_at n)) (append-nil part.accesses)
-        (laws.calls.evidence (port_at n) began (abstract_state_of c m) (ports_of mid) (ports_of mid) mid.device x.evidence evidence (asks_for plan) (Served []) kept.adapter_is_on undue_n turn_of on_mid same_n
+    evidenced_n = subst (λ (list : List Access). IsEvidencedOf (asks_for plan) (Replied []) (p.accesses ++ list) began (ports_of mid) mid.device evidence (port_at n)) (append-nil part.accesses)
+        (laws.calls.turn_evidence_is_calls (port_at n) began (abstract_state_of c m) (ports_of mid) (ports_of mid) mid.device x.evidence evidence (asks_for plan) (Replied []) kept.adapter_is_on undue_n turn_of on_mid same_n
         (same_self (ports_of mid) (port_at n)) alike_n
         (any_said plan its [] part.accesses (record { device = c.device; abstract = abstract_state_of c m }) (ports_of mid) mid.device x.evidence (port_at n) its_evidenced))
 
-    evidenced_before : (q : Port) → q.0 < n → IsEvidencedOf (asks_for plan) (Served []) p.accesses began (ports_of c) c.device p.evidence q
-        → IsEvidencedOf (asks_for plan) (Served []) accesses began (ports_of mid) mid.device evidence q
+    evidenced_before : (q : Port) → q.0 < n → IsEvidencedOf (asks_for plan) (Replied []) p.accesses began (ports_of c) c.device p.evidence q
+        → IsEvidencedOf (asks_for plan) (Replied []) accesses began (ports_of mid) mid.device evidence q
     unfolding turn_before
     evidenced_before q lt v =
-        laws.calls.evidence q began old (ports_of c) (ports_of mid) mid.device p.evidence evidence (asks_for plan) (Served []) kept.adapter_is_on (undue_before q) (turn_before q (λ same. omega (arith, lt, same))) p.adapter_is_on
+        laws.calls.turn_evidence_is_calls q began old (ports_of c) (ports_of mid) mid.device p.evidence evidence (asks_for plan) (Replied []) kept.adapter_is_on (undue_before q) (turn_before q (λ same. omega (arith, lt, same))) p.adapter_is_on
         (same_self old.ports q) (same_other q (λ same. omega (arith, lt, same))) (alike_other q (earlier q lt)) v
 
     -- ---- requests
 
     one_of : (e y : Pending) → Contains m.book e → Contains m.book y → e.request.id.0 ≡ y.request.id.0 → e ≡ y
-    one_of e y here there same = laws.basic.one m m_reached e y here there same
+    one_of e y here there same = laws.steps_and_accesses.an_id_is_one_request m m_reached e y here there same
 
     one_old : (e y : Pending) → Contains old.machine.book e → Contains old.machine.book y → e.request.id.0 ≡ y.request.id.0 → e ≡ y
-    one_old e y here there same = laws.basic.one old.machine reached e y here there same
+    one_old e y here there same = laws.steps_and_accesses.an_id_is_one_request old.machine reached e y here there same
 
     -- a request of the port that was issued when the turn began was so when the call began
-    was_issued : (id : RequestId) → (o : Pending) → Contains m.book o → o.request.id.0 ≡ id.0 → o.request.port ≡ port_at n → WasIssued m id → WasIssued old.machine id
+    was_issued : (id : RequestId) → (o : Pending) → Contains m.book o → o.request.id.0 ≡ id.0 → o.request.port ≡ port_at n → IsIssuedInBook m id → IsIssuedInBook old.machine id
     was_issued id o here same own w =
         let is : w.pending ≡ o = one_of w.pending o w.is_in_book here (ap (λ (i : RequestId). i.0) w.id_is ∙ sym same) in
         let port : w.pending.request.port.0 ≡ n = ap (λ (y : Pending). y.request.port.0) is ∙ ap (λ (q : Port). q.0) own in
@@ -260,22 +260,22 @@ module _ (plan : Plan) (laws : PrerequisiteLaws) (s : ServerState) (start : Sett
         (λ (none : list_any (issues_id u.id) x.steps ≡ false). sym (any_append (issues_id u.id) x.steps p.steps ∙ ap (λ (b : Bool). b || list_any (issues_id u.id) p.steps) none))
         (cases_Bool (list_any (issues_id u.id) x.steps))
 
-    due_now : (q : Port) → state_of (probe_result_of mid.ports q.0) ≡ ReadyState → IssuesDue (mode_in mid q) all (after old.machine all) q
+    due_now : (q : Port) → state_of (probe_result_of mid.probe_results q.0) ≡ ReadyState → IssuesDue (mode_in mid q) all (after old.machine all) q
     due_now q is = subst (λ (k : Machine). IssuesDue (mode_in mid q) all k q) (sym whole_is) (⊎_elim
         (λ (same : q.0 ≡ n).
         subst (λ (r : Port). IssuesDue (mode_in mid r) all (after m x.steps) r) (ap port_at (sym same))
-        (dues_carried laws (mode_in mid (port_at n)) x.steps all (after m x.steps) (after m x.steps) (port_at n) refl own_alike (x.issues_due (ap (λ (k : ℕ). state_of (probe_result_of mid.ports k)) (sym same) ∙ is))))
+        (dues_carried laws (mode_in mid (port_at n)) x.steps all (after m x.steps) (after m x.steps) (port_at n) refl own_alike (x.issues_due (ap (λ (k : ℕ). state_of (probe_result_of mid.probe_results k)) (sym same) ∙ is))))
         (λ (ne : q.0 ≢ n).
         let apart : q ≢ port_at n = λ same. ne (ap (λ (r : Port). r.0) same) in
         dues_carried laws (mode_in mid q) p.steps all m (after m x.steps) q
-        (ap (requests_of_port q) (same_book c.book m.book p.machine_relation.book) ∙ sym (part.leaves_others.book q apart) ∙ ap (requests_of_port q) (sym (same_book mid.book (after m x.steps).book x.machine_relation.book)))
+        (ap (requests_of_port q) (same_book c.book m.book p.machine_relation.book) ∙ sym (part.leaves_others.others_requests_are_same q apart) ∙ ap (requests_of_port q) (sym (same_book mid.book (after m x.steps).book x.machine_relation.book)))
         (other_alike q apart)
-        (subst (λ (mode : QueueMode). IssuesDue mode p.steps m q) (sym (part.leaves_others.modes q.0 ne)) (p.due q (ap state_of (sym (part.leaves_others.found q.0 ne)) ∙ is))))
+        (subst (λ (mode : QueueMode). IssuesDue mode p.steps m q) (sym (part.leaves_others.other_modes_are_same q.0 ne)) (p.due q (ap state_of (sym (part.leaves_others.other_probe_results_are_same q.0 ne)) ∙ is))))
         (cases_eq q.0 n))
 
     -- ---- what is lawful
 
-    joined_lawful : AllAnswersLawful old evidence (ports_of mid) all
+    joined_lawful : AnswersAndWaitsLawful old evidence (ports_of mid) all
     joined_lawful = lawful_join old evidence (ports_of mid) x.steps p.steps
         (lawful_on (abstract_state_of c m) old x.evidence evidence (ports_of mid) (ports_of mid) x.steps
         (λ e o here.
@@ -287,8 +287,8 @@ module _ (plan : Plan) (laws : PrerequisiteLaws) (s : ServerState) (start : Sett
         (λ there. Contains-append_right p.evidence.lost x.evidence.lost e.request.port there)
         (λ there. Contains-append_right p.evidence.stopped x.evidence.stopped e.request.port there)
         refl
-        (λ d. subst (λ (q : Port). SameDisk old.ports (ports_of mid) q) (sym own)
-        (same_disk old.ports (ports_of c) (ports_of mid) (ports_of mid) (port_at n) same_n (same_self (ports_of mid) (port_at n)) (subst (λ (q : Port). SameDisk (ports_of c) (ports_of mid) q) own d))))
+        (λ d. subst (λ (q : Port). SameSerialAndSize old.ports (ports_of mid) q) (sym own)
+        (same_disk old.ports (ports_of c) (ports_of mid) (ports_of mid) (port_at n) same_n (same_self (ports_of mid) (port_at n)) (subst (λ (q : Port). SameSerialAndSize (ports_of c) (ports_of mid) q) own d))))
         (λ e here there. Contains-append_right p.evidence.stopped x.evidence.stopped e.request.port there)
         x.answers_are_lawful)
         (lawful_on old old p.evidence evidence (ports_of c) (ports_of mid) p.steps
@@ -325,7 +325,7 @@ module _ (plan : Plan) (laws : PrerequisiteLaws) (s : ServerState) (start : Sett
       keeps = ⊎_elim
           (λ d. inl (same_disk old.ports (ports_of c) (ports_of mid) (ports_of mid) (port_at n) same_n (same_self (ports_of mid) (port_at n)) d))
           (λ none. inr (λ e here. none e (subst (λ (k : Machine). Contains k.book e) whole_is here)))
-          x.disk_is_kept_or_none_waits;
+          x.same_disk_or_none_unanswered;
       evidenced = evidenced_n;
       ties = ties_turned plan laws s start old reached at ports_are n c mid before its takes p next part m_reached on_mid evidence alike_n same_n;
     }
@@ -359,7 +359,7 @@ module _ (plan : Plan) (laws : PrerequisiteLaws) (s : ServerState) (start : Sett
     -- ---- faults
 
     -- the request of a slot that was used when the turn began was in the slot when the call began
-    module _ (ready : state_at n ≡ ReadyState) (told : RequestFault) (f : TellsFault (port_at n) part.accesses c mid told) where
+    module _ (ready : state_at n ≡ ReadyState) (told : RequestFault) (f : IsFaultOfUsedSlot (port_at n) part.accesses c mid told) where
       used_s : used_for s.slots n f.slot ≡ Some f.used
       used_s = ap (λ (slots : PortSlots). use_at slots f.slot) (sym (p.slots (port_at n) not_yet)) ∙ f.slot_use_is
 
@@ -373,17 +373,17 @@ module _ (plan : Plan) (laws : PrerequisiteLaws) (s : ServerState) (start : Sett
       kind_is : is_queued by.serves.command.operation ≡ f.used.queued
       kind_is =
           let h = kept.slots_store_commands n f.slot f.used used_s in
-          let same = laws.slots.one_said s.device.memory (s.device.port n).bases.clb f.slot by.serves.command h.command by.serves.places h.places by.serves.slot_decodes_to.decodes_to h.stored.slot_decodes_to.decodes_to in
-          ap (λ (y : Meaning). is_queued y.operation) same.0 ∙ h.kind
+          let same = laws.slots.decoding_is_unique s.device.memory (s.device.port n).bases.clb f.slot by.serves.command h.command by.serves.places h.places by.serves.slot_decodes_to.decodes_to h.stored.slot_decodes_to.decodes_to in
+          ap (λ (y : Meaning). is_queued y.operation) same.0 ∙ h.is_queued_as_given
 
       -- what the turn had of a fault and of a page, the call had
       its_failed : (fault : tape_fault.Fault) → HasFailed (port_at n) part.accesses c.device mid.device fault → HasFailed (port_at n) accesses s.device mid.device fault
       unfolding turn_of
-      its_failed fault had = subst (λ (list : List Access). HasFailed (port_at n) (p.accesses ++ list) s.device mid.device fault) (append-nil part.accesses) (laws.calls.failed (port_at n) s.device mid.device fault kept.adapter_is_on turn_of had)
+      its_failed fault had = subst (λ (list : List Access). HasFailed (port_at n) (p.accesses ++ list) s.device mid.device fault) (append-nil part.accesses) (laws.calls.turn_failure_is_calls (port_at n) s.device mid.device fault kept.adapter_is_on turn_of had)
 
       its_page : (page : List ℕ) → BringsLog (port_at n) c.device mid.device page → BringsLog (port_at n) s.device mid.device page
       unfolding turn_of
-      its_page page brings = laws.calls.brings (port_at n) s.device mid.device page kept.adapter_is_on turn_of ([], sym (append-nil mid.device.tape), All-nil (λ e. IsMove n ReadLog e → ⊥)) brings
+      its_page page brings = laws.calls.turn_log_page_is_calls (port_at n) s.device mid.device page kept.adapter_is_on turn_of ([], sym (append-nil mid.device.tape), All-nil (λ e. IsMove n ReadLog e → ⊥)) brings
 
       -- an issued request of the port has a slot, and a plain one's is the only one
       alone : f.used.queued ≡ false → (other : Pending) → Contains old.machine.book other → other.request.port ≡ port_at n → other.issued ≡ true → other.request.id ≡ by.serves.pending.request.id
@@ -395,7 +395,7 @@ module _ (plan : Plan) (laws : PrerequisiteLaws) (s : ServerState) (start : Sett
           (λ (other_slot : h.slot ≢ 0). let z : None ≡ Some h.used = sym (a.1 h.slot other_slot) ∙ h.used_is in absurd cc)
           (cases_eq h.slot 0) ∙ sym by.serves.id_is
 
-      plainly : f.used.queued ≡ false → FailsPlain began mid.device accesses by.serves.pending f.slot told
+      plainly : f.used.queued ≡ false → BacksPlainFault began mid.device accesses by.serves.pending f.slot told
       plainly plain =
           let i : IsFaultOfCommand false (port_at n) part.accesses c.device mid.device f.slot told = subst (λ (b : Bool). IsFaultOfCommand b (port_at n) part.accesses c.device mid.device f.slot told) plain f.is_fault_of_command in
           record {
@@ -407,15 +407,15 @@ module _ (plan : Plan) (laws : PrerequisiteLaws) (s : ServerState) (start : Sett
             error_is = i.4;
           }
 
-      by_log : f.used.queued ≡ true → FailsQueued began mid.device accesses by.serves.pending f.slot told
+      by_log : f.used.queued ≡ true → BacksQueuedFault began mid.device accesses by.serves.pending f.slot told
       by_log queued =
           let i : IsFaultOfCommand true (port_at n) part.accesses c.device mid.device f.slot told = subst (λ (b : Bool). IsFaultOfCommand b (port_at n) part.accesses c.device mid.device f.slot told) queued f.is_fault_of_command in
           record {
             fault = i.0.0;
             failed = subst (λ (q : Port). HasFailed q accesses s.device mid.device i.0.0) (sym port_is) (its_failed i.0.0 i.0.1);
             page = i.1.0;
-            brings = subst (λ (q : Port). BringsLog q s.device mid.device i.1.0) (sym port_is) (its_page i.1.0 i.1.1);
-            tells = i.1.2;
+            brings_log = subst (λ (q : Port). BringsLog q s.device mid.device i.1.0) (sym port_is) (its_page i.1.0 i.1.1);
+            page_tells_error = i.1.2;
           }
 
       fault_n : HasTold (n + 1) mid accesses told
@@ -428,11 +428,11 @@ module _ (plan : Plan) (laws : PrerequisiteLaws) (s : ServerState) (start : Sett
           slot = f.slot;
           serves = subst (λ (q : ℕ). ServesRequest old.machine s.device.memory (s.device.port q) q f.slot told.id) (sym (ap (λ (q : Port). q.0) port_is))
               (subst (λ (id : RequestId). ServesRequest old.machine s.device.memory (s.device.port n) n f.slot id) f.id_is by.serves);
-          plain = λ plain. plainly (sym kind_is ∙ kind_same ∙ plain);
-          queued = λ queued. by_log (sym kind_is ∙ kind_same ∙ queued);
+          backs_plain_fault = λ plain. plainly (sym kind_is ∙ kind_same ∙ plain);
+          backs_queued_fault = λ queued. by_log (sym kind_is ∙ kind_same ∙ queued);
         };
         served = subst (HadTurn (n + 1)) (sym port_is) (omega arith, takes);
-        lives = λ queued dead. f.port_is_not_dead (sym kind_is ∙ kind_same ∙ queued) (ap (λ (q : Port). state_of (probe_result_of mid.ports q.0)) (sym port_is) ∙ dead);
+        lives = λ queued dead. f.port_is_not_dead (sym kind_is ∙ kind_same ∙ queued) (ap (λ (q : Port). state_of (probe_result_of mid.probe_results q.0)) (sym port_is) ∙ dead);
       }
         where
           kind_same : is_queued by.serves.command.operation ≡ is_queued (subst (λ (q : ℕ). ServesRequest old.machine s.device.memory (s.device.port q) q f.slot told.id) (sym (ap (λ (q : Port). q.0) port_is))
@@ -449,11 +449,11 @@ module _ (plan : Plan) (laws : PrerequisiteLaws) (s : ServerState) (start : Sett
 
       still_failed : (fault : tape_fault.Fault) → HasFailed its_port p.accesses s.device c.device fault → HasFailed its_port accesses s.device mid.device fault
       unfolding turn_before
-      still_failed fault had = laws.calls.failed its_port s.device mid.device fault kept.adapter_is_on (turn_before its_port not_n) had
+      still_failed fault had = laws.calls.turn_failure_is_calls its_port s.device mid.device fault kept.adapter_is_on (turn_before its_port not_n) had
 
-      still_brought : (page : List ℕ) → state_of (probe_result_of c.ports its_port.0) ≢ Dead → BringsLog its_port s.device c.device page → BringsLog its_port s.device mid.device page
+      still_brought : (page : List ℕ) → state_of (probe_result_of c.probe_results its_port.0) ≢ Dead → BringsLog its_port s.device c.device page → BringsLog its_port s.device mid.device page
       unfolding turn_before
-      still_brought page lives brings = laws.calls.brings its_port s.device mid.device page kept.adapter_is_on (turn_before its_port not_n) (part.others_get_no_log its_port.0 not_n lives) brings
+      still_brought page lives brings = laws.calls.turn_log_page_is_calls its_port s.device mid.device page kept.adapter_is_on (turn_before its_port not_n) (part.others_get_no_log its_port.0 not_n lives) brings
 
       fault_before : HasTold (n + 1) mid accesses told
       fault_before = record {
@@ -464,15 +464,15 @@ module _ (plan : Plan) (laws : PrerequisiteLaws) (s : ServerState) (start : Sett
           id_is = t.its.id_is;
           slot = t.its.slot;
           serves = t.its.serves;
-          plain = λ plain.
-              let y = t.its.plain plain in
+          backs_plain_fault = λ plain.
+              let y = t.its.backs_plain_fault plain in
               record { is_only_issued = y.is_only_issued; fault = y.fault; failed = still_failed y.fault y.failed; slot_is = y.slot_is; status_is = y.status_is; error_is = y.error_is };
-          queued = λ queued.
-              let y = t.its.queued queued in
-              record { fault = y.fault; failed = still_failed y.fault y.failed; page = y.page; brings = still_brought y.page (t.lives queued) y.brings; tells = y.tells };
+          backs_queued_fault = λ queued.
+              let y = t.its.backs_queued_fault queued in
+              record { fault = y.fault; failed = still_failed y.fault y.failed; page = y.page; brings_log = still_brought y.page (t.lives queued) y.brings_log; page_tells_error = y.page_tells_error };
         };
         served = let lt = t.served.0 in (omega (arith, lt), t.served.1);
-        lives = λ queued dead. t.lives queued (ap state_of (sym (part.leaves_others.found its_port.0 not_n)) ∙ dead);
+        lives = λ queued dead. t.lives queued (ap state_of (sym (part.leaves_others.other_probe_results_are_same its_port.0 not_n)) ∙ dead);
       }
 
     -- ---- the turn, with what was before
@@ -483,9 +483,9 @@ module _ (plan : Plan) (laws : PrerequisiteLaws) (s : ServerState) (start : Sett
       wanted = part.leaves_others.wanted ∙ p.wanted;
       adapter_is_on = on_mid;
       accesses = accesses;
-      turn_is_taken = laws.basic.does_append p.accesses part.accesses s.device c.device mid.device p.turn_is_taken part.accesses_are_done;
-      serving = All-append (IsAccessForPorts (Uses plan old.ports)) p.accesses part.accesses p.serving
-          (serving laws n plan (probe_result_of s.ports n) old.ports (ap (λ (ports : Ports). ports.served (port_at n)) ports_are) (state_was (port_at n)) takes its c mid m part x);
+      turn_is_taken = laws.steps_and_accesses.does_append p.accesses part.accesses s.device c.device mid.device p.turn_is_taken part.accesses_are_done;
+      serving = All-append (UsesPortsAndNotGhc (Uses plan old.ports)) p.accesses part.accesses p.serving
+          (serving laws n plan (probe_result_of s.probe_results n) old.ports (ap (λ (ports : Ports). ports.served (port_at n)) ports_are) (state_was (port_at n)) takes its c mid m part x);
       others = λ q none. All-append (IsOfOtherPort q) p.accesses part.accesses
           (p.others q (λ served. let lt = served.0 in none (omega (arith, lt), served.1)))
           (of_other q (λ is. none (omega (arith, is), takes_at q.0 is)));
@@ -493,7 +493,7 @@ module _ (plan : Plan) (laws : PrerequisiteLaws) (s : ServerState) (start : Sett
       turns = its_turns;
       machine_relation = subst (MachineRelation mid) (sym whole_is) x.machine_relation;
       backed = laws.backed_parts s.device c.device mid.device old.machine p.steps x.steps p.backed x.is_backed;
-      belong = belong_join (asks_for plan) (ports_of mid) x.steps p.steps (subst (λ (ask : AbstractCall DeviceStep). AreStepsOfCall ask (ports_of mid) x.steps) (asks_so plan (probe_result_of s.ports n) n) x.steps_are_of_call)
+      belong = belong_join (asks_for plan) (ports_of mid) x.steps p.steps (subst (λ (ask : AbstractCall DeviceStep). AreStepsOfCall ask (ports_of mid) x.steps) (asks_so plan (probe_result_of s.probe_results n) n) x.steps_are_of_call)
           (belong_on plan (λ q. q.0 < n) (ports_of c) (ports_of mid) (λ q lt. let same = same_other q (λ is. omega (arith, lt, is)) in (same.1, same.5)) p.steps p.turns.below p.belong);
       evidence = evidence;
       lost = All-append (λ (q : Port). state_at q.0 ≡ ReadyState) p.evidence.lost x.evidence.lost p.lost its_lost;
@@ -501,8 +501,8 @@ module _ (plan : Plan) (laws : PrerequisiteLaws) (s : ServerState) (start : Sett
           (names_more (HadTurn n) (HadTurn (n + 1)) (λ q served. let lt = served.0 in (omega (arith, lt), served.1)) p.evidence p.names)
           (names_more (λ q. q ≡ port_at n) (HadTurn (n + 1)) (λ q is. subst (HadTurn (n + 1)) (sym is) (omega arith, takes)) x.evidence mine);
       lawful = joined_lawful;
-      owes = owes_join plan (probe_result_of s.ports n) n (port_at n) part.accesses c mid m p.evidence x.evidence p.steps x.steps p.owes x.meets_turn_duty;
-      unplugs = unplugs_join laws old reached n p.steps x.steps p.turns x.steps_are_of_turn x.steps_are_enabled x.issues_are_last p.unplugs x.answers_all_unplugged;
+      owes = owes_join plan (probe_result_of s.probe_results n) n (port_at n) part.accesses c mid m p.evidence x.evidence p.steps x.steps p.owes x.meets_turn_duty;
+      unplugs = unplugs_join laws old reached n p.steps x.steps p.turns x.steps_are_of_turn x.steps_are_enabled x.issues_are_last p.unplugs x.unplugged_empties_port;
       answers = told_all.answers;
       permuted = told_all.permuted;
       book_is_in_order = told_all.ordered;
@@ -510,20 +510,20 @@ module _ (plan : Plan) (laws : PrerequisiteLaws) (s : ServerState) (start : Sett
       told = told_all.told;
       faults = λ told here. ⊎_elim
           (λ early. fault_before told (p.faults told early))
-          (λ late. ⊎_elim (λ is. fault_n is told (x.faults told late)) (λ silent. absurd (nowhere told (subst (λ (list : List RequestFault). Contains list told) silent.0 late))) silent_or_ready)
+          (λ late. ⊎_elim (λ is. fault_n is told (x.faults_are_told told late)) (λ silent. absurd (nowhere told (subst (λ (list : List RequestFault). Contains list told) silent.0 late))) silent_or_ready)
           (Contains-append_cases p.evidence.faults x.evidence.faults told here);
       done = λ q lt. ⊎_elim
           (λ (less : q.0 < n). done_before q less (p.done q less))
           (λ (most : n ≤ q.0). subst (λ (r : Port). IsDone mid accesses all evidence r) (ap port_at (let e : n ≡ q.0 = omega (arith, lt, most) in e)) done_n)
           (cases_lt q.0 n);
       due = due_now;
-      of = All-append (IsStepOf (HadTurn (n + 1))) x.steps p.steps
+      of = All-append (IsByDeviceOrOnSuchPort (HadTurn (n + 1))) x.steps p.steps
           (all_of_ports (λ q. q ≡ port_at n) (HadTurn (n + 1)) (λ q is. subst (HadTurn (n + 1)) (sym is) (omega arith, takes)) x.steps x.steps_are_of_turn)
           (all_of_ports (HadTurn n) (HadTurn (n + 1)) (λ q served. let lt = served.0 in (omega (arith, lt), served.1)) p.steps p.of);
-      found = λ q none. part.leaves_others.found q.0 (λ is. none (omega (arith, is), takes_at q.0 is)) ∙ p.found q (still_none q none);
-      remembered = λ q none. part.leaves_others.remembered q.0 (λ is. none (omega (arith, is), takes_at q.0 is)) ∙ p.remembered q (still_none q none);
-      modes = λ q none. part.leaves_others.modes q.0 (λ is. none (omega (arith, is), takes_at q.0 is)) ∙ p.modes q (still_none q none);
-      slots = λ q none. part.leaves_others.slots q.0 (λ is. none (omega (arith, is), takes_at q.0 is)) ∙ p.slots q (still_none q none);
+      found = λ q none. part.leaves_others.other_probe_results_are_same q.0 (λ is. none (omega (arith, is), takes_at q.0 is)) ∙ p.found q (still_none q none);
+      remembered = λ q none. part.leaves_others.other_remembered_are_same q.0 (λ is. none (omega (arith, is), takes_at q.0 is)) ∙ p.remembered q (still_none q none);
+      modes = λ q none. part.leaves_others.other_modes_are_same q.0 (λ is. none (omega (arith, is), takes_at q.0 is)) ∙ p.modes q (still_none q none);
+      slots = λ q none. part.leaves_others.other_slots_are_same q.0 (λ is. none (omega (arith, is), takes_at q.0 is)) ∙ p.slots q (still_none q none);
     }
       where
         still_none : (q : Port) → (HadTurn (n + 1) q → ⊥) → HadTurn n q → ⊥
@@ -534,29 +534,29 @@ module _ (plan : Plan) (laws : PrerequisiteLaws) (s : ServerState) (start : Sett
   -- how far all got, where no port from there on has a turn
   pub record Whole (new : ServerState) (replies : List Reply) : Type 0 where
     pub count : ℕ
-    pub steps_since : (port : ℕ) → count ≤ port → TakesTurn plan (probe_result_of s.ports port) → ⊥
+    pub steps_since : (port : ℕ) → count ≤ port → TakesTurn plan (probe_result_of s.probe_results port) → ⊥
     pub progress : Progress count new replies
 
-  on : (f : ProbeResult) (found : List ProbeResult) (n : ℕ) → ((i : ℕ) → probe_result_of s.ports (n + i) ≡ probe_result_of (f ∷ found) i) → (i : ℕ) → probe_result_of s.ports (n + 1 + i) ≡ probe_result_of found i
-  on f found n here i = ap (λ (k : ℕ). probe_result_of s.ports k) (omega arith) ∙ here (suc i)
+  on : (f : ProbeResult) (found : List ProbeResult) (n : ℕ) → ((i : ℕ) → probe_result_of s.probe_results (n + i) ≡ probe_result_of (f ∷ found) i) → (i : ℕ) → probe_result_of s.probe_results (n + 1 + i) ≡ probe_result_of found i
+  on f found n here i = ap (λ (k : ℕ). probe_result_of s.probe_results k) (omega arith) ∙ here (suc i)
 
-  head_is : (f : ProbeResult) (found : List ProbeResult) (n : ℕ) → ((i : ℕ) → probe_result_of s.ports (n + i) ≡ probe_result_of (f ∷ found) i) → probe_result_of s.ports n ≡ f
-  head_is f found n here = ap (λ (k : ℕ). probe_result_of s.ports k) (omega arith) ∙ here 0
+  head_is : (f : ProbeResult) (found : List ProbeResult) (n : ℕ) → ((i : ℕ) → probe_result_of s.probe_results (n + i) ≡ probe_result_of (f ∷ found) i) → probe_result_of s.probe_results n ≡ f
+  head_is f found n here = ap (λ (k : ℕ). probe_result_of s.probe_results k) (omega arith) ∙ here 0
 
   -- one that isn't served has none
-  unserved : (n : ℕ) → probe_result_of s.ports n ≡ Unserved → TakesTurn plan (probe_result_of s.ports n) → ⊥
+  unserved : (n : ℕ) → probe_result_of s.probe_results n ≡ Unserved → TakesTurn plan (probe_result_of s.probe_results n) → ⊥
   unserved n is takes = unserved_waits plan (subst (TakesTurn plan) is takes)
 
   -- each port's turn is a part of the call: a ready one's; and another one's, unless it is passed over
   module _ (Such : Port → List Reply → ServerState → ServerState → Type 0) (Other : Port → ServerState → ServerState → Type 0)
-      (is_part : (n : ℕ) (c mid : ServerState) (before its : List Reply) → state_at n ≡ ReadyState → Progress n c before → Such (port_at n) its c mid → IsPortTurn (turn_at plan (probe_result_of s.ports n) n) (port_at n) its c mid)
-      (is_other : (n : ℕ) (c mid : ServerState) (before : List Reply) (state : PortState) → probe_result_of s.ports n ≡ Unready state → Progress n c before → Other (port_at n) c mid
-      → ((TakesTurn plan (probe_result_of s.ports n) → ⊥) × (mid ≡ c)) ⊎ (TakesTurn plan (probe_result_of s.ports n) × IsPortTurn (turn_at plan (probe_result_of s.ports n) n) (port_at n) [] c mid)) where
-    pub go : (found : List ProbeResult) (n : ℕ) → ((i : ℕ) → probe_result_of s.ports (n + i) ≡ probe_result_of found i) → (c new : ServerState) (before replies : List Reply) → Progress n c before → EachPortTakesTurn Such Other n found replies c new
+      (is_part : (n : ℕ) (c mid : ServerState) (before its : List Reply) → state_at n ≡ ReadyState → Progress n c before → Such (port_at n) its c mid → IsPortTurn (turn_at plan (probe_result_of s.probe_results n) n) (port_at n) its c mid)
+      (is_other : (n : ℕ) (c mid : ServerState) (before : List Reply) (state : PortState) → probe_result_of s.probe_results n ≡ Unready state → Progress n c before → Other (port_at n) c mid
+      → ((TakesTurn plan (probe_result_of s.probe_results n) → ⊥) × (mid ≡ c)) ⊎ (TakesTurn plan (probe_result_of s.probe_results n) × IsPortTurn (turn_at plan (probe_result_of s.probe_results n) n) (port_at n) [] c mid)) where
+    pub go : (found : List ProbeResult) (n : ℕ) → ((i : ℕ) → probe_result_of s.probe_results (n + i) ≡ probe_result_of found i) → (c new : ServerState) (before replies : List Reply) → Progress n c before → EachPortTakesTurn Such Other n found replies c new
         → Whole new (before ++ replies)
     go [] n here c new before replies p turns = record {
       count = n;
-      steps_since = λ q most takes. unserved q (ap (λ (k : ℕ). probe_result_of s.ports k) (omega (arith, most)) ∙ here (q - n)) takes;
+      steps_since = λ q most takes. unserved q (ap (λ (k : ℕ). probe_result_of s.probe_results k) (omega (arith, most)) ∙ here (q - n)) takes;
       progress = subst (λ (x : ServerState). Progress n x (before ++ replies)) (sym turns.1) (subst (Progress n c) (sym (append-nil before) ∙ ap (λ (r : List Reply). before ++ r) (sym turns.0)) p);
     }
     go (Ready info ∷ found) n here c new before replies p (mid, its, later, is, next, turn, more) =
@@ -564,7 +564,7 @@ module _ (plan : Plan) (laws : PrerequisiteLaws) (s : ServerState) (start : Sett
         let its_ready = ap state_of its_found in
         subst (Whole new) (append_assoc before its later ∙ ap (λ (r : List Reply). before ++ r) (sym is))
         (go found (n + 1) (on (Ready info) found n here) mid new (before ++ its) later
-        (had_turn n c mid before its (ready_found s n kept its_ready).0 (ready_takes plan (probe_result_of s.ports n) its_ready) p next (is_part n c mid before its its_ready p turn)) more)
+        (had_turn n c mid before its (ready_found s n kept its_ready).0 (ready_takes plan (probe_result_of s.probe_results n) its_ready) p next (is_part n c mid before its its_ready p turn)) more)
     go (Unserved ∷ found) n here c new before replies p turns =
         go found (n + 1) (on Unserved found n here) c new before replies (skipped plan laws s start old reached at ports_are n c before (unserved n (head_is Unserved found n here)) p) turns
     go (Unready state ∷ found) n here c new before replies p (mid, next, turn, more) =

@@ -16,20 +16,20 @@ use Rattle.adapter.specs.Device.{Device}
 use Rattle.adapter.specs.Rules.{IsOn}
 use Rattle.refinement.specs.Relation.{port_at}
 use Rattle.refinement.specs.Fragments.{SparesOtherPorts}
-use Rattle.refinement.specs.Links.{DoesNotWrite}
+use Rattle.refinement.specs.PreservedParts.{DoesNotWrite}
 use Rattle.block_machine.specs.Events.{AbstractState}
 use Rattle.block_machine.specs.Histories.{JointState, IsReachable}
 use Rattle.block_machine.specs.Expected.{after}
-use Rattle.block_machine.specs.Ports.{Evidence, Ports, SameDisk, SamePort}
+use Rattle.block_machine.specs.Ports.{Evidence, Ports, SameSerialAndSize, SamePort}
 use Rattle.block_machine.specs.State.{Machine, Pending}
 use Rattle.block_machine.specs.Steps.{Step, WaitAgain, Answer}
 use Rattle.driver_history.specs.PortTurn.{IsOfOtherPort, EvidenceAgreesOn}
-use Rattle.driver_history.specs.AccessTrace.{IsDriversOwn, IsAccessForPorts, LeavesEngine, ResetsLink}
+use Rattle.driver_history.specs.AccessTrace.{StaysInDriverFrames, UsesPortsAndNotGhc, LeavesEngine, ResetsLink}
 use Rattle.host_boot.specs.TakeOver.{probe_result_of}
 use Rattle.host_boot.specs.declared.ProbeResult.{ProbeResult}
 use Rattle.server_history.specs.Prerequisites.{PrerequisiteLaws}
 use Rattle.server_history.specs.ServerState.{ServerState, MachineRelation, SettledInvariant, is_served, ports_of, state_of}
-use Rattle.server_history.specs.Turns.{AtRest, IsPortTurn, InRestart, SimulatesTurn, MeetsTurnDuty, RestartsPort, TurnCorresponds}
+use Rattle.server_history.specs.Turns.{RestingInTick, IsPortTurn, InRestart, SimulatesTurn, MeetsTurnDuty, RestartsPort, TurnCorresponds}
 use Rattle.server_history.proofs.whole_call.EarlierResults as carrying
 use Rattle.server_history.proofs.any_turn.JoinedParts.{ready_or_not, same_then}
 use Rattle.server_history.proofs.whole_call.TurnResults as lifting
@@ -49,11 +49,11 @@ resets_then port early late spares r = record {
   before = r.before;
   between = r.between;
   later = r.later ++ late;
-  sending = r.sending;
-  ending = r.ending;
+  comreset_value = r.comreset_value;
+  end_of_comreset_value = r.end_of_comreset_value;
   accesses_are_split = ap (λ (list : List Access). list ++ late) r.accesses_are_split
-      ∙ append_assoc r.before (Writing (Px port Sctl) r.sending ∷ (r.between ++ (Writing (Px port Sctl) r.ending ∷ r.later))) late
-      ∙ ap (λ (list : List Access). r.before ++ (Writing (Px port Sctl) r.sending ∷ list)) (append_assoc r.between (Writing (Px port Sctl) r.ending ∷ r.later) late);
+      ∙ append_assoc r.before (Writing (Px port Sctl) r.comreset_value ∷ (r.between ++ (Writing (Px port Sctl) r.end_of_comreset_value ∷ r.later))) late
+      ∙ ap (λ (list : List Access). r.before ++ (Writing (Px port Sctl) r.comreset_value ∷ list)) (append_assoc r.between (Writing (Px port Sctl) r.end_of_comreset_value ∷ r.later) late);
   sends_comreset = r.sends_comreset;
   ends_comreset = r.ends_comreset;
   sctl_is_unwritten_between = r.sctl_is_unwritten_between;
@@ -65,9 +65,9 @@ resets_since port early late r = record {
   before = early ++ r.before;
   between = r.between;
   later = r.later;
-  sending = r.sending;
-  ending = r.ending;
-  accesses_are_split = ap (λ (list : List Access). early ++ list) r.accesses_are_split ∙ sym (append_assoc early r.before (Writing (Px port Sctl) r.sending ∷ (r.between ++ (Writing (Px port Sctl) r.ending ∷ r.later))));
+  comreset_value = r.comreset_value;
+  end_of_comreset_value = r.end_of_comreset_value;
+  accesses_are_split = ap (λ (list : List Access). early ++ list) r.accesses_are_split ∙ sym (append_assoc early r.before (Writing (Px port Sctl) r.comreset_value ∷ (r.between ++ (Writing (Px port Sctl) r.end_of_comreset_value ∷ r.later))));
   sends_comreset = r.sends_comreset;
   ends_comreset = r.ends_comreset;
   sctl_is_unwritten_between = r.sctl_is_unwritten_between;
@@ -76,29 +76,29 @@ resets_since port early late r = record {
 
 -- a turn's accesses serve ports that the call uses
 module _ (laws : PrerequisiteLaws) (n : ℕ) where
-  of_such : (Such : Port → Type 0) → Such (port_at n) → (list : List Access) → All (SparesOtherPorts (port_at n)) list → All IsDriversOwn list → All (IsAccessForPorts Such) list
-  of_such Such its [] of own = All-nil (IsAccessForPorts Such)
-  of_such Such its (access ∷ list) of own = All-cons (IsAccessForPorts Such) access list
-      (one access (All-head (SparesOtherPorts (port_at n)) access list of) (All-head IsDriversOwn access list own))
-      (of_such Such its list (All-tail (SparesOtherPorts (port_at n)) access list of) (All-tail IsDriversOwn access list own))
+  of_such : (Such : Port → Type 0) → Such (port_at n) → (list : List Access) → All (SparesOtherPorts (port_at n)) list → All StaysInDriverFrames list → All (UsesPortsAndNotGhc Such) list
+  of_such Such its [] of own = All-nil (UsesPortsAndNotGhc Such)
+  of_such Such its (access ∷ list) of own = All-cons (UsesPortsAndNotGhc Such) access list
+      (one access (All-head (SparesOtherPorts (port_at n)) access list of) (All-head StaysInDriverFrames access list own))
+      (of_such Such its list (All-tail (SparesOtherPorts (port_at n)) access list of) (All-tail StaysInDriverFrames access list own))
     where
-      one : (access : Access) → SparesOtherPorts (port_at n) access → IsDriversOwn access → IsAccessForPorts Such access
+      one : (access : Access) → SparesOtherPorts (port_at n) access → StaysInDriverFrames access → UsesPortsAndNotGhc Such access
       one (Reading (Px at r) v) of own = (own, tt, subst Such (sym of) its)
       one (Reading r v) of own = (own, tt, tt)
-      one (Writing (Px at r) v) of own = (own, laws.of_host (port_at n) (Writing (Px at r) v) of, subst Such (sym of) its)
-      one (Writing r v) of own = (own, laws.of_host (port_at n) (Writing r v) of, tt)
+      one (Writing (Px at r) v) of own = (own, laws.one_port_spares_ghc (port_at n) (Writing (Px at r) v) of, subst Such (sym of) its)
+      one (Writing r v) of own = (own, laws.one_port_spares_ghc (port_at n) (Writing r v) of, tt)
       one (Loading at bytes) of own = (own, tt, tt)
       one (Storing at bytes) of own = (own, tt, tt)
 
   pub serving : (plan : Plan) (found : ProbeResult) (ports : Ports) → ports.served (port_at n) ≡ is_served found → ports.state (port_at n) ≡ state_of found → TakesTurn plan found → (its : List Reply) (c mid : ServerState) (m : Machine)
-      (part : IsPortTurn (turn_at plan found n) (port_at n) its c mid) → SimulatesTurn (turn_at plan found n) (port_at n) its part.accesses c mid m → All (IsAccessForPorts (Uses plan ports)) part.accesses
+      (part : IsPortTurn (turn_at plan found n) (port_at n) its c mid) → SimulatesTurn (turn_at plan found n) (port_at n) its part.accesses c mid m → All (UsesPortsAndNotGhc (Uses plan ports)) part.accesses
   serving AService found ports served state takes its c mid m part x =
       of_such (Uses AService ports) (served ∙ takes.0, λ dead. takes.1 (sym state ∙ dead)) part.accesses part.accesses_are_of_port part.accesses_are_drivers_own
   serving (ATick hung) found ports served state takes its c mid m part x = ⊎_elim
       (λ (so : hung n ≡ true). of_such (Uses (ATick hung) ports) (state ∙ takes, so) part.accesses part.accesses_are_of_port part.accesses_are_drivers_own)
       (λ (not_so : hung n ≡ false).
-      let rests = subst (λ (b : Bool). MeetsTurnDuty (if b then InRestart else AtRest) (port_at n) part.accesses c mid m x.evidence x.steps) not_so x.meets_turn_duty in
-      subst (All (IsAccessForPorts (Uses (ATick hung) ports))) (sym rests.0) (All-nil (IsAccessForPorts (Uses (ATick hung) ports))))
+      let rests = subst (λ (b : Bool). MeetsTurnDuty (if b then InRestart else RestingInTick) (port_at n) part.accesses c mid m x.evidence x.steps) not_so x.meets_turn_duty in
+      subst (All (UsesPortsAndNotGhc (Uses (ATick hung) ports))) (sym rests.0) (All-nil (UsesPortsAndNotGhc (Uses (ATick hung) ports))))
       (cases_Bool (hung n))
 
 -- ---- a tick
@@ -115,12 +115,12 @@ module _ (hung : ℕ → Bool) (laws : PrerequisiteLaws) (s : ServerState) (star
 
   -- ---- a port's turn
 
-  module _ (n : ℕ) (c mid : ServerState) (before its : List Reply) (ready : state_of (probe_result_of s.ports n) ≡ ReadyState) (p : Progress n c before) (next : SettledInvariant mid) (part : IsPortTurn (turn_at plan (probe_result_of s.ports n) n) (port_at n) its c mid)
+  module _ (n : ℕ) (c mid : ServerState) (before its : List Reply) (ready : state_of (probe_result_of s.probe_results n) ≡ ReadyState) (p : Progress n c before) (next : SettledInvariant mid) (part : IsPortTurn (turn_at plan (probe_result_of s.probe_results n) n) (port_at n) its c mid)
       (m_reached : IsReachable (after old.machine p.steps)) (on_mid : IsOn mid.device) (evidence : Evidence) where
     abbrev m : Machine
     m = after old.machine p.steps
 
-    abbrev x : SimulatesTurn (turn_at plan (probe_result_of s.ports n) n) (port_at n) its part.accesses c mid m
+    abbrev x : SimulatesTurn (turn_at plan (probe_result_of s.probe_results n) n) (port_at n) its part.accesses c mid m
     x = part.simulates_turn m m_reached p.machine_relation
 
     abbrev all : List Step
@@ -138,18 +138,18 @@ module _ (hung : ℕ → Bool) (laws : PrerequisiteLaws) (s : ServerState) (star
     module _ (alike : EvidenceAgreesOn (port_at n) x.evidence evidence) (same_n : SamePort old.ports (ports_of c) (port_at n)) where
       restarted : hung n ≡ true → IsRestarted began (port_at n) accesses mid evidence all
       restarted so = record {
-        finds = lifting.finding plan laws s start old reached at ports_are n c mid before its p next part m_reached on_mid ready r.finds r.answers_ended;
-        boots = ⊎_elim (λ dead. inl dead) (λ resets. inr (resets_since (port_at n) p.accesses part.accesses resets)) r.boots;
+        finds = lifting.finding plan laws s start old reached at ports_are n c mid before its p next part m_reached on_mid ready r.finds_done r.answers_ended;
+        boots = ⊎_elim (λ dead. inl dead) (λ resets. inr (resets_since (port_at n) p.accesses part.accesses resets)) r.is_dead_or_link_is_reset;
         ended = lifting.ended_whole plan laws s start old reached at ports_are n c mid before its p next part m_reached on_mid ready r.answers_ended;
         interrupts = lifting.named plan laws s start old reached at ports_are n c mid before its p next part m_reached on_mid evidence alike r.is_interrupted;
         anew = lifting.anew_whole plan laws s start old reached at ports_are n c mid before its p next part m_reached on_mid r.none_stays_issued;
         another = λ e here own. ⊎_elim
             (λ late.
             let w = r.unplugged_lost_its_disk e late in
-            let lives : state_of (probe_result_of mid.ports n) ≢ Dead = λ dead. w.0 (ap (λ (q : Port). state_of (probe_result_of mid.ports q.0)) own ∙ dead) in (
+            let lives : state_of (probe_result_of mid.probe_results n) ≢ Dead = λ dead. w.0 (ap (λ (q : Port). state_of (probe_result_of mid.probe_results q.0)) own ∙ dead) in (
               lives,
-              λ is_ready disk. w.1 (ap (λ (q : Port). state_of (probe_result_of mid.ports q.0)) own ∙ is_ready)
-                  (subst (λ (q : Port). SameDisk (ports_of c) (ports_of mid) q) (sym own) (disk.0 ∙ sym same_n.2, disk.1 ∙ sym same_n.3)),
+              λ is_ready disk. w.1 (ap (λ (q : Port). state_of (probe_result_of mid.probe_results q.0)) own ∙ is_ready)
+                  (subst (λ (q : Port). SameSerialAndSize (ports_of c) (ports_of mid) q) (sym own) (disk.0 ∙ sym same_n.2, disk.1 ∙ sym same_n.3)),
             ))
             (λ early. absurd (not_early e Unplugged early own))
             (Contains-append_cases x.steps p.steps (Answer e Unplugged) here);
@@ -158,10 +158,10 @@ module _ (hung : ℕ → Bool) (laws : PrerequisiteLaws) (s : ServerState) (star
       }
         where
           r : RestartsPort (port_at n) part.accesses c mid m x.evidence x.steps
-          r = (subst (λ (b : Bool). MeetsTurnDuty (if b then InRestart else AtRest) (port_at n) part.accesses c mid m x.evidence x.steps) so x.meets_turn_duty).0
+          r = (subst (λ (b : Bool). MeetsTurnDuty (if b then InRestart else RestingInTick) (port_at n) part.accesses c mid m x.evidence x.steps) so x.meets_turn_duty).0
 
           ties : TurnCorresponds InRestart (port_at n) its part.accesses c mid m x.evidence x.steps
-          ties = subst (λ (b : Bool). TurnCorresponds (if b then InRestart else AtRest) (port_at n) its part.accesses c mid m x.evidence x.steps) so x.turn_corresponds
+          ties = subst (λ (b : Bool). TurnCorresponds (if b then InRestart else RestingInTick) (port_at n) its part.accesses c mid m x.evidence x.steps) so x.turn_corresponds
 
       rested : hung n ≡ false → HasRested old (port_at n) accesses mid evidence all
       rested not_so = record {
@@ -176,8 +176,8 @@ module _ (hung : ℕ → Bool) (laws : PrerequisiteLaws) (s : ServerState) (star
         answer = λ e o here. not_early e o (subst (λ (list : List Step). Contains (list ++ p.steps) (Answer e o)) rests.1 here);
       }
         where
-          rests : MeetsTurnDuty AtRest (port_at n) part.accesses c mid m x.evidence x.steps
-          rests = subst (λ (b : Bool). MeetsTurnDuty (if b then InRestart else AtRest) (port_at n) part.accesses c mid m x.evidence x.steps) not_so x.meets_turn_duty
+          rests : MeetsTurnDuty RestingInTick (port_at n) part.accesses c mid m x.evidence x.steps
+          rests = subst (λ (b : Bool). MeetsTurnDuty (if b then InRestart else RestingInTick) (port_at n) part.accesses c mid m x.evidence x.steps) not_so x.meets_turn_duty
 
       pub ticked : HasTicked hung s old (port_at n) accesses mid evidence all
       ticked = record {
@@ -190,12 +190,12 @@ module _ (hung : ℕ → Bool) (laws : PrerequisiteLaws) (s : ServerState) (star
 
   -- ---- another port, before it
 
-  module _ (n : ℕ) (c mid : ServerState) (before its : List Reply) (p : Progress n c before) (part : IsPortTurn (turn_at plan (probe_result_of s.ports n) n) (port_at n) its c mid) (m_reached : IsReachable (after old.machine p.steps)) (q : Port) (apart : q ≢ port_at n)
+  module _ (n : ℕ) (c mid : ServerState) (before its : List Reply) (p : Progress n c before) (part : IsPortTurn (turn_at plan (probe_result_of s.probe_results n) n) (port_at n) its c mid) (m_reached : IsReachable (after old.machine p.steps)) (q : Port) (apart : q ≢ port_at n)
       (d : progress.IsDone plan laws s start old reached at ports_are c p.accesses p.steps p.evidence q) (evidence : Evidence) (alike : EvidenceAgreesOn q p.evidence evidence) (same : SamePort (ports_of c) (ports_of mid) q) where
     abbrev m_so_far : Machine
     m_so_far = after old.machine p.steps
 
-    abbrev y : SimulatesTurn (turn_at plan (probe_result_of s.ports n) n) (port_at n) its part.accesses c mid m_so_far
+    abbrev y : SimulatesTurn (turn_at plan (probe_result_of s.probe_results n) n) (port_at n) its part.accesses c mid m_so_far
     y = part.simulates_turn m_so_far m_reached p.machine_relation
 
     abbrev steps_then : List Step
@@ -248,7 +248,7 @@ module _ (hung : ℕ → Bool) (laws : PrerequisiteLaws) (s : ServerState) (star
 -- ---- both
 
 pub ties_turned : (plan : Plan) (laws : PrerequisiteLaws) (s : ServerState) (start : SettledInvariant s) (old : AbstractState) (reached : IsReachable old.machine) (at : MachineRelation s old.machine) (ports_are : old.ports ≡ ports_of s) (n : ℕ) (c mid : ServerState) (before its : List Reply)
-    (takes : TakesTurn plan (probe_result_of s.ports n)) (p : progress.Progress plan laws s start old reached at ports_are n c before) (next : SettledInvariant mid) (part : IsPortTurn (turn_at plan (probe_result_of s.ports n) n) (port_at n) its c mid)
+    (takes : TakesTurn plan (probe_result_of s.probe_results n)) (p : progress.Progress plan laws s start old reached at ports_are n c before) (next : SettledInvariant mid) (part : IsPortTurn (turn_at plan (probe_result_of s.probe_results n) n) (port_at n) its c mid)
     (m_reached : IsReachable (after old.machine p.steps)) (on_mid : IsOn mid.device) (evidence : Evidence) → EvidenceAgreesOn (port_at n) (part.simulates_turn (after old.machine p.steps) m_reached p.machine_relation).evidence evidence → SamePort old.ports (ports_of c) (port_at n)
     → TiesSoFar plan s old (port_at n) (p.accesses ++ part.accesses) mid evidence ((part.simulates_turn (after old.machine p.steps) m_reached p.machine_relation).steps ++ p.steps)
 ties_turned AService laws s start old reached at ports_are n c mid before its takes p next part m_reached on_mid evidence alike same_n =
@@ -258,11 +258,11 @@ ties_turned AService laws s start old reached at ports_are n c mid before its ta
       λ bad. absurd (ready_fits (old.ports.state (port_at n)) (ap (λ (ports : Ports). ports.state (port_at n)) ports_are ∙ ready) bad),
     ))
     (λ unready. tried_whole laws s start old reached at ports_are n c mid before its unready p next part m_reached on_mid evidence alike same_n)
-    (ready_or_not (state_of (probe_result_of s.ports n)))
+    (ready_or_not (state_of (probe_result_of s.probe_results n)))
 ties_turned (ATick hung) laws s start old reached at ports_are n c mid before its takes p next part m_reached on_mid evidence alike same_n = ticked hung laws s start old reached at ports_are n c mid before its takes p next part m_reached on_mid evidence alike same_n
 
 pub ties_carried : (plan : Plan) (laws : PrerequisiteLaws) (s : ServerState) (start : SettledInvariant s) (old : AbstractState) (reached : IsReachable old.machine) (at : MachineRelation s old.machine) (ports_are : old.ports ≡ ports_of s) (n : ℕ) (c mid : ServerState) (before its : List Reply)
-    (p : progress.Progress plan laws s start old reached at ports_are n c before) (part : IsPortTurn (turn_at plan (probe_result_of s.ports n) n) (port_at n) its c mid) (m_reached : IsReachable (after old.machine p.steps)) (q : Port) (apart : q ≢ port_at n)
+    (p : progress.Progress plan laws s start old reached at ports_are n c before) (part : IsPortTurn (turn_at plan (probe_result_of s.probe_results n) n) (port_at n) its c mid) (m_reached : IsReachable (after old.machine p.steps)) (q : Port) (apart : q ≢ port_at n)
     (d : progress.IsDone plan laws s start old reached at ports_are c p.accesses p.steps p.evidence q) (evidence : Evidence) (alike : EvidenceAgreesOn q p.evidence evidence) (same : SamePort (ports_of c) (ports_of mid) q)
     → TiesSoFar plan s old q (p.accesses ++ part.accesses) mid evidence ((part.simulates_turn (after old.machine p.steps) m_reached p.machine_relation).steps ++ p.steps)
 ties_carried AService laws s start old reached at ports_are n c mid before its p part m_reached q apart d evidence alike same = ⊎_elim

@@ -11,7 +11,7 @@ use Rattle.ata_types.specs.declared.request.Reply.{Reply}
 use Rattle.adapter.specs.Access.{Access}
 use Rattle.adapter.specs.Device.{Device}
 use Rattle.refinement.specs.Relation.{port_at}
-use Rattle.block_machine.specs.Events.{AbstractState, Served, changes_disk}
+use Rattle.block_machine.specs.Events.{AbstractState, Replied, changes_disk}
 use Rattle.block_machine.specs.Histories.{JointState, IsReachable}
 use Rattle.block_machine.specs.Expected.{after}
 use Rattle.block_machine.specs.Ports.{Evidence, IsStoppedOrStuck, SamePort}
@@ -19,11 +19,11 @@ use Rattle.block_machine.specs.State.{Machine}
 use Rattle.block_machine.specs.Steps.{Step, Answer}
 use Rattle.host_boot.specs.TakeOver.{probe_result_of}
 use Rattle.driver_history.specs.EvidenceHandling.{ToldOkOr, IsLeftAlone, ServicesReadyPort, tells_fault}
-use Rattle.driver_history.specs.Evidence.{ShowsChange, ShowsFailure}
-use Rattle.driver_history.specs.Histories.{HasUnservedDisk, HasOnlyTaskFileError, IsAnsweredFaulty, PortCorresponds}
+use Rattle.driver_history.specs.Evidence.{ShowsLinkChange, ShowsFailure}
+use Rattle.driver_history.specs.Histories.{IsForeignOrUnfit, HasOnlyTaskFileError, IsAnsweredFaulty, PortCorresponds}
 use Rattle.driver_history.specs.PortTurn.{HasTurnIn, EvidenceAgreesOn}
 use Rattle.server_history.specs.Prerequisites.{PrerequisiteLaws}
-use Rattle.server_history.specs.Turns.{IsPortTurn, HandlesShownErrors, InService, SimulatesTurn, joint_event_of_turn}
+use Rattle.server_history.specs.Turns.{IsPortTurn, HandlesShownErrors, ServingReady, SimulatesTurn, joint_event_of_turn}
 use Rattle.server_history.specs.ServerState.{ServerState, InCallInvariant, MachineRelation, SettledInvariant, ports_of}
 use Rattle.server_history.proofs.any_turn.JoinedParts.{same_then}
 use Rattle.server_history.proofs.any_turn.TurnSteps.{stood}
@@ -46,11 +46,11 @@ module _ (laws : PrerequisiteLaws) (s : ServerState) (start : SettledInvariant s
   abbrev Progress : ℕ → ServerState → List Reply → Type 0
   Progress n c replies = progress.Progress AService laws s start old reached at ports_are n c replies
 
-  module _ (n : ℕ) (c mid : ServerState) (before its : List Reply) (p : Progress n c before) (part : IsPortTurn (turn_at AService (probe_result_of s.ports n) n) (port_at n) its c mid) (m_reached : IsReachable (after old.machine p.steps)) where
+  module _ (n : ℕ) (c mid : ServerState) (before its : List Reply) (p : Progress n c before) (part : IsPortTurn (turn_at AService (probe_result_of s.probe_results n) n) (port_at n) its c mid) (m_reached : IsReachable (after old.machine p.steps)) where
     abbrev m : Machine
     m = after old.machine p.steps
 
-    abbrev x : SimulatesTurn (turn_at AService (probe_result_of s.ports n) n) (port_at n) its part.accesses c mid m
+    abbrev x : SimulatesTurn (turn_at AService (probe_result_of s.probe_results n) n) (port_at n) its part.accesses c mid m
     x = part.simulates_turn m m_reached p.machine_relation
 
     abbrev all : List Step
@@ -67,14 +67,14 @@ module _ (laws : PrerequisiteLaws) (s : ServerState) (start : SettledInvariant s
       abbrev t : HasTurnIn q s.device mid.device
       t = carrying.t AService laws s start old reached at ports_are n c mid before its p part m_reached q apart
 
-      abbrev did : PortCorresponds began (joint_event_of_turn InService [] c p.evidence p.steps) p.accesses q
+      abbrev did : PortCorresponds began (joint_event_of_turn ServingReady [] c p.evidence p.steps) p.accesses q
       did = d.ties.0
 
       abbrev serves : ServicesReadyPort old p.evidence p.steps (record { machine = m; ports = ports_of c }) q
       serves = did.handles_evidence asked
 
       alone_so_far : HasOnlyTaskFileError q began mid.device → HasOnlyTaskFileError q began c.device
-      alone_so_far alone = laws.calls.alone_then q began old mid.device kept.adapter_is_on undue t p.adapter_is_on asked alone
+      alone_so_far alone = laws.calls.lone_tfes_in_call_is_in_turn q began old mid.device kept.adapter_is_on undue t p.adapter_is_on asked alone
 
       -- ---- what the call heeds of it
 
@@ -96,17 +96,17 @@ module _ (laws : PrerequisiteLaws) (s : ServerState) (start : SettledInvariant s
       heeds_whole : ServicesReadyPort old evidence all (record { machine = after old.machine all; ports = ports_of mid }) q
       heeds_whole = record {
         answers_ended = carrying.ended_still AService laws s start old reached at ports_are n c mid before its p part m_reached q apart serves.answers_ended;
-        none_is_left = λ gone e here own.
+        link_change_leaves_none = λ gone e here own.
             let b = stood laws (port_at n) m x.steps x.steps_are_of_turn e (carrying.in_turn AService laws s start old reached at ports_are n c mid before its p part m_reached q apart e here) in
-            serves.none_is_left (alike.link_changed.1 gone) b.was b.here (ap (λ r. r.port) b.request ∙ own);
-        others_are_told_alike = λ gone. ⊎_elim (λ a. inl (told_whole _ a)) (λ b. inr (told_whole _ b)) (serves.others_are_told_alike (alike.link_changed.1 gone));
-        is_interrupted = λ port_error. carrying.named AService laws s start old reached at ports_are n c mid before its p part m_reached q apart evidence alike (serves.is_interrupted (⊎_elim (λ failed. inl (alike.failed.1 failed)) (λ gone. inr (alike.link_changed.1 gone)) port_error));
-        none_stays_issued = λ port_error. carrying.anew_still AService laws s start old reached at ports_are n c mid before its p part m_reached q apart (serves.none_stays_issued (⊎_elim (λ failed. inl (alike.failed.1 failed)) (λ stopped. inr (alike.stopped.1 stopped)) port_error));
+            serves.link_change_leaves_none (alike.link_changed.1 gone) b.was b.here (ap (λ r. r.port) b.request ∙ own);
+        link_change_tells_alike = λ gone. ⊎_elim (λ a. inl (told_whole _ a)) (λ b. inr (told_whole _ b)) (serves.link_change_tells_alike (alike.link_changed.1 gone));
+        trouble_interrupts = λ port_error. carrying.named AService laws s start old reached at ports_are n c mid before its p part m_reached q apart evidence alike (serves.trouble_interrupts (⊎_elim (λ failed. inl (alike.showing_error.1 failed)) (λ gone. inr (alike.link_changed.1 gone)) port_error));
+        trouble_leaves_none_issued = λ port_error. carrying.anew_still AService laws s start old reached at ports_are n c mid before its p part m_reached q apart (serves.trouble_leaves_none_issued (⊎_elim (λ failed. inl (alike.showing_error.1 failed)) (λ stopped. inr (alike.stopped.1 stopped)) port_error));
         one_fault_at_most = let one = serves.one_fault_at_most in omega (arith, counted, one);
-        fatal_tells_no_fault = λ here. let y = serves.fatal_tells_no_fault (alike.fatal.1 here) in (alike.failed.0 y.0, counted ∙ y.1);
+        fatal_tells_no_fault = λ here. let y = serves.fatal_tells_no_fault (alike.showing_fatal_error.1 here) in (alike.showing_error.0 y.0, counted ∙ y.1);
         shown_disk_was_in_or_came = carrying.disk_still AService laws s start old reached at ports_are n c mid before its p part m_reached q apart same serves.shown_disk_was_in_or_came;
         is_left_alone_if_calm = ⊎_elim
-            (λ disturbed. inl (⊎_elim (λ failed. inl (alike.failed.0 failed)) (λ rest. inr (⊎_elim (λ gone. inl (alike.link_changed.0 gone)) (λ changed. inr (changed_whole changed)) rest)) disturbed))
+            (λ disturbed. inl (⊎_elim (λ failed. inl (alike.showing_error.0 failed)) (λ rest. inr (⊎_elim (λ gone. inl (alike.link_changed.0 gone)) (λ changed. inr (changed_whole changed)) rest)) disturbed))
             (λ (a : IsLeftAlone old.ports p.evidence p.steps (ports_of c) q). inr (record {
               port_is_same = same_then old.ports (ports_of c) (ports_of mid) q a.port_is_same same;
               only_ok_is_told = told_whole _ a.only_ok_is_told;
@@ -121,12 +121,12 @@ module _ (laws : PrerequisiteLaws) (s : ServerState) (start : SettledInvariant s
       same_self = (refl, refl, refl, refl, refl, refl)
 
       -- and where it showed a failure when the call began, or a change of its link, it was stopped
-      stops_troubled : ShowsFailure (s.device.port q.0) ⊎ ShowsChange (s.device.port q.0) → IsStoppedOrStuck p.evidence q
-      stops_troubled port_error = serves.is_interrupted (⊎_elim (λ failure. inl (d.evidenced.failed_all asked failure)) (λ change. inr (d.evidenced.link_changed_all asked (inl change))) port_error)
+      stops_troubled : ShowsFailure (s.device.port q.0) ⊎ ShowsLinkChange (s.device.port q.0) → IsStoppedOrStuck p.evidence q
+      stops_troubled port_error = serves.trouble_interrupts (⊎_elim (λ failure. inl (d.evidenced.showing_error_all asked failure)) (λ change. inr (d.evidenced.link_changed_all asked (inl change))) port_error)
 
       -- ---- the whole
 
-      not_bad : HasUnservedDisk old.ports q → ⊥
+      not_bad : IsForeignOrUnfit old.ports q → ⊥
       not_bad bad = ready_fits (old.ports.state q) asked bad
 
       not_absent : old.ports.state q ≡ Absent → ⊥
@@ -135,7 +135,7 @@ module _ (laws : PrerequisiteLaws) (s : ServerState) (start : SettledInvariant s
       heeds_trouble : HandlesShownErrors q accesses began evidence (ports_of mid) mid.device
       heeds_trouble = carrying.trouble_still AService laws s start old reached at ports_are n c mid before its p part m_reached q apart d evidence alike same (λ _. stops_troubled) (λ _. inl undue) (record { loses_no_error = did.loses_no_error; runs_well_anew = did.runs_well_anew })
 
-      pub ties_still : PortCorresponds began (joint_event_of_turn InService [] mid evidence all) accesses q
+      pub ties_still : PortCorresponds began (joint_event_of_turn ServingReady [] mid evidence all) accesses q
       ties_still = record {
         finds_done = λ is_ready e own. carrying.finds_more AService laws s start old reached at ports_are n c mid before its p part m_reached q apart (did.finds_done is_ready e own);
         plain_faults_are_told = λ alone e slot own unended says plain. ⊎_elim
@@ -143,12 +143,12 @@ module _ (laws : PrerequisiteLaws) (s : ServerState) (start : SettledInvariant s
             (λ dead. inr (same.1 ∙ dead))
             (did.plain_faults_are_told (alone_so_far alone) e slot own unended says plain);
         probes_disk = λ served coming. record {
-          shown = λ absent det. absurd (not_absent absent);
-          absent = λ absent det fresh. absurd (not_absent absent);
-          missing = λ bad. absurd (not_bad bad);
-          changed = λ bad. absurd (not_bad bad);
+          absent_with_device_is_booted = λ absent det. absurd (not_absent absent);
+          absent_gets_first_fis = λ absent det fresh. absurd (not_absent absent);
+          missing_disk_makes_absent = λ bad. absurd (not_bad bad);
+          changed_disk_is_booted = λ bad. absurd (not_bad bad);
         };
-        boots_anew = laws.calls.call_boots q began old (ports_of c) (ports_of mid) mid.device (Served []) (Served []) kept.adapter_is_on (λ _. undue) t p.adapter_is_on same same_self did.boots_anew;
+        boots_anew = laws.calls.turn_boots_are_calls q began old (ports_of c) (ports_of mid) mid.device (Replied []) (Replied []) kept.adapter_is_on (λ _. undue) t p.adapter_is_on same same_self did.boots_anew;
         loses_no_error = heeds_trouble.loses_no_error;
         runs_well_anew = heeds_trouble.runs_well_anew;
         handles_evidence = λ _. heeds_whole;

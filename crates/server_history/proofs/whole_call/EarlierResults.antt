@@ -16,7 +16,7 @@ use Rattle.adapter.specs.Access.Access.{Reading}
 use Rattle.adapter.specs.Device.{Device}
 use Rattle.refinement.specs.Relation.{port_at}
 use Rattle.refinement.specs.Fragments.{SparesOtherPorts}
-use Rattle.refinement.specs.Links.{DoesNotWrite}
+use Rattle.refinement.specs.PreservedParts.{DoesNotWrite}
 use Rattle.block_machine.specs.Events.{AnswersEnded, ShownDiskWasInOrCame, AbstractState, NoneStaysIssued, ShowsDisk, changes_disk, issues_id}
 use Rattle.block_machine.specs.Histories.{JointState, IsReachable}
 use Rattle.block_machine.specs.Expected.{after}
@@ -24,10 +24,10 @@ use Rattle.block_machine.specs.Ports.{Evidence, IsStoppedOrStuck, Ports, SamePor
 use Rattle.block_machine.specs.State.{Machine, Pending}
 use Rattle.block_machine.specs.Steps.{Step, WaitAgain, Answer}
 use Rattle.host_boot.specs.TakeOver.{probe_result_of}
-use Rattle.driver_history.specs.Evidence.{ShowsChange, ShowsFailure}
+use Rattle.driver_history.specs.Evidence.{ShowsLinkChange, ShowsFailure}
 use Rattle.driver_history.specs.Histories.{FindsDone}
 use Rattle.driver_history.specs.PortTurn.{HasTurnIn, IsOfOtherPort, EvidenceAgreesOn}
-use Rattle.driver_history.specs.AccessTrace.{IsAccessForPorts, ResetsLink}
+use Rattle.driver_history.specs.AccessTrace.{UsesPortsAndNotGhc, ResetsLink}
 use Rattle.driver_history.specs.PortInvariants.{EngineRuns}
 use Rattle.server_history.specs.Prerequisites.{PrerequisiteLaws}
 use Rattle.server_history.specs.Turns.{IsPortTurn, HandlesShownErrors, SimulatesTurn, abstract_state_of}
@@ -48,7 +48,7 @@ module _ (plan : Plan) (laws : PrerequisiteLaws) (s : ServerState) (start : Sett
   began = record { device = s.device; abstract = old }
 
   abbrev state_at : ℕ → PortState
-  state_at q = state_of (probe_result_of s.ports q)
+  state_at q = state_of (probe_result_of s.probe_results q)
 
   abbrev IsDone : ServerState → List Access → List Step → Evidence → Port → Type 0
   IsDone c accesses steps evidence q = progress.IsDone plan laws s start old reached at ports_are c accesses steps evidence q
@@ -56,11 +56,11 @@ module _ (plan : Plan) (laws : PrerequisiteLaws) (s : ServerState) (start : Sett
   abbrev Progress : ℕ → ServerState → List Reply → Type 0
   Progress n c replies = progress.Progress plan laws s start old reached at ports_are n c replies
 
-  module _ (n : ℕ) (c mid : ServerState) (before its : List Reply) (p : Progress n c before) (part : IsPortTurn (turn_at plan (probe_result_of s.ports n) n) (port_at n) its c mid) (m_reached : IsReachable (after old.machine p.steps)) where
+  module _ (n : ℕ) (c mid : ServerState) (before its : List Reply) (p : Progress n c before) (part : IsPortTurn (turn_at plan (probe_result_of s.probe_results n) n) (port_at n) its c mid) (m_reached : IsReachable (after old.machine p.steps)) where
     abbrev m : Machine
     m = after old.machine p.steps
 
-    abbrev x : SimulatesTurn (turn_at plan (probe_result_of s.ports n) n) (port_at n) its part.accesses c mid m
+    abbrev x : SimulatesTurn (turn_at plan (probe_result_of s.probe_results n) n) (port_at n) its part.accesses c mid m
     x = part.simulates_turn m m_reached p.machine_relation
 
     abbrev all : List Step
@@ -70,7 +70,7 @@ module _ (plan : Plan) (laws : PrerequisiteLaws) (s : ServerState) (start : Sett
     accesses = p.accesses ++ part.accesses
 
     whole_is : after old.machine all ≡ after m x.steps
-    whole_is = laws.basic.joined old.machine x.steps p.steps
+    whole_is = laws.steps_and_accesses.after_joins old.machine x.steps p.steps
 
     module _ (q : Port) (apart : q ≢ port_at n) where
       pub other : q.0 ≢ n
@@ -110,8 +110,8 @@ module _ (plan : Plan) (laws : PrerequisiteLaws) (s : ServerState) (start : Sett
               ∙ append_assoc f.reads.before (Reading (Px q Ci) f.ci ∷ Reading (Px q Sact) f.sact ∷ f.reads.later) part.accesses;
           cmd_is_unwritten_before = f.reads.cmd_is_unwritten_before;
         };
-        exact = λ e slot own says.
-            let y = f.exact e slot own says in (
+        answered_iff_done = λ e slot own says.
+            let y = f.answered_iff_done e slot own says in (
               (λ ok. y.0 (
                 ok.0,
                 ok.1,
@@ -156,15 +156,15 @@ module _ (plan : Plan) (laws : PrerequisiteLaws) (s : ServerState) (start : Sett
 
       module _ (d : IsDone c p.accesses p.steps p.evidence q) where
         -- one that is left ready so far runs
-        runs_so_far : state_of (probe_result_of c.ports q.0) ≡ ReadyState → EngineRuns q.0 c.device
-        runs_so_far ready_c = (p.settled_invariant.in_call_invariant.port_invariant q.0 (ready_found c q.0 p.settled_invariant.in_call_invariant ready_c).0).engine_runs ready_c
+        runs_so_far : state_of (probe_result_of c.probe_results q.0) ≡ ReadyState → EngineRuns q.0 c.device
+        runs_so_far ready_c = (p.settled_invariant.in_call_invariant.port_invariant q.0 (ready_found c q.0 p.settled_invariant.in_call_invariant ready_c).0).ready_engine_runs ready_c
 
         -- where it was stopped so far and left ready, ST was set since the call began
-        set_since : state_of (probe_result_of c.ports q.0) ≡ ReadyState → IsStoppedOrStuck p.evidence q → length s.device.tape ≤ (c.device.port q.0).notes.st_set_at
+        set_since : state_of (probe_result_of c.probe_results q.0) ≡ ReadyState → IsStoppedOrStuck p.evidence q → length s.device.tape ≤ (c.device.port q.0).notes.st_set_at
         set_since ready_c i = ⊎_elim
             (λ stopped. ⊎_elim
-            (λ stops. laws.calls.set_since q p.accesses s.device c.device kept.adapter_is_on
-            (All-weaker (IsAccessForPorts (Uses plan old.ports)) (DoesNotWrite Ghc) (λ access serving. serving.1) p.accesses p.serving) p.turn_is_taken stops (runs_so_far ready_c).st)
+            (λ stops. laws.calls.stopped_port_set_st_since q p.accesses s.device c.device kept.adapter_is_on
+            (All-weaker (UsesPortsAndNotGhc (Uses plan old.ports)) (DoesNotWrite Ghc) (λ access serving. serving.1) p.accesses p.serving) p.turn_is_taken stops (runs_so_far ready_c).st_is_set)
             (λ (reset : _ × _). absurd (no_reset plan [] reset.0))
             (d.evidenced.stopped_only stopped))
             (λ stuck. ⊎_elim
@@ -177,12 +177,12 @@ module _ (plan : Plan) (laws : PrerequisiteLaws) (s : ServerState) (start : Sett
         same_self = (refl, refl, refl, refl, refl, refl)
 
         pub trouble_still : (evidence : Evidence) → EvidenceAgreesOn q p.evidence evidence → SamePort (ports_of c) (ports_of mid) q
-            → ((old.ports.state q ≡ ReadyState) ⊎ (state_of (probe_result_of c.ports q.0) ≡ ReadyState) → ShowsFailure (s.device.port q.0) ⊎ ShowsChange (s.device.port q.0) → IsStoppedOrStuck p.evidence q)
-            → (state_of (probe_result_of c.ports q.0) ≡ ReadyState → ((s.device.port q.0).link_due ≡ false) ⊎ ResetsLink q p.accesses)
+            → ((old.ports.state q ≡ ReadyState) ⊎ (state_of (probe_result_of c.probe_results q.0) ≡ ReadyState) → ShowsFailure (s.device.port q.0) ⊎ ShowsLinkChange (s.device.port q.0) → IsStoppedOrStuck p.evidence q)
+            → (state_of (probe_result_of c.probe_results q.0) ≡ ReadyState → ((s.device.port q.0).link_due ≡ false) ⊎ ResetsLink q p.accesses)
             → HandlesShownErrors q p.accesses began p.evidence (ports_of c) c.device → HandlesShownErrors q accesses began evidence (ports_of mid) mid.device
         trouble_still evidence alike same stops_troubled linked did = record {
-          loses_no_error = laws.calls.call_trouble q began old (ports_of c) (ports_of mid) mid.device p.evidence evidence kept.adapter_is_on t p.adapter_is_on same alike same_self set_since stops_troubled did.loses_no_error;
-          runs_well_anew = laws.calls.call_well q began old (ports_of c) (ports_of mid) mid.device p.evidence evidence kept.adapter_is_on t p.adapter_is_on linked same alike (λ ready_c. (runs_so_far ready_c).faults_are_recorded.st_set_is_on_tape) did.runs_well_anew;
+          loses_no_error = laws.calls.turn_trouble_is_calls q began old (ports_of c) (ports_of mid) mid.device p.evidence evidence kept.adapter_is_on t p.adapter_is_on same alike same_self set_since stops_troubled did.loses_no_error;
+          runs_well_anew = laws.calls.turn_running_well_is_calls q began old (ports_of c) (ports_of mid) mid.device p.evidence evidence kept.adapter_is_on t p.adapter_is_on linked same alike (λ ready_c. (runs_so_far ready_c).faults_are_recorded.st_set_is_on_tape) did.runs_well_anew;
         }
 
         -- a ready port
@@ -191,4 +191,4 @@ module _ (plan : Plan) (laws : PrerequisiteLaws) (s : ServerState) (start : Sett
           ready = sym (ap (λ (ports : Ports). ports.state q) ports_are) ∙ was_ready
 
           pub undue : (s.device.port q.0).link_due ≡ false
-          undue = ((kept.port_invariant q.0 (ready_found s q.0 kept ready).0).engine_runs ready).faults_are_recorded.no_link_is_due
+          undue = ((kept.port_invariant q.0 (ready_found s q.0 kept ready).0).ready_engine_runs ready).faults_are_recorded.no_link_is_due

@@ -16,21 +16,21 @@ use Rattle.adapter.specs.Access.{Access, DoesAll}
 use Rattle.adapter.specs.Commands.{is_queued}
 use Rattle.adapter.specs.Device.{Device}
 use Rattle.adapter.specs.Rules.{IsOn}
-use Rattle.refinement.specs.Driver.{IsBacked}
-use Rattle.block_machine.specs.Events.{AllAnswersLawful, AnswersEnded, AreStepsOfCall, ShownDiskWasInOrCame, IsToldBefore, AbstractState, NoneStaysIssued, Served, AnswersAllUnplugged, answers_of, reply_of}
+use Rattle.refinement.specs.Driver.{TapeBacksSteps}
+use Rattle.block_machine.specs.Events.{AnswersAndWaitsLawful, AnswersEnded, AreStepsOfCall, ShownDiskWasInOrCame, IsToldBefore, AbstractState, NoneStaysIssued, Replied, UnpluggedEmptiesPort, answers_of, reply_of}
 use Rattle.block_machine.specs.Histories.{JointState, IsReachable}
 use Rattle.block_machine.specs.Expected.{after}
-use Rattle.block_machine.specs.Ports.{Evidence, RequestFault, IsStoppedOrStuck, IsServiced, Ports, SameDisk, SamePort}
+use Rattle.block_machine.specs.Ports.{Evidence, RequestFault, IsStoppedOrStuck, IsServiced, Ports, SameSerialAndSize, SamePort}
 use Rattle.block_machine.specs.State.{Pending}
 use Rattle.block_machine.specs.Steps.{Step, WaitAgain, Answer}
 use Rattle.host_boot.specs.TakeOver.{probe_result_of}
 use Rattle.driver_history.specs.Evidence.{IsEvidencedOf, IsFaultTold}
-use Rattle.driver_history.specs.Histories.{FindsDone, HasUnservedDisk, IssuesDue, PortCorresponds}
+use Rattle.driver_history.specs.Histories.{FindsDone, IsForeignOrUnfit, IssuesDue, PortCorresponds}
 use Rattle.driver_history.specs.PortInvariants.{HasNoUnanswered}
 use Rattle.driver_history.specs.PortTurn.{EndsNoLinkDue, IsOfOtherPort}
-use Rattle.driver_history.specs.AccessTrace.{IsAccessForPorts, LeavesEngine, ResetsLink}
+use Rattle.driver_history.specs.AccessTrace.{UsesPortsAndNotGhc, LeavesEngine, ResetsLink}
 use Rattle.server_history.specs.Prerequisites.{PrerequisiteLaws}
-use Rattle.server_history.specs.Turns.{HandlesShownErrors, InService, IsStepOf, abstract_state_of, joint_event_of_turn}
+use Rattle.server_history.specs.Turns.{HandlesShownErrors, ServingReady, IsByDeviceOrOnSuchPort, abstract_state_of, joint_event_of_turn}
 use Rattle.server_history.proofs.whole_call.ServiceAndTick.{AService, ATick, OwesBy, Plan, TakesTurn, Uses, asks_for, owes_nothing, ready_takes}
 use Rattle.server_history.specs.ServerState.{ServerState, InCallInvariant, MachineRelation, SettledInvariant, mode_at, mode_in, ports_of, remembered_at, slots_at, state_of}
 use Rattle.server_history.proofs.state.DueRequests.{none_issued}
@@ -45,12 +45,12 @@ use Rattle.server_history.proofs.unready_turn.UnfitPort.{bad_tends}
 -- A tick has restarted the port.
 pub record IsRestarted (old : JointState Device) (port : Port) (accesses : List Access) (c : ServerState) (evidence : Evidence) (steps : List Step) : Type 0 where
   pub finds : FindsDone port accesses old steps
-  pub boots : (state_of (probe_result_of c.ports port.0) ≡ Dead) ⊎ ResetsLink port accesses
+  pub boots : (state_of (probe_result_of c.probe_results port.0) ≡ Dead) ⊎ ResetsLink port accesses
   pub ended : AnswersEnded old.abstract.machine steps port
   pub interrupts : IsStoppedOrStuck evidence port
   pub anew : NoneStaysIssued steps (after old.abstract.machine steps) port
   pub another : (e : Pending) → Contains steps (Answer e Unplugged) → e.request.port ≡ port
-      → (state_of (probe_result_of c.ports port.0) ≢ Dead) × (state_of (probe_result_of c.ports port.0) ≡ ReadyState → SameDisk old.abstract.ports (ports_of c) port → ⊥)
+      → (state_of (probe_result_of c.probe_results port.0) ≢ Dead) × (state_of (probe_result_of c.probe_results port.0) ≡ ReadyState → SameSerialAndSize old.abstract.ports (ports_of c) port → ⊥)
   pub disk : ShownDiskWasInOrCame old.abstract steps (abstract_state_of c (after old.abstract.machine steps)) port
   pub heeds : HandlesShownErrors port accesses old evidence (ports_of c) c.device
 
@@ -69,29 +69,29 @@ pub record HasTicked (hung : ℕ → Bool) (s : ServerState) (old : AbstractStat
 
 abbrev pub TiesSoFar : Plan → ServerState → AbstractState → Port → List Access → ServerState → Evidence → List Step → Type 0
 TiesSoFar AService s old port accesses c evidence steps =
-    PortCorresponds (record { device = s.device; abstract = old }) (joint_event_of_turn InService [] c evidence steps) accesses port × EndsNoLinkDue port (record { device = s.device; abstract = old }) (ports_of c) c.device
+    PortCorresponds (record { device = s.device; abstract = old }) (joint_event_of_turn ServingReady [] c evidence steps) accesses port × EndsNoLinkDue port (record { device = s.device; abstract = old }) (ports_of c) c.device
 TiesSoFar (ATick hung) s old port accesses c evidence steps = HasTicked hung s old port accesses c evidence steps
 
 -- nothing is done of a port that had no turn
-rested_ties : (plan : Plan) (s : ServerState) (old : AbstractState) (port : Port) (accesses : List Access) (c : ServerState) (evidence : Evidence) (steps : List Step) → old.ports ≡ ports_of s → (TakesTurn plan (probe_result_of s.ports port.0) → ⊥) → HasRested old port accesses c evidence steps
+rested_ties : (plan : Plan) (s : ServerState) (old : AbstractState) (port : Port) (accesses : List Access) (c : ServerState) (evidence : Evidence) (steps : List Step) → old.ports ≡ ports_of s → (TakesTurn plan (probe_result_of s.probe_results port.0) → ⊥) → HasRested old port accesses c evidence steps
     → TiesSoFar plan s old port accesses c evidence steps
 rested_ties AService s old port accesses c evidence steps ports_are not rests = (
   record {
     finds_done = λ ready. absurd (unready ready);
     plain_faults_are_told = λ alone. absurd (unready alone.ready);
     probes_disk = λ served comes. record {
-      shown = λ absent. absurd (not (sym (ap (λ (ports : Ports). ports.served port) ports_are) ∙ served, λ dead. let z : Absent ≡ Dead = sym absent ∙ state_was ∙ dead in cc));
-      absent = λ absent. absurd (not (sym (ap (λ (ports : Ports). ports.served port) ports_are) ∙ served, λ dead. let z : Absent ≡ Dead = sym absent ∙ state_was ∙ dead in cc));
-      missing = λ bad. absurd (no_bad bad);
-      changed = λ bad. absurd (no_bad bad);
+      absent_with_device_is_booted = λ absent. absurd (not (sym (ap (λ (ports : Ports). ports.served port) ports_are) ∙ served, λ dead. let z : Absent ≡ Dead = sym absent ∙ state_was ∙ dead in cc));
+      absent_gets_first_fis = λ absent. absurd (not (sym (ap (λ (ports : Ports). ports.served port) ports_are) ∙ served, λ dead. let z : Absent ≡ Dead = sym absent ∙ state_was ∙ dead in cc));
+      missing_disk_makes_absent = λ bad. absurd (no_bad bad);
+      changed_disk_is_booted = λ bad. absurd (no_bad bad);
     };
     boots_anew = (λ ready. absurd (unready ready), inl rests.same);
     loses_no_error = record {
-      errors = λ ready. absurd (unready ready);
-      changes = λ tends. absurd (not (sym (ap (λ (ports : Ports). ports.served port) ports_are) ∙ tends.0, λ dead. tends.1 (state_was ∙ dead)));
-      fault = λ ready. absurd (unready (sym rests.same.1 ∙ ready));
-      fatal = λ ready. absurd (unready (sym rests.same.1 ∙ ready));
-      disk = λ ready. absurd (unready (sym rests.same.1 ∙ ready));
+      errors_are_handled_or_shown = λ ready. absurd (unready ready);
+      changes_are_handled_or_shown = λ tends. absurd (not (sym (ap (λ (ports : Ports). ports.served port) ports_are) ∙ tends.0, λ dead. tends.1 (state_was ∙ dead)));
+      new_fault_is_shown = λ ready. absurd (unready (sym rests.same.1 ∙ ready));
+      new_fatal_is_shown = λ ready. absurd (unready (sym rests.same.1 ∙ ready));
+      new_plug_event_is_shown = λ ready. absurd (unready (sym rests.same.1 ∙ ready));
     };
     runs_well_anew = λ i. absurd (rests.uninterrupted i);
     handles_evidence = λ ready. absurd (unready ready);
@@ -99,14 +99,14 @@ rested_ties AService s old port accesses c evidence steps ports_are not rests = 
   λ bad. absurd (no_bad bad),
 )
   where
-    state_was : old.ports.state port ≡ state_of (probe_result_of s.ports port.0)
+    state_was : old.ports.state port ≡ state_of (probe_result_of s.probe_results port.0)
     state_was = ap (λ (ports : Ports). ports.state port) ports_are
 
     unready : old.ports.state port ≢ ReadyState
-    unready ready = not (ready_takes AService (probe_result_of s.ports port.0) (sym state_was ∙ ready))
+    unready ready = not (ready_takes AService (probe_result_of s.probe_results port.0) (sym state_was ∙ ready))
 
-    no_bad : HasUnservedDisk old.ports port → ⊥
-    no_bad bad = not (bad_tends (probe_result_of s.ports port.0) (⊎_elim (λ foreign. inl (sym state_was ∙ foreign)) (λ unfit. inr (unfit.0, sym state_was ∙ unfit.1)) bad))
+    no_bad : IsForeignOrUnfit old.ports port → ⊥
+    no_bad bad = not (bad_tends (probe_result_of s.probe_results port.0) (⊎_elim (λ foreign. inl (sym state_was ∙ foreign)) (λ unfit. inr (unfit.0, sym state_was ∙ unfit.1)) bad))
 rested_ties (ATick hung) s old port accesses c evidence steps ports_are not rests = record {
   restarted = λ ready. absurd (not (sym (ap (λ (ports : Ports). ports.state port) ports_are) ∙ ready));
   rested = λ _. rests;
@@ -122,11 +122,11 @@ module _ (plan : Plan) (laws : PrerequisiteLaws) (s : ServerState) (start : Sett
   began = record { device = s.device; abstract = old }
 
   abbrev pub state_at : ℕ → PortState
-  state_at q = state_of (probe_result_of s.ports q)
+  state_at q = state_of (probe_result_of s.probe_results q)
 
   -- ports that have turns, and those that had theirs
   abbrev pub Takes : Port → Type 0
-  Takes q = TakesTurn plan (probe_result_of s.ports q.0)
+  Takes q = TakesTurn plan (probe_result_of s.probe_results q.0)
 
   abbrev pub HadTurn : ℕ → Port → Type 0
   HadTurn n q = (q.0 < n) × Takes q
@@ -135,15 +135,15 @@ module _ (plan : Plan) (laws : PrerequisiteLaws) (s : ServerState) (start : Sett
   pub record IsDone (c : ServerState) (accesses : List Access) (steps : List Step) (evidence : Evidence) (q : Port) : Type 0 where
     pub becomes : IsServiced old.ports evidence (ports_of c) q
     pub disk : SamePort old.ports (ports_of c) q ⊎ ShownDiskWasInOrCame old steps (abstract_state_of c (after old.machine steps)) q
-    pub keeps : SameDisk old.ports (ports_of c) q ⊎ HasNoUnanswered (after old.machine steps) q
-    pub evidenced : IsEvidencedOf (asks_for plan) (Served []) accesses began (ports_of c) c.device evidence q
+    pub keeps : SameSerialAndSize old.ports (ports_of c) q ⊎ HasNoUnanswered (after old.machine steps) q
+    pub evidenced : IsEvidencedOf (asks_for plan) (Replied []) accesses began (ports_of c) c.device evidence q
     pub ties : TiesSoFar plan s old q accesses c evidence steps
 
   -- a fault that is told of a port that had its turn
   pub record HasTold (n : ℕ) (c : ServerState) (accesses : List Access) (told : RequestFault) : Type 0 where
     pub its : IsFaultTold began c.device accesses told
     pub served : HadTurn n its.pending.request.port
-    pub lives : is_queued its.serves.command.operation ≡ true → state_of (probe_result_of c.ports its.pending.request.port.0) ≢ Dead
+    pub lives : is_queued its.serves.command.operation ≡ true → state_of (probe_result_of c.probe_results its.pending.request.port.0) ≢ Dead
 
   -- Ports below this number had their turns, which led to this server with these replies.
   pub record Progress (n : ℕ) (c : ServerState) (replies : List Reply) : Type 0 where
@@ -152,19 +152,19 @@ module _ (plan : Plan) (laws : PrerequisiteLaws) (s : ServerState) (start : Sett
     pub adapter_is_on : IsOn c.device
     pub accesses : List Access
     pub turn_is_taken : DoesAll accesses s.device c.device
-    pub serving : All (IsAccessForPorts (Uses plan old.ports)) accesses
+    pub serving : All (UsesPortsAndNotGhc (Uses plan old.ports)) accesses
     pub others : (q : Port) → (HadTurn n q → ⊥) → All (IsOfOtherPort q) accesses
     pub steps : List Step
     pub turns : AreTurns old n steps
     pub machine_relation : MachineRelation c (after old.machine steps)
-    pub backed : IsBacked s.device c.device old.machine steps
+    pub backed : TapeBacksSteps s.device c.device old.machine steps
     pub belong : AreStepsOfCall (asks_for plan) (ports_of c) steps
     pub evidence : Evidence
     pub names : NamesSome (HadTurn n) evidence
     pub lost : All (λ q. state_at q.0 ≡ ReadyState) evidence.lost
-    pub lawful : AllAnswersLawful old evidence (ports_of c) steps
+    pub lawful : AnswersAndWaitsLawful old evidence (ports_of c) steps
     pub owes : OwesBy plan evidence steps
-    pub unplugs : AnswersAllUnplugged steps (after old.machine steps)
+    pub unplugs : UnpluggedEmptiesPort steps (after old.machine steps)
     pub answers : List (Pending × Outcome)
     pub permuted : IsPermutation answers (answers_of steps)
     pub book_is_in_order : AllPairs IsToldBefore answers
@@ -172,9 +172,9 @@ module _ (plan : Plan) (laws : PrerequisiteLaws) (s : ServerState) (start : Sett
     pub told : replies ≡ map reply_of answers
     pub faults : (told : RequestFault) → Contains evidence.faults told → HasTold n c accesses told
     pub done : (q : Port) → q.0 < n → IsDone c accesses steps evidence q
-    pub due : (q : Port) → state_of (probe_result_of c.ports q.0) ≡ ReadyState → IssuesDue (mode_in c q) steps (after old.machine steps) q
-    pub of : All (IsStepOf (HadTurn n)) steps
-    pub found : (q : Port) → (HadTurn n q → ⊥) → probe_result_of c.ports q.0 ≡ probe_result_of s.ports q.0
+    pub due : (q : Port) → state_of (probe_result_of c.probe_results q.0) ≡ ReadyState → IssuesDue (mode_in c q) steps (after old.machine steps) q
+    pub of : All (IsByDeviceOrOnSuchPort (HadTurn n)) steps
+    pub found : (q : Port) → (HadTurn n q → ⊥) → probe_result_of c.probe_results q.0 ≡ probe_result_of s.probe_results q.0
     pub remembered : (q : Port) → (HadTurn n q → ⊥) → remembered_at c.remembered q.0 ≡ remembered_at s.remembered q.0
     pub modes : (q : Port) → (HadTurn n q → ⊥) → mode_at c.modes q.0 ≡ mode_at s.modes q.0
     pub slots : (q : Port) → (HadTurn n q → ⊥) → slots_at c.slots q.0 ≡ slots_at s.slots q.0
@@ -186,7 +186,7 @@ module _ (plan : Plan) (laws : PrerequisiteLaws) (s : ServerState) (start : Sett
     adapter_is_on = kept.adapter_is_on;
     accesses = [];
     turn_is_taken = refl;
-    serving = All-nil (IsAccessForPorts (Uses plan old.ports));
+    serving = All-nil (UsesPortsAndNotGhc (Uses plan old.ports));
     others = λ q none. All-nil (IsOfOtherPort q);
     steps = [];
     turns = no_turns laws old reached;
@@ -214,7 +214,7 @@ module _ (plan : Plan) (laws : PrerequisiteLaws) (s : ServerState) (start : Sett
     faults = λ told here. absurd (nowhere told here);
     done = λ q lt. absurd (omega (arith, lt));
     due = λ q is_ready. none_issued s old.machine at [] (λ id. refl) (mode_in s q) q (start.nothing_is_due q);
-    of = All-nil (IsStepOf (HadTurn 0));
+    of = All-nil (IsByDeviceOrOnSuchPort (HadTurn 0));
     found = λ q none. refl;
     remembered = λ q none. refl;
     modes = λ q none. refl;
@@ -222,34 +222,34 @@ module _ (plan : Plan) (laws : PrerequisiteLaws) (s : ServerState) (start : Sett
   }
 
   -- the evidence doesn't name a port that had no turn
-  pub unnamed : (n : ℕ) (q : Port) → (HadTurn n q → ⊥) → (evidence : Evidence) → NamesSome (HadTurn n) evidence → (Contains evidence.lost q → ⊥) × (Contains evidence.link_changed q → ⊥) × (Contains evidence.failed q → ⊥)
-      × (Contains evidence.fatal q → ⊥) × (Contains evidence.stopped q → ⊥) × (Contains evidence.stuck q → ⊥)
+  pub unnamed : (n : ℕ) (q : Port) → (HadTurn n q → ⊥) → (evidence : Evidence) → NamesSome (HadTurn n) evidence → (Contains evidence.lost q → ⊥) × (Contains evidence.link_changed q → ⊥) × (Contains evidence.showing_error q → ⊥)
+      × (Contains evidence.showing_fatal_error q → ⊥) × (Contains evidence.stopped q → ⊥) × (Contains evidence.stuck q → ⊥)
   unnamed n q none evidence names = (
     (λ here. none (All-contains (HadTurn n) evidence.lost q names.lost here)),
     (λ here. none (All-contains (HadTurn n) evidence.link_changed q names.gone here)),
-    (λ here. none (All-contains (HadTurn n) evidence.failed q names.failed here)),
-    (λ here. none (All-contains (HadTurn n) evidence.fatal q names.fatal here)),
+    (λ here. none (All-contains (HadTurn n) evidence.showing_error q names.failed here)),
+    (λ here. none (All-contains (HadTurn n) evidence.showing_fatal_error q names.fatal here)),
     (λ here. none (All-contains (HadTurn n) evidence.stopped q names.stopped here)),
     (λ here. none (All-contains (HadTurn n) evidence.stuck q names.stuck here)),
   )
 
   pub others_leave : (q : Port) (accesses : List Access) → All (IsOfOtherPort q) accesses → All (LeavesEngine q) accesses
-  others_leave q accesses of = All-weaker (IsOfOtherPort q) (LeavesEngine q) (λ access x. (laws.of_spares x.0 q Cmd x.1 access x.2, laws.of_spares x.0 q Sctl x.1 access x.2)) accesses of
+  others_leave q accesses of = All-weaker (IsOfOtherPort q) (LeavesEngine q) (λ access x. (laws.one_port_spares_registers x.0 q Cmd x.1 access x.2, laws.one_port_spares_registers x.0 q Sctl x.1 access x.2)) accesses of
 
   -- nothing is asked of the evidence of a port that has no turn, and that it doesn't name
   none_evidenced : (accesses : List Access) (new : Device) (ports : Ports) (evidence : Evidence) (q : Port) → (Takes q → ⊥) → NamesSome Takes evidence → All (IsOfOtherPort q) accesses
-      → IsEvidencedOf (asks_for plan) (Served []) accesses began ports new evidence q
+      → IsEvidencedOf (asks_for plan) (Replied []) accesses began ports new evidence q
   none_evidenced accesses new ports evidence q not names of =
-      let was_ready : old.ports.state q ≡ ReadyState → ⊥ = λ is. not (ready_takes plan (probe_result_of s.ports q.0) (sym (ap (λ (ports : Ports). ports.state q) ports_are) ∙ is)) in
+      let was_ready : old.ports.state q ≡ ReadyState → ⊥ = λ is. not (ready_takes plan (probe_result_of s.probe_results q.0) (sym (ap (λ (ports : Ports). ports.state q) ports_are) ∙ is)) in
       record {
-        lost = λ here. absurd (not (All-contains Takes evidence.lost q names.lost here));
+        lost_only = λ here. absurd (not (All-contains Takes evidence.lost q names.lost here));
         link_changed_all = λ is. absurd (was_ready is);
         link_changed_only = λ here. absurd (not (All-contains Takes evidence.link_changed q names.gone here));
-        failed_all = λ is. absurd (was_ready is);
-        failed_only = λ here. absurd (not (All-contains Takes evidence.failed q names.failed here));
-        fatal_all = λ is. absurd (was_ready is);
-        fatal_only = λ here. absurd (not (All-contains Takes evidence.fatal q names.fatal here));
-        stopped_all = inl (others_leave q accesses of);
+        showing_error_all = λ is. absurd (was_ready is);
+        showing_error_only = λ here. absurd (not (All-contains Takes evidence.showing_error q names.failed here));
+        showing_fatal_error_all = λ is. absurd (was_ready is);
+        showing_fatal_error_only = λ here. absurd (not (All-contains Takes evidence.showing_fatal_error q names.fatal here));
+        engine_is_left_or_stopped = inl (others_leave q accesses of);
         stopped_only = λ here. absurd (not (All-contains Takes evidence.stopped q names.stopped here));
         stuck_only = λ here. absurd (not (All-contains Takes evidence.stuck q names.stuck here));
       }
@@ -265,9 +265,9 @@ module _ (plan : Plan) (laws : PrerequisiteLaws) (s : ServerState) (start : Sett
           λ dead. same,
           λ lives. (
             record {
-              served_is_kept = same.0;
+              served_is_unchanged = same.0;
               dead_is_stuck = (λ dead. absurd (lives (sym same.1 ∙ dead)), λ named. absurd (un.5 named));
-              disk_is_kept = λ x. (same.2, same.3);
+              disk_is_remembered = λ x. (same.2, same.3);
             },
             inl same,
           ),
@@ -285,7 +285,7 @@ module _ (plan : Plan) (laws : PrerequisiteLaws) (s : ServerState) (start : Sett
       }
 
   -- a port is passed over that has no turn
-  pub skipped : (n : ℕ) (c : ServerState) (replies : List Reply) → (TakesTurn plan (probe_result_of s.ports n) → ⊥) → Progress n c replies → Progress (n + 1) c replies
+  pub skipped : (n : ℕ) (c : ServerState) (replies : List Reply) → (TakesTurn plan (probe_result_of s.probe_results n) → ⊥) → Progress n c replies → Progress (n + 1) c replies
   skipped n c replies other p = record {
     settled_invariant = p.settled_invariant;
     wanted = p.wanted;
@@ -315,7 +315,7 @@ module _ (plan : Plan) (laws : PrerequisiteLaws) (s : ServerState) (start : Sett
         (λ (less : q.0 < n). p.done q less)
         (λ (most : n ≤ q.0).
         let same : n ≡ q.0 = omega (arith, lt, most) in
-        idle_done n c replies p q (λ takes. other (subst (λ (k : ℕ). TakesTurn plan (probe_result_of s.ports k)) (sym same) takes)))
+        idle_done n c replies p q (λ takes. other (subst (λ (k : ℕ). TakesTurn plan (probe_result_of s.probe_results k)) (sym same) takes)))
         (cases_lt q.0 n);
     due = p.due;
     of = all_of_ports (HadTurn n) (HadTurn (n + 1)) (λ q served. let small = served.0 in (omega (arith, small), served.1)) p.steps p.of;

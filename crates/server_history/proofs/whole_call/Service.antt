@@ -9,7 +9,7 @@ use Rattle.refinement.specs.Relation.{port_at}
 use Rattle.ata_types.specs.declared.request.Reply.{Reply}
 use Rattle.adapter.specs.Device.{Device}
 use Rattle.adapter.specs.declared.access.DeviceStep.{DeviceStep}
-use Rattle.block_machine.specs.Events.{AnswersService, UnansweredKeepDisk, AbstractState, Served, Service}
+use Rattle.block_machine.specs.Events.{AnswersService, UnansweredKeepSerialAndSize, AbstractState, Replied, Service}
 use Rattle.block_machine.specs.Histories.{JointState, JointEvent, IsReachable, joint_state_after}
 use Rattle.block_machine.specs.Expected.{after}
 use Rattle.block_machine.specs.Ports.{Ports}
@@ -23,8 +23,8 @@ use Rattle.driver_history.specs.Evidence.{IsEvidenced}
 use Rattle.request_queue.specs.BookRelation.{EntryRelation}
 use Rattle.server_history.specs.Histories.{ExtendsSettled, LeadsToServer}
 use Rattle.server_history.specs.Prerequisites.{PrerequisiteLaws}
-use Rattle.server_history.specs.Turns.{IsPortTurn, ServicePorts, ServicesPort, ProbesUnready}
-use Rattle.server_history.specs.Probing.{IsLookedAt}
+use Rattle.server_history.specs.Turns.{IsPortTurn, ServicesEachPort, ServicesPort, ProbesUnready}
+use Rattle.server_history.specs.Probing.{FindsReasonToBoot}
 use Rattle.server_history.specs.ServerState.{ServerState, InCallInvariant, MachineRelation, SettledInvariant, mode_in, ports_of, state_of}
 use Rattle.server_history.proofs.state.DueRequests.{none_due}
 use Rattle.server_history.proofs.start.NewServer.{kept_fit}
@@ -35,35 +35,35 @@ use Rattle.server_history.proofs.whole_call.ServiceAndTick.{AService, TakesTurn,
 use Rattle.server_history.proofs.whole_call.Progress.{IsDone, Progress, answered_was, begun, idle_done}
 use Rattle.server_history.proofs.whole_call.AllTurns.{Whole, go, turns_kept}
 
-module _ (laws : PrerequisiteLaws) (s new : ServerState) (replies : List Reply) (start : SettledInvariant s) (serves : ServicePorts 0 s.ports replies s new) (first : JointState Device) (past : List (JointEvent Device DeviceStep)) (leads : LeadsToServer first past s) where
+module _ (laws : PrerequisiteLaws) (s new : ServerState) (replies : List Reply) (start : SettledInvariant s) (serves : ServicesEachPort 0 s.probe_results replies s new) (first : JointState Device) (past : List (JointEvent Device DeviceStep)) (leads : LeadsToServer first past s) where
   abbrev old : AbstractState
   old = (joint_state_after first past).abstract
 
   at : MachineRelation s old.machine
-  at = leads.stands.machine_stands_for_it
+  at = leads.state_is_at_history_end.machine_stands_for_it
 
   same : old.ports ≡ ports_of s
-  same = leads.stands.ports_are
+  same = leads.state_is_at_history_end.ports_are
 
   reached : IsReachable old.machine
-  reached = laws.basic.history_reached s.wanted first past leads.history
+  reached = laws.steps_and_accesses.history_machine_is_reachable s.wanted first past leads.history
 
-  ready_part : (n : ℕ) (c mid : ServerState) (before its : List Reply) → state_of (probe_result_of s.ports n) ≡ ReadyState → Progress AService laws s start old reached at same n c before → ServicesPort (port_at n) its c mid
-      → IsPortTurn (turn_at AService (probe_result_of s.ports n) n) (port_at n) its c mid
+  ready_part : (n : ℕ) (c mid : ServerState) (before its : List Reply) → state_of (probe_result_of s.probe_results n) ≡ ReadyState → Progress AService laws s start old reached at same n c before → ServicesPort (port_at n) its c mid
+      → IsPortTurn (turn_at AService (probe_result_of s.probe_results n) n) (port_at n) its c mid
   ready_part n c mid before its is_ready_n p serves = subst (λ (found : ProbeResult). IsPortTurn (turn_at AService found n) (port_at n) its c mid) (sym (ready_found s n start.in_call_invariant is_ready_n).1.1) serves.is_port_turn
 
   -- a dead port is passed over
-  other_part : (n : ℕ) (c mid : ServerState) (before : List Reply) (state : PortState) → probe_result_of s.ports n ≡ Unready state → Progress AService laws s start old reached at same n c before → ProbesUnready (port_at n) c mid
-      → ((TakesTurn AService (probe_result_of s.ports n) → ⊥) × (mid ≡ c)) ⊎ (TakesTurn AService (probe_result_of s.ports n) × IsPortTurn (turn_at AService (probe_result_of s.ports n) n) (port_at n) [] c mid)
+  other_part : (n : ℕ) (c mid : ServerState) (before : List Reply) (state : PortState) → probe_result_of s.probe_results n ≡ Unready state → Progress AService laws s start old reached at same n c before → ProbesUnready (port_at n) c mid
+      → ((TakesTurn AService (probe_result_of s.probe_results n) → ⊥) × (mid ≡ c)) ⊎ (TakesTurn AService (probe_result_of s.probe_results n) × IsPortTurn (turn_at AService (probe_result_of s.probe_results n) n) (port_at n) [] c mid)
   other_part n c mid before state is p probes = ⊎_elim
       (λ (dead : state ≡ Dead).
       let its_state : probes.does_turn.state ≡ Dead =
       let found : Unready probes.does_turn.state ≡ Unready state = sym probes.does_turn.unready_state_is ∙ p.found (port_at n) (λ served. let lt = served.0 in omega (arith, lt)) ∙ is in
       (let one : probes.does_turn.state ≡ state = cc in one) ∙ dead in
-      let looks = subst (λ (of : PortState). IsLookedAt of (port_at n) probes.does_turn.result c.device probes.does_turn.seen) its_state probes.does_turn.is_looked_at in
+      let looks = subst (λ (of : PortState). FindsReasonToBoot of (port_at n) probes.does_turn.has_found_something c.device probes.does_turn.device_after_look) its_state probes.does_turn.is_looked_at in
       inl (
         λ takes. takes.1 (ap state_of is ∙ dead),
-        probes.does_turn.left looks.0 ∙ ap (λ (d : Device). record c { device = d }) looks.1,
+        probes.does_turn.is_left_if_not_found looks.0 ∙ ap (λ (d : Device). record c { device = d }) looks.1,
       ))
       (λ (lives : state ≢ Dead). inr (
         subst (TakesTurn AService) (sym is) (refl, lives),
@@ -72,7 +72,7 @@ module _ (laws : PrerequisiteLaws) (s new : ServerState) (replies : List Reply) 
       (dead_or_not state)
 
   ends : Whole AService laws s start old reached at same new replies
-  ends = go AService laws s start old reached at same ServicesPort ProbesUnready ready_part other_part s.ports 0 (λ i. ap (λ (k : ℕ). probe_result_of s.ports k) (omega arith)) s new [] replies (begun AService laws s start old reached at same) serves
+  ends = go AService laws s start old reached at same ServicesPort ProbesUnready ready_part other_part s.probe_results 0 (λ i. ap (λ (k : ℕ). probe_result_of s.probe_results k) (omega arith)) s new [] replies (begun AService laws s start old reached at same) serves
 
   p : Progress AService laws s start old reached at same ends.count new replies
   p = ends.progress
@@ -86,7 +86,7 @@ module _ (laws : PrerequisiteLaws) (s new : ServerState) (replies : List Reply) 
   abbrev end : AbstractState
   end = record { machine = after old.machine p.steps; ports = ports_of new }
 
-  is_ready : (port : Port) → old.ports.state port ≡ state_of (probe_result_of s.ports port.0)
+  is_ready : (port : Port) → old.ports.state port ≡ state_of (probe_result_of s.probe_results port.0)
   is_ready port = ap (λ (ports : Ports). ports.state port) same
 
   -- what is so of each port at the end
@@ -96,16 +96,16 @@ module _ (laws : PrerequisiteLaws) (s new : ServerState) (replies : List Reply) 
       (λ most. idle_done AService laws s start old reached at same ends.count new replies p port (ends.steps_since port.0 most))
       (cases_lt port.0 ends.count)
 
-  none_waits : (port : Port) → state_of (probe_result_of new.ports port.0) ≢ ReadyState → (e : Pending) → Contains (after old.machine p.steps).book e → e.request.port ≢ port
+  none_waits : (port : Port) → state_of (probe_result_of new.probe_results port.0) ≢ ReadyState → (e : Pending) → Contains (after old.machine p.steps).book e → e.request.port ≢ port
   none_waits port other e here own =
       let a = at_right EntryRelation new.book (after old.machine p.steps).book p.machine_relation.book e here in
-      other (ap (λ (q : Port). state_of (probe_result_of new.ports q.0)) (sym own ∙ a.2.port) ∙ of_ready new holds a.0 a.1)
+      other (ap (λ (q : Port). state_of (probe_result_of new.probe_results q.0)) (sym own ∙ a.2.port) ∙ of_ready new holds a.0 a.1)
 
   all_answered : AnswersService old p.evidence p.steps replies end
   all_answered = record {
-    replies_match = record { answers = p.answers; is_permutation = p.permuted; ordered = p.book_is_in_order; replies_are = p.told };
-    tells_dead = λ e o h dead. absurd ((answered_was AService laws s start old reached at same ends.count new replies p e o h).1 (sym (is_ready e.request.port) ∙ dead));
-    answers_all_unplugged = p.unplugs;
+    replies_match = record { answers = p.answers; is_permutation = p.permuted; ordered = p.book_is_in_order; replies_are_of_answers = p.told };
+    dead_ports_tell_only_port_dead = λ e o h dead. absurd ((answered_was AService laws s start old reached at same ends.count new replies p e o h).1 (sym (is_ready e.request.port) ∙ dead));
+    unplugged_empties_port = p.unplugs;
     none_is_due = λ port ready. none_due new (after old.machine p.steps) p.machine_relation (mode_in new port) port (p.settled_invariant.nothing_is_due port);
     empty_unless_ready = none_waits;
     answers_ended = λ port ready. ((done port).ties.0.handles_evidence ready).answers_ended;
@@ -113,37 +113,37 @@ module _ (laws : PrerequisiteLaws) (s new : ServerState) (replies : List Reply) 
     shown_disk_was_in_or_came = λ port. (done port).disk;
   }
 
-  keeps : UnansweredKeepDisk old end
+  keeps : UnansweredKeepSerialAndSize old end
   keeps e o here was same_id = ⊎_elim (λ d. d) (λ none. absurd (none e here refl)) (done e.request.port).keeps
 
-  evidenced : IsEvidenced Service (Served replies) p.accesses began (ports_of new) new.device p.evidence
+  evidenced : IsEvidenced Service (Replied replies) p.accesses began (ports_of new) new.device p.evidence
   evidenced = record {
-    faults = λ told here. (p.faults told here).its;
-    port = λ port.
+    faults_are_told = λ told here. (p.faults told here).its;
+    each_port_is_evidenced = λ port.
         let v = (done port).evidenced in
         record {
-          lost = v.lost;
+          lost_only = v.lost_only;
           link_changed_all = v.link_changed_all;
           link_changed_only = v.link_changed_only;
-          failed_all = v.failed_all;
-          failed_only = v.failed_only;
-          fatal_all = v.fatal_all;
-          fatal_only = v.fatal_only;
-          stopped_all = v.stopped_all;
+          showing_error_all = v.showing_error_all;
+          showing_error_only = v.showing_error_only;
+          showing_fatal_error_all = v.showing_fatal_error_all;
+          showing_fatal_error_only = v.showing_fatal_error_only;
+          engine_is_left_or_stopped = v.engine_is_left_or_stopped;
           stopped_only = v.stopped_only;
           stuck_only = v.stuck_only;
         };
   }
 
   -- what the service has done of each port
-  port_part : (port : Port) → PortCorresponds began (happening_with p.evidence new.device Service (Served replies) p.steps (ports_of new)) p.accesses port
+  port_part : (port : Port) → PortCorresponds began (happening_with p.evidence new.device Service (Replied replies) p.steps (ports_of new)) p.accesses port
   port_part port =
       let did = (done port).ties.0 in
       record { finds_done = did.finds_done; plain_faults_are_told = did.plain_faults_are_told; probes_disk = did.probes_disk; boots_anew = did.boots_anew; loses_no_error = did.loses_no_error; runs_well_anew = did.runs_well_anew; handles_evidence = did.handles_evidence }
 
-  pub service_event : (h : JointEvent Device DeviceStep) × (h.event.ask ≡ Service) × (h.event.said ≡ Served replies) × LeadsToServer first (h ∷ past) new
+  pub service_event : (h : JointEvent Device DeviceStep) × (h.event.call ≡ Service) × (h.event.result ≡ Replied replies) × LeadsToServer first (h ∷ past) new
   service_event =
-      lead_with laws first past s new Service (Served replies) p.evidence p.steps p.wanted leads (holding new holds) (kept_fit new holds)
+      lead_with laws first past s new Service (Replied replies) p.evidence p.steps p.wanted leads (holding new holds) (kept_fit new holds)
       p.turns.may p.belong p.turns.last p.lawful keeps all_answered p.owes
       p.accesses
       (p.turn_is_taken, p.serving)
@@ -152,5 +152,5 @@ module _ (laws : PrerequisiteLaws) (s new : ServerState) (replies : List Reply) 
       port_part
       p.backed p.machine_relation
 
-pub law_services_extend_history : PrerequisiteLaws → (s new : ServerState) (replies : List Reply) → SettledInvariant s → ServicePorts 0 s.ports replies s new → ExtendsSettled s new Service (Served replies)
-law_services_extend_history laws s new replies start serves = record { settled_invariant = turns_kept ServicesPort ProbesUnready s.ports 0 s new replies start serves; extends_history = λ first past leads. service_event laws s new replies start serves first past leads }
+pub law_services_extend_history : PrerequisiteLaws → (s new : ServerState) (replies : List Reply) → SettledInvariant s → ServicesEachPort 0 s.probe_results replies s new → ExtendsSettled s new Service (Replied replies)
+law_services_extend_history laws s new replies start serves = record { settled_invariant = turns_kept ServicesPort ProbesUnready s.probe_results 0 s new replies start serves; extends_history = λ first past leads. service_event laws s new replies start serves first past leads }

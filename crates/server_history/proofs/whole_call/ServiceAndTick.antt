@@ -10,19 +10,19 @@ use Rattle.ata_types.specs.declared.request.Reply.{Reply}
 use Rattle.adapter.specs.Access.{Access}
 use Rattle.adapter.specs.Device.{Device}
 use Rattle.adapter.specs.declared.access.DeviceStep.{DeviceStep}
-use Rattle.block_machine.specs.Events.{AbstractCall, AreStepsOfCall, IsByServer, Served, Service, Tick}
+use Rattle.block_machine.specs.Events.{AbstractCall, AreStepsOfCall, IsByServer, Replied, Service, Tick}
 use Rattle.block_machine.specs.Histories.{JointState}
 use Rattle.block_machine.specs.Ports.{Evidence, Ports}
 use Rattle.block_machine.specs.State.{Machine, Pending}
 use Rattle.block_machine.specs.Steps.{Step, WaitAgain, Answer, Issue}
 use Rattle.block_machine.specs.declared.due.QueueMode.{QueueMode}
-use Rattle.driver_history.specs.EvidenceHandling.{OnlyFailedPortsRequeue}
+use Rattle.driver_history.specs.EvidenceHandling.{OnlyFailedPortsRequeueOrFault}
 use Rattle.driver_history.specs.Evidence.{IsEndedReset, IsEvidencedOf}
-use Rattle.driver_history.specs.Histories.{IsPortAlive}
+use Rattle.driver_history.specs.Histories.{IsServedAndNotDead}
 use Rattle.host_boot.specs.declared.ProbeResult.{ProbeResult}
 use Rattle.host_boot.specs.declared.ProbeResult.TheVariants.{Ready, Unready, Unserved}
 use Rattle.server_history.specs.ServerState.{ServerState, is_served, state_of}
-use Rattle.server_history.specs.Turns.{AtRest, InRestart, InService, InProbe, IsStepOf, MeetsTurnDuty, Turn, ask_of_turn}
+use Rattle.server_history.specs.Turns.{RestingInTick, InRestart, ServingReady, InProbe, IsByDeviceOrOnSuchPort, MeetsTurnDuty, Turn, ask_of_turn}
 use Rattle.server_history.proofs.any_turn.JoinedParts.{joined}
 use Rattle.server_history.proofs.state.CallEvidence.{no_evidence}
 use Rattle.server_history.proofs.any_turn.TurnsInOrder.{grounded_join, grounded_on}
@@ -34,9 +34,9 @@ pub data Plan : Type 0 where
 
 -- the turn of a port in it, which was found so
 abbrev pub turn_at : Plan → ProbeResult → ℕ → Turn
-turn_at AService (Ready info) n = InService
+turn_at AService (Ready info) n = ServingReady
 turn_at AService found n = InProbe
-turn_at (ATick hung) found n = if hung n then InRestart else AtRest
+turn_at (ATick hung) found n = if hung n then InRestart else RestingInTick
 
 -- a port that was found so has a turn in it: in a service each that is served, but for dead ones; in a tick each that is ready
 abbrev pub TakesTurn : Plan → ProbeResult → Type 0
@@ -53,7 +53,7 @@ asks_so AService (Unready state) n = refl
 asks_so AService Unserved n = refl
 asks_so (ATick hung) found n = by (hung n)
   where
-    by : (b : Bool) → ask_of_turn (if b then InRestart else AtRest) ≡ Tick
+    by : (b : Bool) → ask_of_turn (if b then InRestart else RestingInTick) ≡ Tick
     by true = refl
     by false = refl
 
@@ -71,12 +71,12 @@ unserved_waits (ATick hung) takes = let z : Absent ≡ ReadyState = takes in cc
 
 -- which ports' registers it uses
 abbrev pub Uses : Plan → Ports → Port → Type 0
-Uses AService ports port = IsPortAlive ports port
+Uses AService ports port = IsServedAndNotDead ports port
 Uses (ATick hung) ports port = (ports.state port ≡ ReadyState) × (hung port.0 ≡ true)
 
 -- what it owes by its evidence
 abbrev pub OwesBy : Plan → Evidence → List Step → Type 0
-OwesBy AService evidence steps = OnlyFailedPortsRequeue evidence steps
+OwesBy AService evidence steps = OnlyFailedPortsRequeueOrFault evidence steps
 OwesBy (ATick hung) evidence steps = evidence.faults ≡ []
 
 pub owes_nothing : (plan : Plan) → OwesBy plan no_evidence []
@@ -99,49 +99,49 @@ answers_on AService old new e o is = is
 answers_on (ATick hung) old new e o is = is
 
 -- steps belong to a call after which these ports are what they were
-pub belong_on : (plan : Plan) (Such : Port → Type 0) (old new : Ports) → ((q : Port) → Such q → (new.state q ≡ old.state q) × (new.mode q ≡ old.mode q)) → (steps : List Step) → All (IsStepOf Such) steps → AreStepsOfCall (asks_for plan) old steps
+pub belong_on : (plan : Plan) (Such : Port → Type 0) (old new : Ports) → ((q : Port) → Such q → (new.state q ≡ old.state q) × (new.mode q ≡ old.mode q)) → (steps : List Step) → All (IsByDeviceOrOnSuchPort Such) steps → AreStepsOfCall (asks_for plan) old steps
     → AreStepsOfCall (asks_for plan) new steps
 belong_on plan Such old new same [] all a = tt
 belong_on plan Such old new same (Issue mode e ∷ steps) all a = (
-  belong_on plan Such old new same steps (All-tail (IsStepOf Such) (Issue mode e) steps all) a.0,
+  belong_on plan Such old new same steps (All-tail (IsByDeviceOrOnSuchPort Such) (Issue mode e) steps all) a.0,
   ⊎_elim (λ d. absurd d)
-      (λ is. let w = same e.request.port (All-head (IsStepOf Such) (Issue mode e) steps all) in inr (issues_on plan old new mode e w.0 w.1 is))
+      (λ is. let w = same e.request.port (All-head (IsByDeviceOrOnSuchPort Such) (Issue mode e) steps all) in inr (issues_on plan old new mode e w.0 w.1 is))
       a.1,
 )
 belong_on plan Such old new same (WaitAgain e ∷ steps) all a = (
-  belong_on plan Such old new same steps (All-tail (IsStepOf Such) (WaitAgain e) steps all) a.0,
-  ⊎_elim (λ d. absurd d) (λ is. let w = same e.request.port (All-head (IsStepOf Such) (WaitAgain e) steps all) in inr (again_on plan old new e w.0 is)) a.1,
+  belong_on plan Such old new same steps (All-tail (IsByDeviceOrOnSuchPort Such) (WaitAgain e) steps all) a.0,
+  ⊎_elim (λ d. absurd d) (λ is. let w = same e.request.port (All-head (IsByDeviceOrOnSuchPort Such) (WaitAgain e) steps all) in inr (again_on plan old new e w.0 is)) a.1,
 )
 belong_on plan Such old new same (Answer e o ∷ steps) all a = (
-  belong_on plan Such old new same steps (All-tail (IsStepOf Such) (Answer e o) steps all) a.0,
+  belong_on plan Such old new same steps (All-tail (IsByDeviceOrOnSuchPort Such) (Answer e o) steps all) a.0,
   ⊎_elim (λ d. absurd d) (λ is. inr (answers_on plan old new e o is)) a.1,
 )
-belong_on plan Such old new same (step ∷ steps) all a = (belong_on plan Such old new same steps (All-tail (IsStepOf Such) step steps all) a.0, inl (All-head (IsStepOf Such) step steps all))
+belong_on plan Such old new same (step ∷ steps) all a = (belong_on plan Such old new same steps (All-tail (IsByDeviceOrOnSuchPort Such) step steps all) a.0, inl (All-head (IsByDeviceOrOnSuchPort Such) step steps all))
 
 -- of what is said, evidence asks nothing
-pub any_said : (plan : Plan) (one other : List Reply) (made : List Access) (i : JointState Device) (ports : Ports) (d : Device) (e : Evidence) (q : Port) → IsEvidencedOf (asks_for plan) (Served one) made i ports d e q
-    → IsEvidencedOf (asks_for plan) (Served other) made i ports d e q
+pub any_said : (plan : Plan) (one other : List Reply) (made : List Access) (i : JointState Device) (ports : Ports) (d : Device) (e : Evidence) (q : Port) → IsEvidencedOf (asks_for plan) (Replied one) made i ports d e q
+    → IsEvidencedOf (asks_for plan) (Replied other) made i ports d e q
 any_said AService one other made i ports d e q v = record {
-  lost = v.lost;
+  lost_only = v.lost_only;
   link_changed_all = v.link_changed_all;
   link_changed_only = v.link_changed_only;
-  failed_all = v.failed_all;
-  failed_only = v.failed_only;
-  fatal_all = v.fatal_all;
-  fatal_only = v.fatal_only;
-  stopped_all = v.stopped_all;
+  showing_error_all = v.showing_error_all;
+  showing_error_only = v.showing_error_only;
+  showing_fatal_error_all = v.showing_fatal_error_all;
+  showing_fatal_error_only = v.showing_fatal_error_only;
+  engine_is_left_or_stopped = v.engine_is_left_or_stopped;
   stopped_only = v.stopped_only;
   stuck_only = v.stuck_only;
 }
 any_said (ATick hung) one other made i ports d e q v = record {
-  lost = v.lost;
+  lost_only = v.lost_only;
   link_changed_all = v.link_changed_all;
   link_changed_only = v.link_changed_only;
-  failed_all = v.failed_all;
-  failed_only = v.failed_only;
-  fatal_all = v.fatal_all;
-  fatal_only = v.fatal_only;
-  stopped_all = v.stopped_all;
+  showing_error_all = v.showing_error_all;
+  showing_error_only = v.showing_error_only;
+  showing_fatal_error_all = v.showing_fatal_error_all;
+  showing_fatal_error_only = v.showing_fatal_error_only;
+  engine_is_left_or_stopped = v.engine_is_left_or_stopped;
   stopped_only = v.stopped_only;
   stuck_only = v.stuck_only;
 }
@@ -150,10 +150,10 @@ any_said (ATick hung) one other made i ports d e q v = record {
 pub owes_join : (plan : Plan) (found : ProbeResult) (n : ℕ) (port : Port) (accesses : List Access) (old new : ServerState) (m : Machine) (early its : Evidence) (steps late : List Step) → OwesBy plan early steps → MeetsTurnDuty (turn_at plan found n) port accesses old new m its late
     → OwesBy plan (joined early its) (late ++ steps)
 owes_join AService found n port accesses old new m early its steps late so_far turn = grounded_join (joined early its) late steps
-    (grounded_on its (joined early its) (λ q there. Contains-append_right early.failed its.failed q there) late (by found turn))
-    (grounded_on early (joined early its) (λ q there. Contains-append_left early.failed its.failed q there) steps so_far)
+    (grounded_on its (joined early its) (λ q there. Contains-append_right early.showing_error its.showing_error q there) late (by found turn))
+    (grounded_on early (joined early its) (λ q there. Contains-append_left early.showing_error its.showing_error q there) steps so_far)
   where
-    by : (was : ProbeResult) → MeetsTurnDuty (turn_at AService was n) port accesses old new m its late → OnlyFailedPortsRequeue its late
+    by : (was : ProbeResult) → MeetsTurnDuty (turn_at AService was n) port accesses old new m its late → OnlyFailedPortsRequeueOrFault its late
     by (Ready info) o = o
     by (Unready state) o = o.0
     by Unserved o = o.0
@@ -162,7 +162,7 @@ owes_join (ATick hung) found n port accesses old new m early its steps late so_f
     none : its.faults ≡ [] → early.faults ++ its.faults ≡ []
     none is = ap (λ list. list ++ its.faults) so_far ∙ is
 
-    by : (b : Bool) → MeetsTurnDuty (if b then InRestart else AtRest) port accesses old new m its late → early.faults ++ its.faults ≡ []
+    by : (b : Bool) → MeetsTurnDuty (if b then InRestart else RestingInTick) port accesses old new m its late → early.faults ++ its.faults ≡ []
     by true (restarts, is) = none is
     by false (made, did, is, uninterrupted) = none is
 
@@ -175,16 +175,16 @@ ready_or_silent AService Unserved n port accesses old new m its steps takes o = 
 ready_or_silent (ATick hung) found n port accesses old new m its steps takes o = inl takes
 
 -- it is no reset
-pub not_reset : (plan : Plan) (found : ProbeResult) (n : ℕ) (said : List Reply) → IsEndedReset (ask_of_turn (turn_at plan found n)) (Served said) → ⊥
+pub not_reset : (plan : Plan) (found : ProbeResult) (n : ℕ) (said : List Reply) → IsEndedReset (ask_of_turn (turn_at plan found n)) (Replied said) → ⊥
 not_reset AService (Ready info) n said is = is
 not_reset AService (Unready state) n said is = is
 not_reset AService Unserved n said is = is
 not_reset (ATick hung) found n said is = by (hung n) is
   where
-    by : (b : Bool) → IsEndedReset (ask_of_turn (if b then InRestart else AtRest)) (Served said) → ⊥
+    by : (b : Bool) → IsEndedReset (ask_of_turn (if b then InRestart else RestingInTick)) (Replied said) → ⊥
     by true reset = reset
     by false reset = reset
 
-pub no_reset : (plan : Plan) (said : List Reply) → IsEndedReset (asks_for plan) (Served said) → ⊥
+pub no_reset : (plan : Plan) (said : List Reply) → IsEndedReset (asks_for plan) (Replied said) → ⊥
 no_reset AService said is = is
 no_reset (ATick hung) said is = is

@@ -16,7 +16,7 @@ use Rattle.adapter.specs.Rules.{InUse, IsOn}
 use Rattle.refinement.specs.Relation.{port_at}
 use Rattle.refinement.specs.PortFacts.{RecordsFaults, ShowsFault}
 use Rattle.refinement.specs.Slots.{ServesRequest}
-use Rattle.block_machine.specs.Events.{AbstractState, Served, Service, changes_disk}
+use Rattle.block_machine.specs.Events.{AbstractState, Replied, Service, changes_disk}
 use Rattle.block_machine.specs.Histories.{JointState, IsReachable}
 use Rattle.block_machine.specs.Expected.{after}
 use Rattle.block_machine.specs.Ports.{Evidence, IsStoppedOrStuck, SamePort}
@@ -25,11 +25,11 @@ use Rattle.block_machine.specs.Steps.{Step, Answer}
 use Rattle.host_boot.specs.TakeOver.{probe_result_of}
 use Rattle.host_boot.specs.declared.ProbeResult.{ProbeResult}
 use Rattle.driver_history.specs.EvidenceHandling.{ToldOkOr, IsLeftAlone, ServicesReadyPort, tells_fault}
-use Rattle.driver_history.specs.Evidence.{ShowsChange, ShowsFailure}
-use Rattle.driver_history.specs.Histories.{BootsAnew, FindsDone, HasUnservedDisk, HasOnlyTaskFileError, IsAnsweredFaulty, IsIssuedOn, PortCorresponds}
+use Rattle.driver_history.specs.Evidence.{ShowsLinkChange, ShowsFailure}
+use Rattle.driver_history.specs.Histories.{BootsAnew, FindsDone, IsForeignOrUnfit, HasOnlyTaskFileError, IsAnsweredFaulty, IsIssuedOn, PortCorresponds}
 use Rattle.driver_history.specs.PortTurn.{HasTurnIn, EvidenceAgreesOn}
 use Rattle.server_history.specs.Prerequisites.{PrerequisiteLaws}
-use Rattle.server_history.specs.Turns.{IsPortTurn, HandlesShownErrors, InService, SimulatesTurn, TurnCorresponds, Turn, joint_state_of, abstract_state_of, joint_event_of_turn}
+use Rattle.server_history.specs.Turns.{IsPortTurn, HandlesShownErrors, ServingReady, SimulatesTurn, TurnCorresponds, Turn, joint_state_of, abstract_state_of, joint_event_of_turn}
 use Rattle.server_history.specs.ServerState.{HasStoredCommand, ServerState, InCallInvariant, MachineRelation, SettledInvariant, ports_of, state_of}
 use Rattle.server_history.proofs.any_turn.JoinedParts.{same_then}
 use Rattle.server_history.proofs.whole_call.TurnResults as lifting
@@ -47,17 +47,17 @@ module _ (laws : PrerequisiteLaws) (s : ServerState) (start : SettledInvariant s
   began = record { device = s.device; abstract = old }
 
   abbrev state_at : ℕ → PortState
-  state_at q = state_of (probe_result_of s.ports q)
+  state_at q = state_of (probe_result_of s.probe_results q)
 
   abbrev Progress : ℕ → ServerState → List Reply → Type 0
   Progress n c replies = progress.Progress AService laws s start old reached at ports_are n c replies
 
-  module _ (n : ℕ) (c mid : ServerState) (before its : List Reply) (ready : state_at n ≡ ReadyState) (p : Progress n c before) (next : SettledInvariant mid) (part : IsPortTurn (turn_at AService (probe_result_of s.ports n) n) (port_at n) its c mid)
+  module _ (n : ℕ) (c mid : ServerState) (before its : List Reply) (ready : state_at n ≡ ReadyState) (p : Progress n c before) (next : SettledInvariant mid) (part : IsPortTurn (turn_at AService (probe_result_of s.probe_results n) n) (port_at n) its c mid)
       (m_reached : IsReachable (after old.machine p.steps)) (on_mid : IsOn mid.device) where
     abbrev m : Machine
     m = after old.machine p.steps
 
-    abbrev x : SimulatesTurn (turn_at AService (probe_result_of s.ports n) n) (port_at n) its part.accesses c mid m
+    abbrev x : SimulatesTurn (turn_at AService (probe_result_of s.probe_results n) n) (port_at n) its part.accesses c mid m
     x = part.simulates_turn m m_reached p.machine_relation
 
     abbrev all : List Step
@@ -67,16 +67,16 @@ module _ (laws : PrerequisiteLaws) (s : ServerState) (start : SettledInvariant s
     accesses = p.accesses ++ part.accesses
 
     -- it is ready, and so its turn is one in which it is served
-    is_service : turn_at AService (probe_result_of s.ports n) n ≡ InService
+    is_service : turn_at AService (probe_result_of s.probe_results n) n ≡ ServingReady
     is_service = ap (λ (found : ProbeResult). turn_at AService found n) (ready_found s n kept ready).1.1
 
-    its_ties : TurnCorresponds InService (port_at n) its part.accesses c mid m x.evidence x.steps
+    its_ties : TurnCorresponds ServingReady (port_at n) its part.accesses c mid m x.evidence x.steps
     its_ties = subst (λ (turn : Turn). TurnCorresponds turn (port_at n) its part.accesses c mid m x.evidence x.steps) is_service x.turn_corresponds
 
     low : n < 4
     low = lifting.low AService laws s start old reached at ports_are n c mid before its p next part m_reached on_mid ready
 
-    ready_c : state_of (probe_result_of c.ports n) ≡ ReadyState
+    ready_c : state_of (probe_result_of c.probe_results n) ≡ ReadyState
     ready_c = lifting.ready_c AService laws s start old reached at ports_are n c mid before its p next part m_reached on_mid ready
 
     was_ready : old.ports.state (port_at n) ≡ ReadyState
@@ -104,7 +104,7 @@ module _ (laws : PrerequisiteLaws) (s : ServerState) (start : SettledInvariant s
     whole_is = lifting.whole_is AService laws s start old reached at ports_are n c mid before its p next part m_reached on_mid
 
     module _ (evidence : Evidence) (alike : EvidenceAgreesOn (port_at n) x.evidence evidence) (same_n : SamePort old.ports (ports_of c) (port_at n)) where
-      abbrev did : PortCorresponds (joint_state_of c m) (joint_event_of_turn InService its mid x.evidence x.steps) part.accesses (port_at n)
+      abbrev did : PortCorresponds (joint_state_of c m) (joint_event_of_turn ServingReady its mid x.evidence x.steps) part.accesses (port_at n)
       did = its_ties
 
       abbrev serves : ServicesReadyPort (abstract_state_of c m) x.evidence x.steps (record { machine = after m x.steps; ports = ports_of mid }) (port_at n)
@@ -129,23 +129,23 @@ module _ (laws : PrerequisiteLaws) (s : ServerState) (start : SettledInvariant s
         used_plain : it.has.used.queued ≡ false
         used_plain =
             let k = subst (HasStoredCommand it.has.used.queued s.device n) (sym its_slot) (kept.slots_store_commands n it.has.slot it.has.used (sym (lifting.used_then AService laws s start old reached at ports_are n c mid before its p next part m_reached on_mid ready it.has.slot) ∙ it.has.used_is)) in
-            let same = laws.slots.one_said s.device.memory (s.device.port n).bases.clb slot says.command k.command says.places k.places says.slot_decodes_to.decodes_to k.stored.slot_decodes_to.decodes_to in
-            sym k.kind ∙ sym (ap (λ (y : Meaning). is_queued y.operation) same.0) ∙ plain
+            let same = laws.slots.decoding_is_unique s.device.memory (s.device.port n).bases.clb slot says.command k.command says.places k.places says.slot_decodes_to.decodes_to k.stored.slot_decodes_to.decodes_to in
+            sym k.is_queued_as_given ∙ sym (ap (λ (y : Meaning). is_queued y.operation) same.0) ∙ plain
 
         plain_now : is_queued (lifting.by AService laws s start old reached at ports_are n c mid before its p next part m_reached on_mid ready e it).serves.command.operation ≡ false
         plain_now =
             let k = p.settled_invariant.in_call_invariant.slots_store_commands n it.has.slot it.has.used it.has.used_is in
             let its = (lifting.by AService laws s start old reached at ports_are n c mid before its p next part m_reached on_mid ready e it).serves in
-            let same = laws.slots.one_said c.device.memory (c.device.port n).bases.clb it.has.slot its.command k.command its.places k.places its.slot_decodes_to.decodes_to k.stored.slot_decodes_to.decodes_to in
-            ap (λ (y : Meaning). is_queued y.operation) same.0 ∙ k.kind ∙ used_plain
+            let same = laws.slots.decoding_is_unique c.device.memory (c.device.port n).bases.clb it.has.slot its.command k.command its.places k.places its.slot_decodes_to.decodes_to k.stored.slot_decodes_to.decodes_to in
+            ap (λ (y : Meaning). is_queued y.operation) same.0 ∙ k.is_queued_as_given ∙ used_plain
 
         -- so it is in the turn
         alone_now : HasOnlyTaskFileError (port_at n) (joint_state_of c m) mid.device
-        alone_now = laws.calls.alone_then (port_at n) began (abstract_state_of c m) mid.device kept.adapter_is_on undue t on_mid ready_c alone
+        alone_now = laws.calls.lone_tfes_in_call_is_in_turn (port_at n) began (abstract_state_of c m) mid.device kept.adapter_is_on undue t on_mid ready_c alone
 
         -- the fault that is shown then is of that slot, which is in use
         faults : RecordsFaults c.device.tape (c.device.port n) n
-        faults = ((p.settled_invariant.in_call_invariant.port_invariant n low).engine_runs ready_c).faults_are_recorded
+        faults = ((p.settled_invariant.in_call_invariant.port_invariant n low).ready_engine_runs ready_c).faults_are_recorded
 
         fault : ShowsFault (drop (c.device.port n).notes.st_set_at c.device.tape) (c.device.port n) n
         fault = faults.shows_last_fault (faults.tfes_tells_fault alone_now.shows_only_tfes.tfes_is_set)
@@ -153,7 +153,7 @@ module _ (laws : PrerequisiteLaws) (s : ServerState) (start : SettledInvariant s
         used_still : InUse (c.device.port n) it.has.slot
         used_still =
             let sole = p.settled_invariant.in_call_invariant.plain_stands_alone n it.has.slot it.has.used it.has.used_is used_plain in
-            subst (InUse (c.device.port n)) (laws.slots.fault_sole p.machine_relation.uses m c.device n it.has.slot (drop (c.device.port n).notes.st_set_at c.device.tape) p.machine_relation.driver_relation.state_relation fault
+            subst (InUse (c.device.port n)) (laws.slots.shown_fault_is_of_lone_slot p.machine_relation.uses m c.device n it.has.slot (drop (c.device.port n).notes.st_set_at c.device.tape) p.machine_relation.driver_relation.state_relation fault
             (λ other apart. free_unused c m n p.machine_relation ready_c other (sole.1 other (λ zero. apart (zero ∙ sym sole.0))))) fault.slot_is_in_use
 
         -- so it hasn't ended
@@ -161,11 +161,11 @@ module _ (laws : PrerequisiteLaws) (s : ServerState) (start : SettledInvariant s
         unended_now = ⊎_elim
             (λ (is : it.now_is.ended ≡ true).
             let over = (laws.slots.ended_clear p.machine_relation.uses m c.device (port_at n) it.has.slot it.now_is m_reached p.machine_relation.driver_relation.state_relation (inl (it.here, it.issued_now)) is (lifting.slot_serves AService laws s start old reached at ports_are n c mid before its p next part m_reached on_mid ready e it)).0.over in
-            absurd (⊎_elim (λ issued. false≢true (sym over.issued ∙ issued)) (λ (taken : _ × _). let z : None ≡ Some taken.0 = sym over.free ∙ taken.1 in cc) used_still))
+            absurd (⊎_elim (λ issued. false≢true (sym over.is_not_issued ∙ issued)) (λ (taken : _ × _). let z : None ≡ Some taken.0 = sym over.is_not_taken ∙ taken.1 in cc) used_still))
             (λ no. no)
             (cases_Bool it.now_is.ended)
 
-        fault_told : IsAnsweredFaulty e all ⊎ (state_of (probe_result_of mid.ports n) ≡ Dead)
+        fault_told : IsAnsweredFaulty e all ⊎ (state_of (probe_result_of mid.probe_results n) ≡ Dead)
         fault_told = ⊎_elim
             (λ (a : IsAnsweredFaulty it.now_is x.steps). inl (a.0, a.1, a.2, a.3 ∙ it.same_as.request, Contains-append_left x.steps p.steps (Answer a.0 (DeviceError a.1 a.2)) a.4))
             (λ dead. inr dead)
@@ -194,15 +194,15 @@ module _ (laws : PrerequisiteLaws) (s : ServerState) (start : SettledInvariant s
       heeds_whole : ServicesReadyPort old evidence all (record { machine = after old.machine all; ports = ports_of mid }) (port_at n)
       heeds_whole = record {
         answers_ended = lifting.ended_whole AService laws s start old reached at ports_are n c mid before its p next part m_reached on_mid ready serves.answers_ended;
-        none_is_left = λ gone e here. serves.none_is_left (alike.link_changed.1 gone) e (subst (λ (k : Machine). Contains k.book e) whole_is here);
-        others_are_told_alike = λ gone. ⊎_elim (λ a. inl (told_whole _ a)) (λ b. inr (told_whole _ b)) (serves.others_are_told_alike (alike.link_changed.1 gone));
-        is_interrupted = λ port_error. lifting.named AService laws s start old reached at ports_are n c mid before its p next part m_reached on_mid evidence alike (serves.is_interrupted (⊎_elim (λ failed. inl (alike.failed.1 failed)) (λ gone. inr (alike.link_changed.1 gone)) port_error));
-        none_stays_issued = λ port_error. lifting.anew_whole AService laws s start old reached at ports_are n c mid before its p next part m_reached on_mid (serves.none_stays_issued (⊎_elim (λ failed. inl (alike.failed.1 failed)) (λ stopped. inr (alike.stopped.1 stopped)) port_error));
+        link_change_leaves_none = λ gone e here. serves.link_change_leaves_none (alike.link_changed.1 gone) e (subst (λ (k : Machine). Contains k.book e) whole_is here);
+        link_change_tells_alike = λ gone. ⊎_elim (λ a. inl (told_whole _ a)) (λ b. inr (told_whole _ b)) (serves.link_change_tells_alike (alike.link_changed.1 gone));
+        trouble_interrupts = λ port_error. lifting.named AService laws s start old reached at ports_are n c mid before its p next part m_reached on_mid evidence alike (serves.trouble_interrupts (⊎_elim (λ failed. inl (alike.showing_error.1 failed)) (λ gone. inr (alike.link_changed.1 gone)) port_error));
+        trouble_leaves_none_issued = λ port_error. lifting.anew_whole AService laws s start old reached at ports_are n c mid before its p next part m_reached on_mid (serves.trouble_leaves_none_issued (⊎_elim (λ failed. inl (alike.showing_error.1 failed)) (λ stopped. inr (alike.stopped.1 stopped)) port_error));
         one_fault_at_most = let one = serves.one_fault_at_most in omega (arith, counted, one);
-        fatal_tells_no_fault = λ here. let y = serves.fatal_tells_no_fault (alike.fatal.1 here) in (alike.failed.0 y.0, counted ∙ y.1);
+        fatal_tells_no_fault = λ here. let y = serves.fatal_tells_no_fault (alike.showing_fatal_error.1 here) in (alike.showing_error.0 y.0, counted ∙ y.1);
         shown_disk_was_in_or_came = lifting.disk_whole AService laws s start old reached at ports_are n c mid before its p next part m_reached on_mid serves.shown_disk_was_in_or_came;
         is_left_alone_if_calm = ⊎_elim
-            (λ disturbed. inl (⊎_elim (λ failed. inl (alike.failed.0 failed)) (λ rest. inr (⊎_elim (λ gone. inl (alike.link_changed.0 gone)) (λ changed. inr (changed_whole changed)) rest)) disturbed))
+            (λ disturbed. inl (⊎_elim (λ failed. inl (alike.showing_error.0 failed)) (λ rest. inr (⊎_elim (λ gone. inl (alike.link_changed.0 gone)) (λ changed. inr (changed_whole changed)) rest)) disturbed))
             (λ (a : IsLeftAlone (ports_of c) x.evidence x.steps (ports_of mid) (port_at n)). inr (record {
               port_is_same = same_then old.ports (ports_of c) (ports_of mid) (port_at n) same_n a.port_is_same;
               only_ok_is_told = told_whole _ a.only_ok_is_told;
@@ -217,12 +217,12 @@ module _ (laws : PrerequisiteLaws) (s : ServerState) (start : SettledInvariant s
       same_self = (refl, refl, refl, refl, refl, refl)
 
       -- where the port showed a failure when it began, or a change of its link, the turn stopped it
-      stops_troubled : ShowsFailure (c.device.port n) ⊎ ShowsChange (c.device.port n) → IsStoppedOrStuck x.evidence (port_at n)
-      stops_troubled port_error = serves.is_interrupted (⊎_elim (λ failure. inl (x.is_evidenced.failed_all ready_c failure)) (λ change. inr (x.is_evidenced.link_changed_all ready_c (inl change))) port_error)
+      stops_troubled : ShowsFailure (c.device.port n) ⊎ ShowsLinkChange (c.device.port n) → IsStoppedOrStuck x.evidence (port_at n)
+      stops_troubled port_error = serves.trouble_interrupts (⊎_elim (λ failure. inl (x.is_evidenced.showing_error_all ready_c failure)) (λ change. inr (x.is_evidenced.link_changed_all ready_c (inl change))) port_error)
 
       -- ---- the whole
 
-      not_bad : HasUnservedDisk old.ports (port_at n) → ⊥
+      not_bad : IsForeignOrUnfit old.ports (port_at n) → ⊥
       not_bad bad = ready_fits (old.ports.state (port_at n)) was_ready bad
 
       not_absent : old.ports.state (port_at n) ≡ Absent → ⊥
@@ -231,18 +231,18 @@ module _ (laws : PrerequisiteLaws) (s : ServerState) (start : SettledInvariant s
       heeds_trouble : HandlesShownErrors (port_at n) accesses began evidence (ports_of mid) mid.device
       heeds_trouble = lifting.trouble_whole AService laws s start old reached at ports_are n c mid before its p next part m_reached on_mid evidence alike same_n (λ _. stops_troubled) (λ _. inl undue) (record { loses_no_error = did.loses_no_error; runs_well_anew = did.runs_well_anew })
 
-      pub ties_whole : PortCorresponds began (joint_event_of_turn InService [] mid evidence all) accesses (port_at n)
+      pub ties_whole : PortCorresponds began (joint_event_of_turn ServingReady [] mid evidence all) accesses (port_at n)
       ties_whole = record {
         finds_done = λ _ e own. finding e own;
         plain_faults_are_told = λ alone e slot own unended says plain. fault_told alone e slot own unended says plain;
         probes_disk = λ served coming. record {
-          shown = λ absent det. absurd (not_absent absent);
-          absent = λ absent det fresh. absurd (not_absent absent);
-          missing = λ bad. absurd (not_bad bad);
-          changed = λ bad. absurd (not_bad bad);
+          absent_with_device_is_booted = λ absent det. absurd (not_absent absent);
+          absent_gets_first_fis = λ absent det fresh. absurd (not_absent absent);
+          missing_disk_makes_absent = λ bad. absurd (not_bad bad);
+          changed_disk_is_booted = λ bad. absurd (not_bad bad);
         };
-        boots_anew = subst (λ (list : List Access). BootsAnew Service (Served []) (p.accesses ++ list) began (ports_of mid) mid.device (port_at n)) (append-nil part.accesses)
-            (laws.calls.call_boots (port_at n) began (abstract_state_of c m) (ports_of mid) (ports_of mid) mid.device (Served its) (Served []) kept.adapter_is_on (λ _. undue) t on_mid same_self same_n did.boots_anew);
+        boots_anew = subst (λ (list : List Access). BootsAnew Service (Replied []) (p.accesses ++ list) began (ports_of mid) mid.device (port_at n)) (append-nil part.accesses)
+            (laws.calls.turn_boots_are_calls (port_at n) began (abstract_state_of c m) (ports_of mid) (ports_of mid) mid.device (Replied its) (Replied []) kept.adapter_is_on (λ _. undue) t on_mid same_self same_n did.boots_anew);
         loses_no_error = heeds_trouble.loses_no_error;
         runs_well_anew = heeds_trouble.runs_well_anew;
         handles_evidence = λ _. heeds_whole;

@@ -20,7 +20,7 @@ use Rattle.adapter.specs.Device.{Device}
 use Rattle.adapter.specs.Rules.{IsOn}
 use Rattle.refinement.specs.Relation.{port_at}
 use Rattle.refinement.specs.Fragments.{SparesOtherPorts}
-use Rattle.refinement.specs.Links.{DoesNotWrite}
+use Rattle.refinement.specs.PreservedParts.{DoesNotWrite}
 use Rattle.refinement.specs.Slots.{IsEmptySlot, RelatesSlot, Serves, ServesRequest, IsInSomeStage, SlotState}
 use Rattle.block_machine.specs.Events.{AnswersEnded, ShownDiskWasInOrCame, AbstractState, NoneStaysIssued, changes_disk}
 use Rattle.block_machine.specs.Histories.{JointState, IsReachable}
@@ -30,7 +30,7 @@ use Rattle.block_machine.specs.State.{Pending, Machine}
 use Rattle.block_machine.specs.Steps.{Step, WaitAgain, Answer}
 use Rattle.host_boot.specs.TakeOver.{probe_result_of}
 use Rattle.driver_history.specs.EvidenceHandling.{tells_fault}
-use Rattle.driver_history.specs.Evidence.{ShowsChange, ShowsFailure}
+use Rattle.driver_history.specs.Evidence.{ShowsLinkChange, ShowsFailure}
 use Rattle.driver_history.specs.Histories.{FindsDone, IsAnsweredOk, IsIssuedOn, RunsWellAnew}
 use Rattle.driver_history.specs.PortTurn.{HasTurnIn, IsOfOtherPort, EvidenceAgreesOn}
 use Rattle.driver_history.specs.AccessTrace.{DoesNotWriteCmd, LeavesEngine, ResetsLink}
@@ -70,20 +70,20 @@ module _ (plan : Plan) (laws : PrerequisiteLaws) (s : ServerState) (start : Sett
   began = record { device = s.device; abstract = old }
 
   abbrev state_at : ℕ → PortState
-  state_at q = state_of (probe_result_of s.ports q)
+  state_at q = state_of (probe_result_of s.probe_results q)
 
   abbrev HadTurn : ℕ → Port → Type 0
-  HadTurn n q = (q.0 < n) × TakesTurn plan (probe_result_of s.ports q.0)
+  HadTurn n q = (q.0 < n) × TakesTurn plan (probe_result_of s.probe_results q.0)
 
   abbrev Progress : ℕ → ServerState → List Reply → Type 0
   Progress n c replies = progress.Progress plan laws s start old reached at ports_are n c replies
 
-  module _ (n : ℕ) (c mid : ServerState) (before its : List Reply) (p : Progress n c before) (next : SettledInvariant mid) (part : IsPortTurn (turn_at plan (probe_result_of s.ports n) n) (port_at n) its c mid)
+  module _ (n : ℕ) (c mid : ServerState) (before its : List Reply) (p : Progress n c before) (next : SettledInvariant mid) (part : IsPortTurn (turn_at plan (probe_result_of s.probe_results n) n) (port_at n) its c mid)
       (m_reached : IsReachable (after old.machine p.steps)) (on_mid : IsOn mid.device) where
     abbrev m : Machine
     m = after old.machine p.steps
 
-    abbrev x : SimulatesTurn (turn_at plan (probe_result_of s.ports n) n) (port_at n) its part.accesses c mid m
+    abbrev x : SimulatesTurn (turn_at plan (probe_result_of s.probe_results n) n) (port_at n) its part.accesses c mid m
     x = part.simulates_turn m m_reached p.machine_relation
 
     abbrev all : List Step
@@ -96,7 +96,7 @@ module _ (plan : Plan) (laws : PrerequisiteLaws) (s : ServerState) (start : Sett
     not_yet served = let lt = served.0 in omega (arith, lt)
 
     pub whole_is : after old.machine all ≡ after m x.steps
-    whole_is = laws.basic.joined old.machine x.steps p.steps
+    whole_is = laws.steps_and_accesses.after_joins old.machine x.steps p.steps
 
     -- so far, no answer is of the port
     pub not_early : (e : Pending) (o : Outcome) → Contains p.steps (Answer e o) → e.request.port ≢ port_at n
@@ -146,35 +146,35 @@ module _ (plan : Plan) (laws : PrerequisiteLaws) (s : ServerState) (start : Sett
     named evidence alike i = ⊎_elim (λ stopped. inl (alike.stopped.0 stopped)) (λ stuck. inr (alike.stuck.0 stuck)) i
 
     -- one that it leaves ready runs
-    runs_then : state_of (probe_result_of mid.ports n) ≡ ReadyState → EngineRuns n mid.device
-    runs_then ready_mid = (next.in_call_invariant.port_invariant n (ready_found mid n next.in_call_invariant ready_mid).0).engine_runs ready_mid
+    runs_then : state_of (probe_result_of mid.probe_results n) ≡ ReadyState → EngineRuns n mid.device
+    runs_then ready_mid = (next.in_call_invariant.port_invariant n (ready_found mid n next.in_call_invariant ready_mid).0).ready_engine_runs ready_mid
 
     -- where the turn stopped the port and left it ready, ST was set in it
-    pub set_since : state_of (probe_result_of mid.ports n) ≡ ReadyState → IsStoppedOrStuck x.evidence (port_at n) → length c.device.tape ≤ (mid.device.port n).notes.st_set_at
+    pub set_since : state_of (probe_result_of mid.probe_results n) ≡ ReadyState → IsStoppedOrStuck x.evidence (port_at n) → length c.device.tape ≤ (mid.device.port n).notes.st_set_at
     set_since ready_mid i = ⊎_elim
         (λ stopped. ⊎_elim
-        (λ stops. laws.calls.set_since (port_at n) part.accesses c.device mid.device p.adapter_is_on
-        (All-weaker (SparesOtherPorts (port_at n)) (DoesNotWrite Ghc) (λ access of. laws.of_host (port_at n) access of) part.accesses part.accesses_are_of_port) part.accesses_are_done stops (runs_then ready_mid).st)
-        (λ (reset : _ × _). absurd (not_reset plan (probe_result_of s.ports n) n its reset.0))
+        (λ stops. laws.calls.stopped_port_set_st_since (port_at n) part.accesses c.device mid.device p.adapter_is_on
+        (All-weaker (SparesOtherPorts (port_at n)) (DoesNotWrite Ghc) (λ access of. laws.one_port_spares_ghc (port_at n) access of) part.accesses part.accesses_are_of_port) part.accesses_are_done stops (runs_then ready_mid).st_is_set)
+        (λ (reset : _ × _). absurd (not_reset plan (probe_result_of s.probe_results n) n its reset.0))
         (x.is_evidenced.stopped_only stopped))
         (λ stuck. ⊎_elim
-        (λ (dead : state_of (probe_result_of c.ports n) ≡ Dead). let z : ReadyState ≡ Dead = sym ready_mid ∙ (x.port_is_serviced.0 dead).1 ∙ dead in absurd cc)
-        (λ (lives : state_of (probe_result_of c.ports n) ≢ Dead). let z : ReadyState ≡ Dead = sym ready_mid ∙ (x.port_is_serviced.1 lives).0.dead_is_stuck.1 stuck in absurd cc)
-        (dead_or_not (state_of (probe_result_of c.ports n))))
+        (λ (dead : state_of (probe_result_of c.probe_results n) ≡ Dead). let z : ReadyState ≡ Dead = sym ready_mid ∙ (x.port_is_serviced.0 dead).1 ∙ dead in absurd cc)
+        (λ (lives : state_of (probe_result_of c.probe_results n) ≢ Dead). let z : ReadyState ≡ Dead = sym ready_mid ∙ (x.port_is_serviced.1 lives).0.dead_is_stuck.1 stuck in absurd cc)
+        (dead_or_not (state_of (probe_result_of c.probe_results n))))
         i
 
     -- what it did of trouble the call did so far
     module _ (evidence : Evidence) (alike : EvidenceAgreesOn (port_at n) x.evidence evidence) (same_n : SamePort old.ports (ports_of c) (port_at n))
-        (stops_troubled : (state_of (probe_result_of c.ports n) ≡ ReadyState) ⊎ (state_of (probe_result_of mid.ports n) ≡ ReadyState) → ShowsFailure (c.device.port n) ⊎ ShowsChange (c.device.port n) → IsStoppedOrStuck x.evidence (port_at n))
-        (linked : state_of (probe_result_of mid.ports n) ≡ ReadyState → ((s.device.port n).link_due ≡ false) ⊎ ResetsLink (port_at n) part.accesses) (did : HandlesShownErrors (port_at n) part.accesses (joint_state_of c m) x.evidence (ports_of mid) mid.device) where
+        (stops_troubled : (state_of (probe_result_of c.probe_results n) ≡ ReadyState) ⊎ (state_of (probe_result_of mid.probe_results n) ≡ ReadyState) → ShowsFailure (c.device.port n) ⊎ ShowsLinkChange (c.device.port n) → IsStoppedOrStuck x.evidence (port_at n))
+        (linked : state_of (probe_result_of mid.probe_results n) ≡ ReadyState → ((s.device.port n).link_due ≡ false) ⊎ ResetsLink (port_at n) part.accesses) (did : HandlesShownErrors (port_at n) part.accesses (joint_state_of c m) x.evidence (ports_of mid) mid.device) where
       same_self : SamePort (ports_of mid) (ports_of mid) (port_at n)
       same_self = (refl, refl, refl, refl, refl, refl)
 
       pub trouble_whole : HandlesShownErrors (port_at n) accesses began evidence (ports_of mid) mid.device
       trouble_whole = record {
-        loses_no_error = laws.calls.call_trouble (port_at n) began (abstract_state_of c m) (ports_of mid) (ports_of mid) mid.device x.evidence evidence kept.adapter_is_on t on_mid same_self alike same_n set_since stops_troubled did.loses_no_error;
+        loses_no_error = laws.calls.turn_trouble_is_calls (port_at n) began (abstract_state_of c m) (ports_of mid) (ports_of mid) mid.device x.evidence evidence kept.adapter_is_on t on_mid same_self alike same_n set_since stops_troubled did.loses_no_error;
         runs_well_anew = subst (λ (list : List Access). RunsWellAnew evidence (p.accesses ++ list) began (ports_of mid) mid.device (port_at n)) (append-nil part.accesses)
-            (laws.calls.call_well (port_at n) began (abstract_state_of c m) (ports_of mid) (ports_of mid) mid.device x.evidence evidence kept.adapter_is_on t on_mid linked same_self alike (λ ready_mid. (runs_then ready_mid).faults_are_recorded.st_set_is_on_tape) did.runs_well_anew);
+            (laws.calls.turn_running_well_is_calls (port_at n) began (abstract_state_of c m) (ports_of mid) (ports_of mid) mid.device x.evidence evidence kept.adapter_is_on t on_mid linked same_self alike (λ ready_mid. (runs_then ready_mid).faults_are_recorded.st_set_is_on_tape) did.runs_well_anew);
       }
 
     -- ---- a ready port
@@ -183,14 +183,14 @@ module _ (plan : Plan) (laws : PrerequisiteLaws) (s : ServerState) (start : Sett
       pub low : n < 4
       low = (ready_found s n kept ready).0
 
-      pub ready_c : state_of (probe_result_of c.ports n) ≡ ReadyState
+      pub ready_c : state_of (probe_result_of c.probe_results n) ≡ ReadyState
       ready_c = ap state_of (p.found (port_at n) not_yet) ∙ ready
 
       pub was_ready : old.ports.state (port_at n) ≡ ReadyState
       was_ready = ap (λ (ports : Ports). ports.state (port_at n)) ports_are ∙ ready
 
       pub undue : (s.device.port n).link_due ≡ false
-      undue = ((kept.port_invariant n low).engine_runs ready).faults_are_recorded.no_link_is_due
+      undue = ((kept.port_invariant n low).ready_engine_runs ready).faults_are_recorded.no_link_is_due
 
       -- ---- requests, when the call began and when the turn did
 
@@ -213,7 +213,7 @@ module _ (plan : Plan) (laws : PrerequisiteLaws) (s : ServerState) (start : Sett
 
       -- one that had ended was issued
       pub ended_on : (e : Pending) → Contains old.machine.book e → e.request.port ≡ port_at n → e.ended ≡ true → IsIssuedOn (port_at n) old.machine e
-      ended_on e there own ended = record { is_in_book = there; port_is = own; issued = laws.basic.ended_issued old.machine e reached there ended }
+      ended_on e there own ended = record { is_in_book = there; port_is = own; issued = laws.steps_and_accesses.ended_is_issued old.machine e reached there ended }
 
       -- its slot serves it when the turn begins
       pub slot_serves : (e : Pending) → (h : IsLeading e) → p.machine_relation.uses n h.has.slot ≡ Serves h.now_is.request.id
@@ -238,7 +238,7 @@ module _ (plan : Plan) (laws : PrerequisiteLaws) (s : ServerState) (start : Sett
             let same : e.request.id ≡ y.0.id = one_said laws s kept old.machine at n slot y.0 e.request.id ready y.1 says in
             let there = serves_used s old.machine n at ready slot y.0 y.1 ∙ ap Serves (sym same) in
             let here = serves_used s old.machine n at ready h.has.slot h.has.used (sym (used_then h.has.slot) ∙ h.has.used_is) ∙ ap Serves (h.has.id_is ∙ ap (λ r. r.id) h.same_as.request) in
-            absurd (apart (at.driver_relation.state_relation.serve_apart n slot n h.has.slot e.request.id there here).1))
+            absurd (apart (at.driver_relation.state_relation.serve_distinct_requests n slot n h.has.slot e.request.id there here).1))
             (λ none. none)
             (used_or_not (used_for s.slots n slot))
 
@@ -249,13 +249,13 @@ module _ (plan : Plan) (laws : PrerequisiteLaws) (s : ServerState) (start : Sett
             free = subst (λ (u : SlotState). RelatesSlot old.machine s.device.memory s.device.tape (s.device.port n) n slot u) (free_unused s old.machine n at ready slot unused) (at.driver_relation.state_relation.relates_slots n slot)
 
             same : says.pending ≡ e
-            same = laws.basic.one old.machine reached says.pending e (still_booked s old.machine n at ready says.pending says.may_still_move says.port_is).0 own.is_in_book (ap (λ (i : RequestId). i.0) says.id_is)
+            same = laws.steps_and_accesses.an_id_is_one_request old.machine reached says.pending e (still_booked s old.machine n at ready says.pending says.may_still_move says.port_is).0 own.is_in_book (ap (λ (i : RequestId). i.0) says.id_is)
 
             staged : IsInSomeStage s.device.memory (s.device.port n) n slot says.pending says.command says.places → says.pending.ended ≡ true
-            staged (inl waits) = absurd (false≢true (sym free.issued ∙ waits.issued))
-            staged (inr (inl taken)) = let z : None ≡ Some taken.command = sym free.free ∙ taken.taken in absurd cc
+            staged (inl waits) = absurd (false≢true (sym free.is_not_issued ∙ waits.issued))
+            staged (inr (inl taken)) = let z : None ≡ Some taken.command = sym free.is_not_taken ∙ taken.taken in absurd cc
             staged (inr (inr (inl ended))) = ended.ended
-            staged (inr (inr (inr dropped))) = absurd (false≢true (sym dropped.stopped ∙ ((kept.port_invariant n low).engine_runs ready).st))
+            staged (inr (inr (inr dropped))) = absurd (false≢true (sym dropped.st_is_clear ∙ ((kept.port_invariant n low).ready_engine_runs ready).st_is_set))
 
       -- who is answered of the port was answered in the turn
       answered_late : (e : Pending) → e.request.port ≡ port_at n → (a : IsAnsweredOk e all) → Contains x.steps (Answer a.0 Ok)
@@ -268,7 +268,7 @@ module _ (plan : Plan) (laws : PrerequisiteLaws) (s : ServerState) (start : Sett
 
       module _ (f : FindsDoneInTurn (port_at n) part.accesses c m x.steps) (ended : AnswersEnded m x.steps (port_at n)) where
         abbrev AreClear : ℕ → Type 0
-        AreClear slot = (bit f.done.ci slot ≡ false) × (bit f.done.sact slot ≡ false)
+        AreClear slot = (bit f.finds_done.ci slot ≡ false) × (bit f.finds_done.sact slot ≡ false)
 
         module _ (other : Pending) (own : IsIssuedOn (port_at n) old.machine other) where
           abbrev now : IsLeading other
@@ -277,14 +277,14 @@ module _ (plan : Plan) (laws : PrerequisiteLaws) (s : ServerState) (start : Sett
           -- a request's slot tells whether it was answered
           at_slot : IsAnsweredOk other all ↔ AreClear now.has.slot
           at_slot =
-              let exact = f.done.exact now.now_is now.has.slot (then_issued other own now) (by other now).serves in (
+              let exact = f.finds_done.answered_iff_done now.now_is now.has.slot (then_issued other own now) (by other now).serves in (
                 (λ ok. exact.0 (ok.0, ok.1 ∙ sym now.same_as.request, answered_late other own.port_is ok)),
                 (λ clear. let ok = exact.1 clear in (ok.0, ok.1 ∙ now.same_as.request, Contains-append_left x.steps p.steps (Answer ok.0 Ok) ok.2)),
               )
 
           apart_too : (slot : ℕ) → slot ≢ now.has.slot → ServesRequest old.machine s.device.memory (s.device.port n) n slot other.request.id → IsAnsweredOk other all ↔ AreClear slot
           apart_too slot apart says = (
-            (λ _. f.unused slot says.list_is_in_place.slot_below (used_then slot ∙ unused other own slot apart says)),
+            (λ _. f.unused_slots_are_clear slot says.list_is_in_place.slot_below (used_then slot ∙ unused other own slot apart says)),
             (λ _.
                 let ok = ended now.now_is now.here (ap (λ r. r.port) now.same_as.request ∙ own.port_is) (now.same_as.ended (has_ended other own slot apart says)) in
                 (ok.0, ok.1 ∙ now.same_as.request, Contains-append_left x.steps p.steps (Answer ok.0 Ok) ok.2)),
@@ -292,18 +292,18 @@ module _ (plan : Plan) (laws : PrerequisiteLaws) (s : ServerState) (start : Sett
 
         pub finding : FindsDone (port_at n) accesses began all
         finding = record {
-          ci = f.done.ci;
-          sact = f.done.sact;
+          ci = f.finds_done.ci;
+          sact = f.finds_done.sact;
           reads = record {
-            before = p.accesses ++ f.done.reads.before;
-            later = f.done.reads.later;
-            accesses_are_split = ap (λ (late : List Access). p.accesses ++ late) f.done.reads.accesses_are_split
-                ∙ sym (append_assoc p.accesses f.done.reads.before (Reading (Px (port_at n) Ci) f.done.ci ∷ Reading (Px (port_at n) Sact) f.done.sact ∷ f.done.reads.later));
-            cmd_is_unwritten_before = All-append (DoesNotWriteCmd (port_at n)) p.accesses f.done.reads.before
+            before = p.accesses ++ f.finds_done.reads.before;
+            later = f.finds_done.reads.later;
+            accesses_are_split = ap (λ (late : List Access). p.accesses ++ late) f.finds_done.reads.accesses_are_split
+                ∙ sym (append_assoc p.accesses f.finds_done.reads.before (Reading (Px (port_at n) Ci) f.finds_done.ci ∷ Reading (Px (port_at n) Sact) f.finds_done.sact ∷ f.finds_done.reads.later));
+            cmd_is_unwritten_before = All-append (DoesNotWriteCmd (port_at n)) p.accesses f.finds_done.reads.before
                 (All-weaker (LeavesEngine (port_at n)) (DoesNotWriteCmd (port_at n)) (λ access leaves. leaves.0) p.accesses (others_leave plan laws s start old reached at ports_are (port_at n) p.accesses (p.others (port_at n) not_yet)))
-                f.done.reads.cmd_is_unwritten_before;
+                f.finds_done.reads.cmd_is_unwritten_before;
           };
-          exact = λ other slot own says. ⊎_elim
+          answered_iff_done = λ other slot own says. ⊎_elim
               (λ (same : slot ≡ (leading other own).has.slot). subst (λ (i : ℕ). IsAnsweredOk other all ↔ AreClear i) (sym same) (at_slot other own))
               (λ (apart : slot ≢ (leading other own).has.slot). apart_too other own slot apart says)
               (cases_eq slot (leading other own).has.slot);

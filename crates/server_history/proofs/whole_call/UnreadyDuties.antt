@@ -7,14 +7,14 @@ use Rattle.adapter.specs.Access.{Access}
 use Rattle.adapter.specs.Device.{Device}
 use Rattle.adapter.specs.Rules.{IsOn}
 use Rattle.refinement.specs.Relation.{port_at}
-use Rattle.refinement.specs.Links.{ShowsDiskIfIn}
-use Rattle.block_machine.specs.Events.{AbstractState, Served, Service}
+use Rattle.refinement.specs.PreservedParts.{ShowsDiskIfIn}
+use Rattle.block_machine.specs.Events.{AbstractState, Replied, Service}
 use Rattle.block_machine.specs.Histories.{JointState, IsReachable}
 use Rattle.block_machine.specs.Expected.{after}
 use Rattle.block_machine.specs.Ports.{Evidence, IsStoppedOrStuck, Ports, SamePort}
 use Rattle.block_machine.specs.State.{Machine}
 use Rattle.block_machine.specs.Steps.{Step}
-use Rattle.driver_history.specs.Histories.{BootsAnew, HasUnservedDisk, ProbesDisk, PortCorresponds}
+use Rattle.driver_history.specs.Histories.{BootsAnew, IsForeignOrUnfit, ProbesDisk, PortCorresponds}
 use Rattle.driver_history.specs.PortTurn.{EndsNoLinkDue, HasTurnIn, EvidenceAgreesOn}
 use Rattle.driver_history.specs.AccessTrace.{ResetsLink}
 use Rattle.host_boot.specs.TakeOver.{probe_result_of}
@@ -22,7 +22,7 @@ use Rattle.host_boot.specs.declared.ProbeResult.{ProbeResult}
 use Rattle.host_boot.specs.declared.ProbeResult.TheVariants.{Ready, Unready, Unserved}
 use Rattle.server_history.specs.Prerequisites.{PrerequisiteLaws}
 use Rattle.server_history.specs.ServerState.{ServerState, InCallInvariant, MachineRelation, SettledInvariant, ports_of, state_of}
-use Rattle.server_history.specs.Turns.{IsPortTurn, HandlesShownErrors, InService, InProbe, SimulatesTurn, TurnCorresponds, Turn, joint_state_of, abstract_state_of, joint_event_of_turn}
+use Rattle.server_history.specs.Turns.{IsPortTurn, HandlesShownErrors, ServingReady, InProbe, SimulatesTurn, TurnCorresponds, Turn, joint_state_of, abstract_state_of, joint_event_of_turn}
 use Rattle.server_history.proofs.whole_call.EarlierResults as carrying
 use Rattle.server_history.proofs.any_turn.JoinedParts.{dead_or_not}
 use Rattle.server_history.proofs.whole_call.TurnResults as lifting
@@ -49,24 +49,24 @@ module _ (laws : PrerequisiteLaws) (s : ServerState) (start : SettledInvariant s
   abbrev Progress : ℕ → ServerState → List Reply → Type 0
   Progress n c replies = progress.Progress AService laws s start old reached at ports_are n c replies
 
-  state_was : (q : Port) → old.ports.state q ≡ state_of (probe_result_of s.ports q.0)
+  state_was : (q : Port) → old.ports.state q ≡ state_of (probe_result_of s.probe_results q.0)
   state_was q = ap (λ (ports : Ports). ports.state q) ports_are
 
   -- in one with a disk that isn't served a device showed when the call began, or no disk was in
-  there : (q : Port) → HasUnservedDisk old.ports q → ShowsDiskIfIn (s.device.port q.0)
+  there : (q : Port) → IsForeignOrUnfit old.ports q → ShowsDiskIfIn (s.device.port q.0)
   there q bad =
       let found = ⊎_elim (λ foreign. inl (sym (state_was q) ∙ foreign)) (λ unfit. inr (unfit.0, sym (state_was q) ∙ unfit.1)) bad in
-      (kept.port_invariant q.0 (kept.served_ports_exist q.0 (bad_tends (probe_result_of s.ports q.0) found).0).0).shows_disk_if_in
-      (found_bad (state_of (probe_result_of s.ports q.0)) found)
+      (kept.port_invariant q.0 (kept.served_ports_exist q.0 (bad_tends (probe_result_of s.probe_results q.0) found).0).0).bad_disk_is_shown_if_in
+      (found_bad (state_of (probe_result_of s.probe_results q.0)) found)
 
   -- ---- its turn
 
-  module _ (n : ℕ) (c mid : ServerState) (before its : List Reply) (unready : state_of (probe_result_of s.ports n) ≢ ReadyState) (p : Progress n c before) (next : SettledInvariant mid) (part : IsPortTurn (turn_at AService (probe_result_of s.ports n) n) (port_at n) its c mid)
+  module _ (n : ℕ) (c mid : ServerState) (before its : List Reply) (unready : state_of (probe_result_of s.probe_results n) ≢ ReadyState) (p : Progress n c before) (next : SettledInvariant mid) (part : IsPortTurn (turn_at AService (probe_result_of s.probe_results n) n) (port_at n) its c mid)
       (m_reached : IsReachable (after old.machine p.steps)) (on_mid : IsOn mid.device) (evidence : Evidence) where
     abbrev m : Machine
     m = after old.machine p.steps
 
-    abbrev x : SimulatesTurn (turn_at AService (probe_result_of s.ports n) n) (port_at n) its part.accesses c mid m
+    abbrev x : SimulatesTurn (turn_at AService (probe_result_of s.probe_results n) n) (port_at n) its part.accesses c mid m
     x = part.simulates_turn m m_reached p.machine_relation
 
     abbrev all : List Step
@@ -76,7 +76,7 @@ module _ (laws : PrerequisiteLaws) (s : ServerState) (start : SettledInvariant s
     accesses = p.accesses ++ part.accesses
 
     its_ties : TurnCorresponds InProbe (port_at n) its part.accesses c mid m x.evidence x.steps
-    its_ties = subst (λ (turn : Turn). TurnCorresponds turn (port_at n) its part.accesses c mid m x.evidence x.steps) (is_tried (probe_result_of s.ports n) n unready) x.turn_corresponds
+    its_ties = subst (λ (turn : Turn). TurnCorresponds turn (port_at n) its part.accesses c mid m x.evidence x.steps) (is_tried (probe_result_of s.probe_results n) n unready) x.turn_corresponds
 
     abbrev did : PortCorresponds (joint_state_of c m) (joint_event_of_turn InProbe its mid x.evidence x.steps) part.accesses (port_at n)
     did = its_ties.0
@@ -115,30 +115,30 @@ module _ (laws : PrerequisiteLaws) (s : ServerState) (start : SettledInvariant s
       heeds = lifting.trouble_whole AService laws s start old reached at ports_are n c mid before its p next part m_reached on_mid evidence alike same_n
           (λ ready port_error. ⊎_elim (λ before. absurd (never_then before)) stopped ready) (λ ready. inr (resets ready)) (record { loses_no_error = did.loses_no_error; runs_well_anew = did.runs_well_anew })
 
-      pub tried_whole : PortCorresponds began (joint_event_of_turn InService [] mid evidence all) accesses (port_at n) × EndsNoLinkDue (port_at n) began (ports_of mid) mid.device
+      pub tried_whole : PortCorresponds began (joint_event_of_turn ServingReady [] mid evidence all) accesses (port_at n) × EndsNoLinkDue (port_at n) began (ports_of mid) mid.device
       tried_whole = (
         record {
           finds_done = λ ready. absurd (never ready);
           plain_faults_are_told = λ alone. absurd (never alone.ready);
           probes_disk = λ served comes. subst (λ (list : List Access). ProbesDisk (p.accesses ++ list) began (ports_of mid) mid.device (port_at n)) (append-nil part.accesses)
-              (laws.calls.call_tries (port_at n) began (abstract_state_of c m) (ports_of mid) (ports_of mid) mid.device kept.adapter_is_on t on_mid same_self same_n (there (port_at n)) its_ties.1 (λ none. did.probes_disk (same_n.0 ∙ served) none) comes);
-          boots_anew = subst (λ (list : List Access). BootsAnew Service (Served []) (p.accesses ++ list) began (ports_of mid) mid.device (port_at n)) (append-nil part.accesses)
-              (laws.calls.call_boots (port_at n) began (abstract_state_of c m) (ports_of mid) (ports_of mid) mid.device (Served its) (Served []) kept.adapter_is_on (λ ready. absurd (never ready)) t on_mid same_self same_n did.boots_anew);
+              (laws.calls.turn_probe_is_calls (port_at n) began (abstract_state_of c m) (ports_of mid) (ports_of mid) mid.device kept.adapter_is_on t on_mid same_self same_n (there (port_at n)) its_ties.1 (λ none. did.probes_disk (same_n.0 ∙ served) none) comes);
+          boots_anew = subst (λ (list : List Access). BootsAnew Service (Replied []) (p.accesses ++ list) began (ports_of mid) mid.device (port_at n)) (append-nil part.accesses)
+              (laws.calls.turn_boots_are_calls (port_at n) began (abstract_state_of c m) (ports_of mid) (ports_of mid) mid.device (Replied its) (Replied []) kept.adapter_is_on (λ ready. absurd (never ready)) t on_mid same_self same_n did.boots_anew);
           loses_no_error = heeds.loses_no_error;
           runs_well_anew = heeds.runs_well_anew;
           handles_evidence = λ ready. absurd (never ready);
         },
-        laws.calls.call_linked (port_at n) began (abstract_state_of c m) (ports_of mid) (ports_of mid) mid.device kept.adapter_is_on t on_mid same_self same_n its_ties.1,
+        laws.calls.turn_without_due_link_is_calls (port_at n) began (abstract_state_of c m) (ports_of mid) (ports_of mid) mid.device kept.adapter_is_on t on_mid same_self same_n its_ties.1,
       )
 
   -- ---- another port's turn after it
 
-  module _ (n : ℕ) (c mid : ServerState) (before its : List Reply) (p : Progress n c before) (part : IsPortTurn (turn_at AService (probe_result_of s.ports n) n) (port_at n) its c mid) (m_reached : IsReachable (after old.machine p.steps)) (q : Port) (apart : q ≢ port_at n)
+  module _ (n : ℕ) (c mid : ServerState) (before its : List Reply) (p : Progress n c before) (part : IsPortTurn (turn_at AService (probe_result_of s.probe_results n) n) (port_at n) its c mid) (m_reached : IsReachable (after old.machine p.steps)) (q : Port) (apart : q ≢ port_at n)
       (d : IsDone c p.accesses p.steps p.evidence q) (evidence : Evidence) (alike : EvidenceAgreesOn q p.evidence evidence) (same : SamePort (ports_of c) (ports_of mid) q) (unready : old.ports.state q ≢ ReadyState) where
     abbrev m_then : Machine
     m_then = after old.machine p.steps
 
-    abbrev y : SimulatesTurn (turn_at AService (probe_result_of s.ports n) n) (port_at n) its part.accesses c mid m_then
+    abbrev y : SimulatesTurn (turn_at AService (probe_result_of s.probe_results n) n) (port_at n) its part.accesses c mid m_then
     y = part.simulates_turn m_then m_reached p.machine_relation
 
     abbrev steps_then : List Step
@@ -147,7 +147,7 @@ module _ (laws : PrerequisiteLaws) (s : ServerState) (start : SettledInvariant s
     abbrev accesses_then : List Access
     accesses_then = p.accesses ++ part.accesses
 
-    abbrev so_far : PortCorresponds began (joint_event_of_turn InService [] c p.evidence p.steps) p.accesses q
+    abbrev so_far : PortCorresponds began (joint_event_of_turn ServingReady [] c p.evidence p.steps) p.accesses q
     so_far = d.ties.0
 
     abbrev turn : HasTurnIn q s.device mid.device
@@ -175,16 +175,16 @@ module _ (laws : PrerequisiteLaws) (s : ServerState) (start : SettledInvariant s
     heeds_still = carrying.trouble_still AService laws s start old reached at ports_are n c mid before its p part m_reached q apart d evidence alike same
         (λ ready port_error. ⊎_elim (λ before. absurd (unready before)) stopped_so_far ready) (λ ready. inr (reset_so_far ready)) (record { loses_no_error = so_far.loses_no_error; runs_well_anew = so_far.runs_well_anew })
 
-    pub tried_still : PortCorresponds began (joint_event_of_turn InService [] mid evidence steps_then) accesses_then q × EndsNoLinkDue q began (ports_of mid) mid.device
+    pub tried_still : PortCorresponds began (joint_event_of_turn ServingReady [] mid evidence steps_then) accesses_then q × EndsNoLinkDue q began (ports_of mid) mid.device
     tried_still = (
       record {
         finds_done = λ ready. absurd (unready ready);
         plain_faults_are_told = λ alone. absurd (unready alone.ready);
-        probes_disk = λ served comes. laws.calls.call_tries q began old (ports_of c) (ports_of mid) mid.device kept.adapter_is_on turn p.adapter_is_on same same_old (there q) d.ties.1 (λ none. so_far.probes_disk served none) comes;
-        boots_anew = laws.calls.call_boots q began old (ports_of c) (ports_of mid) mid.device (Served []) (Served []) kept.adapter_is_on (λ ready. absurd (unready ready)) turn p.adapter_is_on same same_old so_far.boots_anew;
+        probes_disk = λ served comes. laws.calls.turn_probe_is_calls q began old (ports_of c) (ports_of mid) mid.device kept.adapter_is_on turn p.adapter_is_on same same_old (there q) d.ties.1 (λ none. so_far.probes_disk served none) comes;
+        boots_anew = laws.calls.turn_boots_are_calls q began old (ports_of c) (ports_of mid) mid.device (Replied []) (Replied []) kept.adapter_is_on (λ ready. absurd (unready ready)) turn p.adapter_is_on same same_old so_far.boots_anew;
         loses_no_error = heeds_still.loses_no_error;
         runs_well_anew = heeds_still.runs_well_anew;
         handles_evidence = λ ready. absurd (unready ready);
       },
-      laws.calls.call_linked q began old (ports_of c) (ports_of mid) mid.device kept.adapter_is_on turn p.adapter_is_on same same_old d.ties.1,
+      laws.calls.turn_without_due_link_is_calls q began old (ports_of c) (ports_of mid) mid.device kept.adapter_is_on turn p.adapter_is_on same same_old d.ties.1,
     )

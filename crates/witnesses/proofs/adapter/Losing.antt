@@ -2,16 +2,16 @@
 use Rattle.std.proofs.Common.{ℕ, ◌≡◌, ◌⊎◌, ◌<◌, false, List, Some, inl, inr, ⊎_elim, refl, sym, ap, ◌∙◌, subst}
 use Rattle.std.specs.Prelude.{option_map}
 use Rattle.std.proofs.lemmas.Option.{same_Some}
-use Rattle.adapter.specs.Device.{Device, IsSector}
+use Rattle.adapter.specs.Device.{Device, IsValidSector}
 use Rattle.adapter.specs.Steps.{Can}
 use Rattle.adapter.specs.Steps.DeviceTransition.{Plug}
 
 pub may_be_lost : (d : Device) (port : ℕ) (last lasting told : ℕ → List ℕ) → (d.port port).present ≡ false
     → (d.port port).disk.sectors ≡ Some last → (d.port port).lasting.sectors ≡ Some lasting → ((k : ℕ) → (told k ≡ last k) ⊎ (told k ≡ lasting k))
-    → ((k : ℕ) → k < (d.port port).disk.size → IsSector (told k)) → Can (Plug port (record (d.port port).disk { sectors = Some told })) d
+    → ((k : ℕ) → k < (d.port port).disk.sector_count → IsValidSector (told k)) → Can (Plug port (record (d.port port).disk { sectors = Some told })) d
 may_be_lost d port last lasting told gone was lasts each bytes = (
   gone,
-  λ comes is k lt. subst (λ (f : ℕ → List ℕ). IsSector (f k)) (same_Some told comes is) (bytes k lt),
+  λ comes is k lt. subst (λ (f : ℕ → List ℕ). IsValidSector (f k)) (same_Some told comes is) (bytes k lt),
   λ _. (told, refl),
   λ _. record {
     size = refl;

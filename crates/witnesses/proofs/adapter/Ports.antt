@@ -10,16 +10,16 @@ use Rattle.hba_regs.specs.Bits.{bit}
 use Rattle.hba_regs.specs.declared.reg.Reg.TheVariants.{Ghc, Px}
 use Rattle.adapter.specs.Access.Access.{Reading, Writing}
 use Rattle.adapter.specs.Steps.DeviceTransition.{Fall, LinkUp, Unplug}
-use Rattle.witnesses.specs.AdapterRuns.AccessOrStep.{Made, Came}
+use Rattle.witnesses.specs.AdapterRuns.AccessOrStep.{MadeAccess, DeviceStepCame}
 use Rattle.adapter.specs.Commands.{Meaning, is_queued}
-use Rattle.adapter.specs.Device.{Disk, IsDisk, IsSector, HasKnownSectors, DevicePort, Device}
+use Rattle.adapter.specs.Device.{Disk, HasValidSectors, IsValidSector, HasKnownSectors, DevicePort, Device}
 use Rattle.adapter.specs.FirstRead.{first_disk, no_disk, empty_port, first_disk_sector}
 use Rattle.adapter.specs.Guarded.{IsGuardedSlot, IsGuardedPort, PassesTest}
 use Rattle.adapter.specs.Idle.{IsIdle, IsIdlePort, HoldsBytesAndTellsDisks}
 use Rattle.adapter.specs.Memory.{changed}
 use Rattle.adapter.specs.Rules.{IsProgrammed, MayWriteCmd, MayIssue}
 use Rattle.adapter.specs.Decoding.{DecodesTo}
-use Rattle.witnesses.specs.AdapterRuns.{AccessOrStep, IsAsReset, IsReachableByRun, CommandsAreSafe, AllMayCome, device_after_events, after_event}
+use Rattle.witnesses.specs.AdapterRuns.{AccessOrStep, IsAsReset, IsReachableByRun, CommandsAreSafe, AllMayCome, device_after_run, after_access_or_step}
 use Rattle.witnesses.proofs.adapter.RunningAdapter.{memory, memory_bytes}
 use Rattle.witnesses.proofs.adapter.Sets.{Range, is_in, covers, spares, spares_all, covered, spared, avoided, both, true-false}
 
@@ -27,13 +27,13 @@ use Rattle.witnesses.proofs.adapter.Sets.{Range, is_in, covers, spares, spares_a
 
 -- a port with a disk, as after a reset
 abbrev pub disk_port : DevicePort
-disk_port = record empty_port { disk = first_disk; plugged = first_disk ∷ []; present = true }
+disk_port = record empty_port { disk = first_disk; plug_history = first_disk ∷ []; present = true }
 
 -- Ports 0 and 1 have a disk; the memory has the commands.
 abbrev pub first : Device
 first = record {
   telling = true;
-  size = 4096 * 256;
+  memory_size = 4096 * 256;
   memory = memory;
   cap = 0x1f03;
   pi = 0x0f;
@@ -56,40 +56,40 @@ pub first_idle : IsIdle first
 first_idle = record {
   no_reset = refl;
   ports_are_idle = at_each IsIdlePort
-      (record { st = refl; cr = refl; fre = refl; fr = refl; ci = λ _. refl; sact = λ _. refl; taken = λ _. refl })
-      (record { st = refl; cr = refl; fre = refl; fr = refl; ci = λ _. refl; sact = λ _. refl; taken = λ _. refl });
+      (record { st_is_clear = refl; cr_is_clear = refl; fre_is_clear = refl; fr_is_clear = refl; ci_is_clear = λ _. refl; sact_is_clear = λ _. refl; none_is_taken = λ _. refl })
+      (record { st_is_clear = refl; cr_is_clear = refl; fre_is_clear = refl; fr_is_clear = refl; ci_is_clear = λ _. refl; sact_is_clear = λ _. refl; none_is_taken = λ _. refl });
 }
 
 -- ---- runs go on
 
-run_append : (xs ys : List AccessOrStep) (d : Device) → device_after_events ys (device_after_events xs d) ≡ device_after_events (xs ++ ys) d
+run_append : (xs ys : List AccessOrStep) (d : Device) → device_after_run ys (device_after_run xs d) ≡ device_after_run (xs ++ ys) d
 run_append [] ys d = refl
-run_append (x ∷ xs) ys d = run_append xs ys (after_event x d)
+run_append (x ∷ xs) ys d = run_append xs ys (after_access_or_step x d)
 
-may_append : (xs ys : List AccessOrStep) (d : Device) → AllMayCome xs d → AllMayCome ys (device_after_events xs d) → AllMayCome (xs ++ ys) d
+may_append : (xs ys : List AccessOrStep) (d : Device) → AllMayCome xs d → AllMayCome ys (device_after_run xs d) → AllMayCome (xs ++ ys) d
 may_append [] ys d h more = more
-may_append (x ∷ xs) ys d h more = (h.0, may_append xs ys (after_event x d) h.1 more)
+may_append (x ∷ xs) ys d h more = (h.0, may_append xs ys (after_access_or_step x d) h.1 more)
 
-pub reached_more : {d : Device} → IsReachableByRun d → (events : List AccessOrStep) → AllMayCome events d → IsReachableByRun (device_after_events events d)
+pub reached_more : {d : Device} → IsReachableByRun d → (events : List AccessOrStep) → AllMayCome events d → IsReachableByRun (device_after_run events d)
 reached_more {d} r events may = record {
   initial_device = r.initial_device;
   starts_idle = r.starts_idle;
   is_off = r.is_off;
   ports_are_as_reset = r.ports_are_as_reset;
-  is_sane = r.is_sane;
+  holds_bytes_and_tells_disks = r.holds_bytes_and_tells_disks;
   events = r.events ++ events;
   events_may_come = may_append r.events events r.initial_device r.events_may_come (let P : Device → Type 0 = λ e. AllMayCome events e in subst P r.device_is may);
-  device_is = ap (λ (e : Device). device_after_events events e) r.device_is ∙ run_append r.events events r.initial_device;
+  device_is = ap (λ (e : Device). device_after_run events e) r.device_is ∙ run_append r.events events r.initial_device;
 }
 
 -- an event of this port, or one that leaves all ports
 unfoldable pub is_of : ℕ → AccessOrStep → Bool
-is_of p (Made (Reading (Px port r) v)) = nat_eq port.0 p
-is_of p (Made (Writing (Px port r) v)) = nat_eq port.0 p
-is_of p (Made (Writing Ghc v)) = true
-is_of p (Came (LinkUp q sig n)) = nat_eq q p
-is_of p (Came (Fall q)) = nat_eq q p
-is_of p (Came (Unplug q)) = nat_eq q p
+is_of p (MadeAccess (Reading (Px port r) v)) = nat_eq port.0 p
+is_of p (MadeAccess (Writing (Px port r) v)) = nat_eq port.0 p
+is_of p (MadeAccess (Writing Ghc v)) = true
+is_of p (DeviceStepCame (LinkUp q sig n)) = nat_eq q p
+is_of p (DeviceStepCame (Fall q)) = nat_eq q p
+is_of p (DeviceStepCame (Unplug q)) = nat_eq q p
 is_of p _ = false
 
 unfoldable pub are_of : ℕ → List AccessOrStep → Bool
@@ -103,22 +103,22 @@ changed_elsewhere f place p q new here other =
     let ne : q ≢ place = (λ e. other (e ∙ same)) in
     rw (ne_eqb q place ne) refl
 
-event_elsewhere : (p : ℕ) (event : AccessOrStep) (d : Device) → is_of p event ≡ true → (q : ℕ) → q ≢ p → (after_event event d).port q ≡ d.port q
+event_elsewhere : (p : ℕ) (event : AccessOrStep) (d : Device) → is_of p event ≡ true → (q : ℕ) → q ≢ p → (after_access_or_step event d).port q ≡ d.port q
 unfolding is_of
-event_elsewhere p (Made (Reading (Px port r) v)) d h q other = changed_elsewhere d.port port.0 p q _ h other
-event_elsewhere p (Made (Writing (Px port r) v)) d h q other = changed_elsewhere d.port port.0 p q _ h other
-event_elsewhere p (Made (Writing Ghc v)) d h q other = refl
-event_elsewhere p (Came (LinkUp port sig n)) d h q other = changed_elsewhere d.port port p q _ h other
-event_elsewhere p (Came (Fall port)) d h q other = changed_elsewhere d.port port p q _ h other
-event_elsewhere p (Came (Unplug port)) d h q other = changed_elsewhere d.port port p q _ h other
+event_elsewhere p (MadeAccess (Reading (Px port r) v)) d h q other = changed_elsewhere d.port port.0 p q _ h other
+event_elsewhere p (MadeAccess (Writing (Px port r) v)) d h q other = changed_elsewhere d.port port.0 p q _ h other
+event_elsewhere p (MadeAccess (Writing Ghc v)) d h q other = refl
+event_elsewhere p (DeviceStepCame (LinkUp port sig n)) d h q other = changed_elsewhere d.port port p q _ h other
+event_elsewhere p (DeviceStepCame (Fall port)) d h q other = changed_elsewhere d.port port p q _ h other
+event_elsewhere p (DeviceStepCame (Unplug port)) d h q other = changed_elsewhere d.port port p q _ h other
 event_elsewhere p _ d h q other = absurd (true-false h refl)
 
 -- the events of one port leave the others
-pub run_elsewhere : (p : ℕ) (events : List AccessOrStep) (d : Device) → are_of p events ≡ true → (q : ℕ) → q ≢ p → (device_after_events events d).port q ≡ d.port q
+pub run_elsewhere : (p : ℕ) (events : List AccessOrStep) (d : Device) → are_of p events ≡ true → (q : ℕ) → q ≢ p → (device_after_run events d).port q ≡ d.port q
 unfolding are_of
 run_elsewhere p [] d h q other = refl
 run_elsewhere p (event ∷ events) d h q other =
-    run_elsewhere p events (after_event event d) (both _ _ h).1 q other ∙ event_elsewhere p event d (both _ _ h).0 q other
+    run_elsewhere p events (after_access_or_step event d) (both _ _ h).1 q other ∙ event_elsewhere p event d (both _ _ h).0 q other
 
 -- ---- what is allowed
 
@@ -156,9 +156,9 @@ one_bit n k set = elim (eqb_tells k n) [ inl same ↦ same.1 | inr other ↦ abs
 pub may_receive : (p : DevicePort) → p.fr ≡ false → p.bases.fb_set ≡ true → p.bases.fbu_set ≡ true → same_others 0x10 p.notes.last_cmd 32 ≡ true → MayWriteCmd p 0x10
 may_receive p fallen fb fbu same = record {
   start = λ h. absurd (true-false h refl);
-  receive = λ _. inr (record { fr_is_clear = fallen; fb = fb; fbu = fbu });
+  receive = λ _. inr (record { fr_is_clear = fallen; fb_is_written = fb; fbu_is_written = fbu });
   stop_receiving = λ h. absurd (true-false refl h);
-  others = others_are 0x10 p.notes.last_cmd same;
+  other_bits_are_kept = others_are 0x10 p.notes.last_cmd same;
 }
 
 pub may_start : (p : DevicePort) → p.cr ≡ false → p.fre ≡ true → IsProgrammed p → p.notes.last_ssts % 16 ≡ 3
@@ -167,7 +167,7 @@ may_start p fallen receives programmed link not_busy same = record {
   start = λ _. inr (record { cr_is_clear = fallen; receives = receives; programmed = programmed; link_was_seen = link; not_busy = not_busy });
   receive = λ _. inl receives;
   stop_receiving = λ h. absurd (true-false refl h);
-  others = others_are 0x11 p.notes.last_cmd same;
+  other_bits_are_kept = others_are 0x11 p.notes.last_cmd same;
 }
 
 -- one slot is issued, by its own bit
@@ -176,7 +176,7 @@ pub issue_allowed : (d : Device) (p : DevicePort) (k : ℕ) → p.st ≡ true �
     → ((n : Meaning) (more : List ℕ) → DecodesTo d.memory p.bases.clb k n more → is_queued n.operation ≡ true → p.sact k ≡ true)
     → MayIssue d p (2 ^ k)
 issue_allowed d p k running usable free none m places says armed = record {
-  running = running;
+  st_is_set = running;
   slots_are_usable = λ slot set. rw (one_bit k slot set) usable;
   slots_are_free = λ slot set. (ap p.ci (one_bit k slot set) ∙ free, ap p.taken (one_bit k slot set) ∙ none);
   slots_say_commands = λ slot set. (m, places, (let P : ℕ → Type 0 = λ s. DecodesTo d.memory p.bases.clb s m places in subst P (sym (one_bit k slot set)) says));
@@ -186,36 +186,36 @@ issue_allowed d p k running usable free none m places says armed = record {
 
 -- ---- sectors and bytes
 
-pub told_bytes : (k : ℕ) → k < 256 → IsSector (first_disk_sector k)
+pub told_bytes : (k : ℕ) → k < 256 → IsValidSector (first_disk_sector k)
 unfolding first_disk_sector
 told_bytes k small = (length-replicate 512 k, All-replicate (λ b. b < 256) 512 k small)
 
-is_disk : (disk : Disk) (told : ℕ → List ℕ) → disk.sectors ≡ Some told → ((k : ℕ) → k < disk.size → IsSector (told k)) → IsDisk disk
+is_disk : (disk : Disk) (told : ℕ → List ℕ) → disk.sectors ≡ Some told → ((k : ℕ) → k < disk.sector_count → IsValidSector (told k)) → HasValidSectors disk
 is_disk disk told is each = λ other other_is k small.
     let same : Some told ≡ Some other = sym is ∙ other_is in
-    let P : (ℕ → List ℕ) → Type 0 = λ f. IsSector (f k) in
+    let P : (ℕ → List ℕ) → Type 0 = λ f. IsValidSector (f k) in
     subst P (let e : told ≡ other = (cc) in e) (each k small)
 
-pub disk_is : IsDisk first_disk
+pub disk_is : HasValidSectors first_disk
 disk_is = is_disk first_disk first_disk_sector refl (λ k small. told_bytes k small)
 
-none_is : IsDisk no_disk
+none_is : HasValidSectors no_disk
 none_is = is_disk no_disk (λ k. []) refl (λ k small. absurd (omega (arith, small)))
 
 pub first_sane : HoldsBytesAndTellsDisks first
 first_sane = record {
   memory_holds_bytes = memory_bytes;
-  disks_hold_sectors = at_each (λ p. IsDisk p.disk) disk_is none_is;
+  disks_hold_sectors = at_each (λ p. HasValidSectors p.disk) disk_is none_is;
   disks_are_told = λ _. at_each (λ p. HasKnownSectors p.disk) (first_disk_sector, refl) (λ k. [], refl);
 }
 
 first_reset : (q : ℕ) → IsAsReset (first.port q)
 first_reset = at_each IsAsReset
-    (record { bases = refl; control = refl; link = refl; due = refl; fresh = refl; halt = refl; broken = refl; notes = refl })
-    (record { bases = refl; control = refl; link = refl; due = refl; fresh = refl; halt = refl; broken = refl; notes = refl })
+    (record { bases_are_unprogrammed = refl; sctl_det_is_zero = refl; ssts_det_is_zero = refl; no_link_is_due = refl; is_not_fresh = refl; is_not_halted = refl; is_not_broken = refl; nothing_is_noted = refl })
+    (record { bases_are_unprogrammed = refl; sctl_det_is_zero = refl; ssts_det_is_zero = refl; no_link_is_due = refl; is_not_fresh = refl; is_not_halted = refl; is_not_broken = refl; nothing_is_noted = refl })
 
 pub first_reached : IsReachableByRun first
-first_reached = record { initial_device = first; starts_idle = first_idle; is_off = refl; ports_are_as_reset = first_reset; is_sane = first_sane; events = []; events_may_come = tt; device_is = refl }
+first_reached = record { initial_device = first; starts_idle = first_idle; is_off = refl; ports_are_as_reset = first_reset; holds_bytes_and_tells_disks = first_sane; events = []; events_may_come = tt; device_is = refl }
 
 -- ---- what is safe
 
@@ -232,7 +232,7 @@ slot_guarded rs mem list slot m places s table is head rest whole count apart = 
   header_end_is_table = covered rs _ _ rest;
   table_is_guarded = λ at low high. covered rs table (table + 144) whole at (omega (arith, low, is.0)) (omega (arith, high, is.0, is.1));
   prdbc_is_not_kept = spared rs _ _ count;
-  places_avoid = avoided rs places apart;
+  pieces_are_not_kept = avoided rs places apart;
 }
 
 -- a port that nothing was issued on
@@ -267,7 +267,7 @@ pub unused_safe : (d : Device) → ((k : ℕ) → (d.port 0).ci k ≡ false) →
 unfolding spares
 unused_safe d clear none elsewhere = record {
   tables = is_in [];
-  kept = is_in [];
+  kept_addresses = is_in [];
   guarded = record {
     tables_are_kept = λ at h. h;
     ports_are_guarded = λ q. elim (eqb_tells q 0) [

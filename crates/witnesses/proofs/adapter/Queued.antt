@@ -10,11 +10,11 @@ use Rattle.adapter.specs.Device.{FetchedCommand, DevicePort, Device}
 use Rattle.adapter.specs.FirstRead.{first_disk_sector}
 use Rattle.adapter.specs.Guarded.{IsGuarded, IsGuardedPort, IsGuardedSlot, PassesTest}
 use Rattle.adapter.specs.Memory.{changed}
-use Rattle.adapter.specs.Steps.{Steps, Can, begun, device_after}
+use Rattle.adapter.specs.Steps.{Steps, Can, newly_fetched, device_after}
 use Rattle.adapter.specs.Steps.DeviceTransition.{Fetch, Move, Done, Fault}
 use Rattle.adapter.specs.declared.command.Operation.TheVariants.{ReadQueued, Trim}
-use Rattle.witnesses.specs.AdapterRuns.{AccessOrStep, IsReachableByRun, device_after_events}
-use Rattle.witnesses.specs.AdapterRuns.AccessOrStep.{Made, Came}
+use Rattle.witnesses.specs.AdapterRuns.{AccessOrStep, IsReachableByRun, device_after_run}
+use Rattle.witnesses.specs.AdapterRuns.AccessOrStep.{MadeAccess, DeviceStepCame}
 use Rattle.witnesses.proofs.adapter.Ports.{reached_more, issue_allowed, slot_guarded, issued_port, told_bytes, are_of, is_of, run_elsewhere, first, no_bit, untouched}
 use Rattle.witnesses.proofs.adapter.RunningAdapter.{memory, queued_read, first_says, first_table, second_says, second_table}
 use Rattle.witnesses.proofs.adapter.Sets.{Range, is_in, covers, spares, spares_all, true-false}
@@ -22,18 +22,18 @@ use Rattle.witnesses.proofs.adapter.Started.{at_port, started, started_reached, 
 
 -- the slot's bits of PxSACT and PxCI are set
 abbrev pub queue : ℕ → ℕ → List AccessOrStep
-queue p bits = Made (Writing (Px (at_port p) Sact) bits) ∷ Made (Writing (Px (at_port p) Ci) bits) ∷ []
+queue p bits = MadeAccess (Writing (Px (at_port p) Sact) bits) ∷ MadeAccess (Writing (Px (at_port p) Ci) bits) ∷ []
 
 -- the read in slot 0 is issued, whatever the received FIS area is
 abbrev pub issued_at : ℕ → Device
-issued_at area = device_after_events (queue 0 1) (started area)
+issued_at area = device_after_run (queue 0 1) (started area)
 
 pub issued_at_reached : (area : ℕ) → area % 256 ≡ 0 → area + 256 ≤ 4096 * 256 → IsReachableByRun (issued_at area)
 unfolding changed
 issued_at_reached area aligned inside = reached_more (started_reached area aligned inside) (queue 0 1) (
-  (record { ae = refl; no_reset = refl }, (omega arith, refl), refl),
+  (record { ae_is_set = refl; no_reset = refl }, (omega arith, refl), refl),
   (
-    (record { ae = refl; no_reset = refl }, (omega arith, refl), issue_allowed _ _ 0 refl (omega arith) refl refl queued_read (0x28000 ∷ []) first_says (λ n more says is. refl)),
+    (record { ae_is_set = refl; no_reset = refl }, (omega arith, refl), issue_allowed _ _ 0 refl (omega arith) refl refl queued_read (0x28000 ∷ []) first_says (λ n more says is. refl)),
     tt,
   ),
 )
@@ -45,14 +45,14 @@ pub one_issued_reached : IsReachableByRun one_issued
 one_issued_reached = issued_at_reached 0x400 refl (omega arith)
 
 abbrev pub issued : Device
-issued = device_after_events (queue 0 2) one_issued
+issued = device_after_run (queue 0 2) one_issued
 
 pub issued_reached : IsReachableByRun issued
 unfolding changed
 issued_reached = reached_more one_issued_reached (queue 0 2) (
-  (record { ae = refl; no_reset = refl }, (omega arith, refl), refl),
+  (record { ae_is_set = refl; no_reset = refl }, (omega arith, refl), refl),
   (
-    (record { ae = refl; no_reset = refl }, (omega arith, refl), issue_allowed _ _ 1 refl (omega arith) refl refl queued_read (0x29000 ∷ []) second_says (λ n more says is. refl)),
+    (record { ae_is_set = refl; no_reset = refl }, (omega arith, refl), issue_allowed _ _ 1 refl (omega arith) refl refl queued_read (0x29000 ∷ []) second_says (λ n more says is. refl)),
     tt,
   ),
 )
@@ -118,19 +118,19 @@ no_steps = record { steps = []; lead = refl }
 -- ---- the commands are taken, and the second ends first
 
 abbrev pub one : FetchedCommand
-one = begun queued_read (0x28000 ∷ [])
+one = newly_fetched queued_read (0x28000 ∷ [])
 
 abbrev pub other : FetchedCommand
-other = begun queued_read (0x29000 ∷ [])
+other = newly_fetched queued_read (0x29000 ∷ [])
 
 abbrev pub other_moved : FetchedCommand
 other_moved = record other { moved = 1 }
 
 abbrev fetches : List AccessOrStep
-fetches = Came (Fetch 0 0 queued_read (0x28000 ∷ [])) ∷ Came (Fetch 0 1 queued_read (0x29000 ∷ [])) ∷ []
+fetches = DeviceStepCame (Fetch 0 0 queued_read (0x28000 ∷ [])) ∷ DeviceStepCame (Fetch 0 1 queued_read (0x29000 ∷ [])) ∷ []
 
 abbrev pub taken : Device
-taken = device_after_events fetches issued
+taken = device_after_run fetches issued
 
 only_one : (k : ℕ) (t : FetchedCommand) → changed (λ _. None) 0 (Some one) k ≡ Some t → is_queued t.meaning.operation ≡ true
 unfolding changed
@@ -148,8 +148,8 @@ only_one k t is =
 pub may_fetch : Can (Fetch 0 0 queued_read (0x28000 ∷ [])) issued
 unfolding changed
 may_fetch = record {
-  fetchable = record { st = refl; issued = refl; free = refl };
-  working = record { running = refl; present = refl; fresh = refl; admitted = refl; whole = refl };
+  fetchable = record { st_is_set = refl; issued = refl; free = refl };
+  working = record { cr_is_set = refl; present = refl; fresh = refl; admitted = refl; is_not_broken = refl };
   is_unmixed = λ slot t is. absurd (let e : None ≡ Some t = is in (cc));
   says = first_says;
 }
@@ -160,8 +160,8 @@ first_taken = device_after (Fetch 0 0 queued_read (0x28000 ∷ [])) issued
 pub may_fetch_other : Can (Fetch 0 1 queued_read (0x29000 ∷ [])) first_taken
 unfolding changed
 may_fetch_other = record {
-  fetchable = record { st = refl; issued = refl; free = refl };
-  working = record { running = refl; present = refl; fresh = refl; admitted = refl; whole = refl };
+  fetchable = record { st_is_set = refl; issued = refl; free = refl };
+  working = record { cr_is_set = refl; present = refl; fresh = refl; admitted = refl; is_not_broken = refl };
   is_unmixed = λ slot t is. only_one slot t is;
   says = second_says;
 }
@@ -175,7 +175,7 @@ taken_steps = record { steps = Fetch 0 0 queued_read (0x28000 ∷ []) ∷ Fetch 
 pub may_move : Can (Move 0 1 other (first_disk_sector 100)) taken
 unfolding changed
 may_move = record {
-  works = record { taken = refl; working = record { running = refl; present = refl; fresh = refl; admitted = refl; whole = refl } };
+  works = record { taken = refl; working = record { cr_is_set = refl; present = refl; fresh = refl; admitted = refl; is_not_broken = refl } };
   piece_is_left = omega arith;
   bytes_are_sector = told_bytes 100 (omega arith);
   brings = (omega arith, refl);
@@ -185,7 +185,7 @@ abbrev pub moved : Device
 moved = device_after (Move 0 1 other (first_disk_sector 100)) taken
 
 pub moved_reached : IsReachableByRun moved
-moved_reached = reached_more taken_reached (Came (Move 0 1 other (first_disk_sector 100)) ∷ []) (may_move, tt)
+moved_reached = reached_more taken_reached (DeviceStepCame (Move 0 1 other (first_disk_sector 100)) ∷ []) (may_move, tt)
 
 pub moved_steps : Steps issued moved
 moved_steps = record {
@@ -196,7 +196,7 @@ moved_steps = record {
 pub may_end : Can (Done 0 1 3 other_moved) moved
 unfolding changed
 may_end = record {
-  works = record { taken = refl; working = record { running = refl; present = refl; fresh = refl; admitted = refl; whole = refl } };
+  works = record { taken = refl; working = record { cr_is_set = refl; present = refl; fresh = refl; admitted = refl; is_not_broken = refl } };
   finished = record { all_is_moved = refl; all_is_cleared = λ e. absurd (not_a_trim e) };
   cause_is_allowed = inr (inr refl);
 }
@@ -205,13 +205,13 @@ may_end = record {
 
 pub may_fail : Can (Fault 0 0 0x40 0 one) taken
 unfolding changed
-may_fail = record { taken = refl; running = refl; is_byte = omega arith; kept_bits_are_allowed = refl }
+may_fail = record { taken = refl; cr_is_set = refl; is_byte = omega arith; kept_bits_are_allowed = refl }
 
 abbrev pub failed : Device
 failed = device_after (Fault 0 0 0x40 0 one) taken
 
 pub failed_reached : IsReachableByRun failed
-failed_reached = reached_more taken_reached (Came (Fault 0 0 0x40 0 one) ∷ []) (may_fail, tt)
+failed_reached = reached_more taken_reached (DeviceStepCame (Fault 0 0 0x40 0 one) ∷ []) (may_fail, tt)
 
 pub failed_steps : Steps issued failed
 failed_steps = record {

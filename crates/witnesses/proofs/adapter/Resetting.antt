@@ -7,8 +7,8 @@ use Rattle.adapter.specs.Access.Access.{Writing}
 use Rattle.adapter.specs.Device.{DevicePort, Device}
 use Rattle.adapter.specs.Guarded.{IsGuarded, IsGuardedPort, IsGuardedSlot, PassesTest}
 use Rattle.adapter.specs.Memory.{changed}
-use Rattle.witnesses.specs.AdapterRuns.{AccessOrStep, IsReachableByRun, device_after_events}
-use Rattle.witnesses.specs.AdapterRuns.AccessOrStep.{Made}
+use Rattle.witnesses.specs.AdapterRuns.{AccessOrStep, IsReachableByRun, device_after_run}
+use Rattle.witnesses.specs.AdapterRuns.AccessOrStep.{MadeAccess}
 use Rattle.witnesses.proofs.adapter.Ports.{are_of, is_of, first, issue_allowed, issued_port, no_bit, may_receive, may_start, reached_more, run_elsewhere, same_others, slot_guarded, untouched}
 use Rattle.witnesses.proofs.adapter.Queued.{one_issued, one_issued_reached, queue}
 use Rattle.witnesses.proofs.adapter.RunningAdapter.{memory, queued_read, first_says, first_table, other_port_says, other_port_table}
@@ -16,24 +16,24 @@ use Rattle.witnesses.proofs.adapter.Sets.{Range, is_in, covers, spares, spares_a
 use Rattle.witnesses.proofs.adapter.Started.{prepare, start, started, started_elsewhere}
 
 abbrev prepared : Device
-prepared = device_after_events (prepare 1 0x800 0x500) one_issued
+prepared = device_after_run (prepare 1 0x800 0x500) one_issued
 
 prepared_reached : IsReachableByRun prepared
 unfolding changed same_others
 prepared_reached = reached_more one_issued_reached (prepare 1 0x800 0x500) (
-  (record { ae = refl; no_reset = refl }, (omega arith, refl), (refl, refl, refl, omega arith)),
+  (record { ae_is_set = refl; no_reset = refl }, (omega arith, refl), (refl, refl, refl, omega arith)),
   (
-    (record { ae = refl; no_reset = refl }, (omega arith, refl), (refl, refl, refl)),
+    (record { ae_is_set = refl; no_reset = refl }, (omega arith, refl), (refl, refl, refl)),
     (
-      (record { ae = refl; no_reset = refl }, (omega arith, refl), (refl, refl, refl, omega arith)),
+      (record { ae_is_set = refl; no_reset = refl }, (omega arith, refl), (refl, refl, refl, omega arith)),
       (
-        (record { ae = refl; no_reset = refl }, (omega arith, refl), (refl, refl, refl)),
+        (record { ae_is_set = refl; no_reset = refl }, (omega arith, refl), (refl, refl, refl)),
         (
-          (record { ae = refl; no_reset = refl }, (omega arith, refl), may_receive _ refl refl refl refl),
+          (record { ae_is_set = refl; no_reset = refl }, (omega arith, refl), may_receive _ refl refl refl refl),
           (
-            (record { ae = refl; no_reset = refl }, (omega arith, refl), (refl, inr refl)),
+            (record { ae_is_set = refl; no_reset = refl }, (omega arith, refl), (refl, inr refl)),
             (
-              (record { ae = refl; no_reset = refl }, (omega arith, refl), (refl, inl refl)),
+              (record { ae_is_set = refl; no_reset = refl }, (omega arith, refl), (refl, inl refl)),
               tt,
             ),
           ),
@@ -44,21 +44,21 @@ prepared_reached = reached_more one_issued_reached (prepare 1 0x800 0x500) (
 )
 
 abbrev both_started : Device
-both_started = device_after_events (start 1) prepared
+both_started = device_after_run (start 1) prepared
 
 both_started_reached : IsReachableByRun both_started
 unfolding changed same_others
 both_started_reached = reached_more prepared_reached (start 1) (
   record { present = refl; no_comreset = refl; link_is_due = refl; sig_fits = omega arith },
   (
-    ((record { ae = refl; no_reset = refl }, (omega arith, refl)), refl),
+    ((record { ae_is_set = refl; no_reset = refl }, (omega arith, refl)), refl),
     (
-      ((record { ae = refl; no_reset = refl }, (omega arith, refl)), refl),
+      ((record { ae_is_set = refl; no_reset = refl }, (omega arith, refl)), refl),
       (
         (
-          record { ae = refl; no_reset = refl },
+          record { ae_is_set = refl; no_reset = refl },
           (omega arith, refl),
-          may_start _ refl refl (record { clb = refl; clbu = refl; fb = refl; fbu = refl }) refl refl refl,
+          may_start _ refl refl (record { clb_is_written = refl; clbu_is_written = refl; fb_is_written = refl; fbu_is_written = refl }) refl refl refl,
         ),
         tt,
       ),
@@ -67,23 +67,23 @@ both_started_reached = reached_more prepared_reached (start 1) (
 )
 
 abbrev both_issued : Device
-both_issued = device_after_events (queue 1 1) both_started
+both_issued = device_after_run (queue 1 1) both_started
 
 both_issued_reached : IsReachableByRun both_issued
 unfolding changed
 both_issued_reached = reached_more both_started_reached (queue 1 1) (
-  (record { ae = refl; no_reset = refl }, (omega arith, refl), refl),
+  (record { ae_is_set = refl; no_reset = refl }, (omega arith, refl), refl),
   (
-    (record { ae = refl; no_reset = refl }, (omega arith, refl), issue_allowed _ _ 0 refl (omega arith) refl refl queued_read (0x2a000 ∷ []) other_port_says (λ n more says is. refl)),
+    (record { ae_is_set = refl; no_reset = refl }, (omega arith, refl), issue_allowed _ _ 0 refl (omega arith) refl refl queued_read (0x2a000 ∷ []) other_port_says (λ n more says is. refl)),
     tt,
   ),
 )
 
 abbrev ask_reset : List AccessOrStep
-ask_reset = Made (Writing Ghc 0x80000001) ∷ []
+ask_reset = MadeAccess (Writing Ghc 0x80000001) ∷ []
 
 abbrev pub resetting : Device
-resetting = device_after_events ask_reset both_issued
+resetting = device_after_run ask_reset both_issued
 
 pub resetting_reached : IsReachableByRun resetting
 resetting_reached = reached_more both_issued_reached ask_reset (tt, tt)

@@ -1,8 +1,8 @@
 -- The memory that the runs begin with: commands for two queued reads and a trim on port 0, and a read on port 1; each of one PRD.
-use Rattle.ata_types.specs.declared.memory.TheConstants.{TABLE_HEAD}
+use Rattle.ata_types.specs.declared.memory.TheConstants.{TABLE_HEAD_BYTES}
 use Rattle.std.proofs.Common.{ℕ, ◌≡◌, ◌<◌, ◌+◌, ◌*◌, ◌^◌, ◌%◌, true, cond, List, [], ◌∷◌, ◌++◌, length, replicate, refl, zero, suc, All, arith}
 use Rattle.byteorder.specs.Endian.{little_from}
-use Rattle.adapter.specs.Commands.{Meaning, IsMeaning, command_of, piece_count, reads_memory}
+use Rattle.adapter.specs.Commands.{Meaning, IsValidMeaning, command_of, piece_count, reads_memory}
 use Rattle.adapter.specs.Memory.{patched, bytes_at}
 use Rattle.adapter.specs.Decoding.{DecodesTo, IsWholePieces}
 use Rattle.adapter.specs.Encoding.{EncodesCommand, EncodesPrd}
@@ -67,8 +67,8 @@ says_by : (list slot table : ℕ) (m : Meaning) (address : ℕ)
     → table % 128 ≡ 0
     → zero_run (bytes_at memory (list + 32 * slot) 32) 12 20 ≡ true
     → EncodesCommand (bytes_at memory table 20) (command_of m.operation slot m.first m.count)
-    → IsMeaning m
-    → EncodesPrd (bytes_at memory (table + TABLE_HEAD) 16) (prd address)
+    → IsValidMeaning m
+    → EncodesPrd (bytes_at memory (table + TABLE_HEAD_BYTES) 16) (prd address)
     → 1 ≡ piece_count m.operation m.count
     → DecodesTo memory list slot m (address ∷ [])
 says_by list slot table m address size first points aligned zeros fis meaning entry many = record {
@@ -77,7 +77,7 @@ says_by list slot table m address size first points aligned zeros fis meaning en
   header = record { size = size; dword0_is = first; table_address_is = points; aligned = aligned; zeros = zeros_are _ 12 20 zeros };
   fis = fis;
   meaning = meaning;
-  prds_stand = (entry, tt);
+  prds_are_encoded = (entry, tt);
   prd_count_is_allowed = omega arith;
   prds_are_whole_pieces = all_whole address;
   places_are = refl;

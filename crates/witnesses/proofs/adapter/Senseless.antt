@@ -9,8 +9,8 @@ use Rattle.adapter.specs.Decoding.{DecodesTo}
 use Rattle.adapter.specs.Encoding.{EncodesCommand}
 use Rattle.adapter.specs.Steps.{Can}
 use Rattle.adapter.specs.Steps.DeviceTransition.{FetchFault, Scribble}
-use Rattle.witnesses.specs.AdapterRuns.{AccessOrStep, IsReachableByRun, device_after_events}
-use Rattle.witnesses.specs.AdapterRuns.AccessOrStep.{Came}
+use Rattle.witnesses.specs.AdapterRuns.{AccessOrStep, IsReachableByRun, device_after_run}
+use Rattle.witnesses.specs.AdapterRuns.AccessOrStep.{DeviceStepCame}
 use Rattle.witnesses.proofs.adapter.Ports.{reached_more}
 use Rattle.witnesses.proofs.adapter.Queued.{issued_at, issued_at_reached}
 use Rattle.witnesses.proofs.adapter.RunningAdapter.{memory}
@@ -18,15 +18,15 @@ use Rattle.witnesses.proofs.adapter.Sets.{all_bytes, are_bytes}
 
 -- the first byte of the FIS is written over
 abbrev scribble : List AccessOrStep
-scribble = Came (Scribble 0 0 0x1000 (0 ∷ [])) ∷ []
+scribble = DeviceStepCame (Scribble 0 0 0x1000 (0 ∷ [])) ∷ []
 
 abbrev pub senseless : Device
-senseless = device_after_events scribble (issued_at 0x1000)
+senseless = device_after_run scribble (issued_at 0x1000)
 
 pub senseless_reached : IsReachableByRun senseless
 unfolding changed are_bytes
 senseless_reached = reached_more (issued_at_reached 0x1000 refl (omega arith)) scribble
-    (record { fre = refl; place = inl (omega arith, omega arith); are_bytes = all_bytes (0 ∷ []) refl }, tt)
+    (record { fre_is_set = refl; place = inl (omega arith, omega arith); are_bytes = all_bytes (0 ∷ []) refl }, tt)
 
 abbrev scribbled : ℕ → ℕ
 scribbled = patched memory 0x1000 (0 ∷ [])
@@ -50,8 +50,8 @@ says_nothing m places says =
 pub may_fail : Can (FetchFault 0 0 true 0) senseless
 unfolding changed
 may_fail = record {
-  fetchable = record { st = refl; issued = refl; free = refl };
-  working = record { running = refl; present = refl; fresh = refl; admitted = refl; whole = refl };
+  fetchable = record { st_is_set = refl; issued = refl; free = refl };
+  working = record { cr_is_set = refl; present = refl; fresh = refl; admitted = refl; is_not_broken = refl };
   says_nothing = says_nothing;
   kept_bits_are_allowed = refl;
 }

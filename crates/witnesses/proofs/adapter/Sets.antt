@@ -2,7 +2,7 @@
 use Rattle.std.proofs.Common.{ℕ, zero, suc, ◌≡◌, ◌<◌, ◌≤◌, ◌+◌, ◌&&◌, ◌||◌, Bool, true, false, List, [], ◌∷◌, length, slice_index, slice_index_or, nat_le, nat_lt, nat_eq, ◌⊎◌, inl, inr, arith, refl, ap, ◌∙◌, ◌-◌, All}
 use Rattle.std.proofs.lemmas.Bool.{eqb-true, ltb-true}
 use Rattle.std.proofs.lemmas.Bool.Decides.{nat_tests, eqb_tells, leb_tells}
-use Rattle.adapter.specs.Device.{IsSector}
+use Rattle.adapter.specs.Device.{IsValidSector}
 use Rattle.adapter.specs.Guarded.{PassesTest, HasRange, MissesRange, MissesPieces}
 use Rattle.adapter.specs.Memory.{patched}
 use Rattle.adapter.specs.Encoding.{AreZero}
@@ -80,7 +80,7 @@ avoids_piece rs (place ∷ places) (suc k) h less at low high here = avoids_piec
 
 pub avoided : (rs : List Range) (places : List ℕ) → spares_all rs places ≡ true → MissesPieces (PassesTest (is_in rs)) places
 unfolding spares_all
-avoided rs places h at here p = avoids_piece rs places p.number h p.listed at p.from p.to here
+avoided rs places h at here p = avoids_piece rs places p.number h p.number_in_range at p.from p.to here
 
 -- ---- tests of bytes
 
@@ -117,7 +117,7 @@ bytes_each (b ∷ bs) (suc k) d h (inr small) = bytes_each bs k d (both _ _ h).1
 pub all_bytes : (bytes : List ℕ) → are_bytes bytes ≡ true → All (λ b. b < 256) bytes
 all_bytes bytes h = λ k d less. bytes_each bytes k d h (inl less)
 
-pub is_sector : (bytes : List ℕ) → length bytes ≡ 512 → are_bytes bytes ≡ true → IsSector bytes
+pub is_sector : (bytes : List ℕ) → length bytes ≡ 512 → are_bytes bytes ≡ true → IsValidSector bytes
 is_sector bytes size h = (size, all_bytes bytes h)
 
 -- a memory of bytes, with these bytes in it, is one of bytes

@@ -9,8 +9,8 @@ use Rattle.adapter.specs.FirstRead.{first_disk, first_disk_sector}
 use Rattle.adapter.specs.Memory.{changed}
 use Rattle.adapter.specs.Steps.{Can}
 use Rattle.adapter.specs.Steps.DeviceTransition.{Fall, Fatal, FrFall, LinkUp, Plug, Scribble, Unplug}
-use Rattle.witnesses.specs.AdapterRuns.{AccessOrStep, IsReachableByRun, CommandsAreSafe, device_after_events}
-use Rattle.witnesses.specs.AdapterRuns.AccessOrStep.{Made, Came}
+use Rattle.witnesses.specs.AdapterRuns.{AccessOrStep, IsReachableByRun, CommandsAreSafe, device_after_run}
+use Rattle.witnesses.specs.AdapterRuns.AccessOrStep.{MadeAccess, DeviceStepCame}
 use Rattle.witnesses.proofs.adapter.Ports.{are_of, is_of, disk_is, first, others_are, reached_more, run_elsewhere, same_others, unused_safe}
 use Rattle.witnesses.proofs.adapter.Sets.{all_bytes, are_bytes, true-false}
 use Rattle.witnesses.proofs.adapter.Started.{at_port, prepared, prepared_elsewhere, prepared_reached, started, started_elsewhere, started_reached}
@@ -49,7 +49,7 @@ may_break = (refl, inl refl)
 
 pub may_scribble : Can (Scribble 0 0 0x400 (0xff ∷ [])) running
 unfolding changed are_bytes
-may_scribble = record { fre = refl; place = inl (omega arith, omega arith); are_bytes = all_bytes (0xff ∷ []) refl }
+may_scribble = record { fre_is_set = refl; place = inl (omega arith, omega arith); are_bytes = all_bytes (0xff ∷ []) refl }
 
 -- ---- the disk is taken out, and put in again
 
@@ -58,15 +58,15 @@ unfolding changed
 may_unplug = refl
 
 abbrev pub unplugged : Device
-unplugged = device_after_events (Came (Unplug 0) ∷ []) running
+unplugged = device_after_run (DeviceStepCame (Unplug 0) ∷ []) running
 
 pub unplugged_reached : IsReachableByRun unplugged
-unplugged_reached = reached_more running_reached (Came (Unplug 0) ∷ []) (may_unplug, tt)
+unplugged_reached = reached_more running_reached (DeviceStepCame (Unplug 0) ∷ []) (may_unplug, tt)
 
 pub unplugged_safe : CommandsAreSafe unplugged
 unfolding changed are_of is_of
 unplugged_safe = unused_safe unplugged (λ k. refl) (λ k. refl)
-    (λ q away. run_elsewhere 0 (Came (Unplug 0) ∷ []) running refl q away ∙ started_elsewhere 0x400 q away)
+    (λ q away. run_elsewhere 0 (DeviceStepCame (Unplug 0) ∷ []) running refl q away ∙ started_elsewhere 0x400 q away)
 
 pub may_plug : Can (Plug 0 first_disk) unplugged
 unfolding changed
@@ -75,22 +75,22 @@ may_plug = (refl, disk_is, λ _. (first_disk_sector, refl), λ _. record { size 
 -- ---- it is stopped
 
 abbrev stop : List AccessOrStep
-stop = Made (Writing (Px (at_port 0) Cmd) 0x10) ∷ []
+stop = MadeAccess (Writing (Px (at_port 0) Cmd) 0x10) ∷ []
 
 abbrev pub stopped : Device
-stopped = device_after_events stop running
+stopped = device_after_run stop running
 
 pub stopped_reached : IsReachableByRun stopped
 unfolding changed same_others
 stopped_reached = reached_more running_reached stop (
   (
-    record { ae = refl; no_reset = refl },
+    record { ae_is_set = refl; no_reset = refl },
     (omega arith, refl),
     record {
       start = λ h. absurd (true-false h refl);
       receive = λ _. inl refl;
       stop_receiving = λ h. absurd (true-false refl h);
-      others = others_are 0x10 0 refl;
+      other_bits_are_kept = others_are 0x10 0 refl;
     },
   ),
   tt,
@@ -109,10 +109,10 @@ unfolding changed
 may_fall = (refl, refl)
 
 abbrev stop_receiving : List AccessOrStep
-stop_receiving = Came (Fall 0) ∷ Made (Writing (Px (at_port 0) Cmd) 0) ∷ []
+stop_receiving = DeviceStepCame (Fall 0) ∷ MadeAccess (Writing (Px (at_port 0) Cmd) 0) ∷ []
 
 abbrev pub silent : Device
-silent = device_after_events stop_receiving stopped
+silent = device_after_run stop_receiving stopped
 
 pub silent_reached : IsReachableByRun silent
 unfolding changed same_others
@@ -120,13 +120,13 @@ silent_reached = reached_more stopped_reached stop_receiving (
   may_fall,
   (
     (
-      record { ae = refl; no_reset = refl },
+      record { ae_is_set = refl; no_reset = refl },
       (omega arith, refl),
       record {
         start = λ h. absurd (true-false h refl);
         receive = λ h. absurd (true-false h refl);
         stop_receiving = λ _. inr (record { st_is_clear = refl; cr_is_clear = refl }, refl);
-        others = others_are 0 0 refl;
+        other_bits_are_kept = others_are 0 0 refl;
       },
     ),
     tt,

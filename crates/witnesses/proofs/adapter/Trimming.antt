@@ -10,20 +10,20 @@ use Rattle.adapter.specs.Device.{FetchedCommand, DevicePort, Device}
 use Rattle.adapter.specs.Guarded.{IsGuarded, IsGuardedPort, IsGuardedSlot, PassesTest}
 use Rattle.adapter.specs.Memory.{bytes_at, changed, patched}
 use Rattle.adapter.specs.Decoding.{DecodesTo}
-use Rattle.adapter.specs.Steps.{Steps, Can, begun, device_after}
+use Rattle.adapter.specs.Steps.{Steps, Can, newly_fetched, device_after}
 use Rattle.adapter.specs.Steps.DeviceTransition.{Fetch, Move, Clear}
-use Rattle.witnesses.specs.AdapterRuns.{AccessOrStep, IsReachableByRun, device_after_events}
-use Rattle.witnesses.specs.AdapterRuns.AccessOrStep.{Made, Came}
+use Rattle.witnesses.specs.AdapterRuns.{AccessOrStep, IsReachableByRun, device_after_run}
+use Rattle.witnesses.specs.AdapterRuns.AccessOrStep.{MadeAccess, DeviceStepCame}
 use Rattle.witnesses.proofs.adapter.Ports.{are_of, is_of, first, issue_allowed, issued_port, no_bit, reached_more, run_elsewhere, slot_guarded, untouched}
 use Rattle.witnesses.proofs.adapter.RunningAdapter.{memory, a_trim, trim_says, trim_table}
 use Rattle.witnesses.proofs.adapter.Sets.{Range, is_in, are_bytes, covers, spares, spares_all, is_sector, true-false}
 use Rattle.witnesses.proofs.adapter.Started.{at_port, started, started_elsewhere, started_reached}
 
 abbrev issue : List AccessOrStep
-issue = Made (Writing (Px (at_port 0) Ci) 4) ∷ []
+issue = MadeAccess (Writing (Px (at_port 0) Ci) 4) ∷ []
 
 abbrev pub issued : Device
-issued = device_after_events issue (started 0x400)
+issued = device_after_run issue (started 0x400)
 
 -- what the slot says is the trim alone, which isn't queued
 abbrev pub OneMeaning : Type 0
@@ -35,7 +35,7 @@ armed alone m places says queued = sym (ap (λ (n : Meaning). is_queued n.operat
 pub issued_reached : OneMeaning → IsReachableByRun issued
 unfolding changed
 issued_reached alone = reached_more (started_reached 0x400 refl (omega arith)) issue
-    ((record { ae = refl; no_reset = refl }, (omega arith, refl), issue_allowed _ _ 2 refl (omega arith) refl refl a_trim (0x9000 ∷ []) trim_says (armed alone)), tt)
+    ((record { ae_is_set = refl; no_reset = refl }, (omega arith, refl), issue_allowed _ _ 2 refl (omega arith) refl refl a_trim (0x9000 ∷ []) trim_says (armed alone)), tt)
 
 -- ---- safe
 
@@ -80,7 +80,7 @@ abbrev block : List ℕ
 block = bytes_at memory 0x9000 512
 
 abbrev taken_trim : FetchedCommand
-taken_trim = begun a_trim (0x9000 ∷ [])
+taken_trim = newly_fetched a_trim (0x9000 ∷ [])
 
 abbrev pub block_moved : FetchedCommand
 block_moved = record taken_trim { moved = 1; block = block }
@@ -88,8 +88,8 @@ block_moved = record taken_trim { moved = 1; block = block }
 may_fetch : Can (Fetch 0 2 a_trim (0x9000 ∷ [])) issued
 unfolding changed
 may_fetch = record {
-  fetchable = record { st = refl; issued = refl; free = refl };
-  working = record { running = refl; present = refl; fresh = refl; admitted = refl; whole = refl };
+  fetchable = record { st_is_set = refl; issued = refl; free = refl };
+  working = record { cr_is_set = refl; present = refl; fresh = refl; admitted = refl; is_not_broken = refl };
   is_unmixed = λ slot t is. absurd (let e : None ≡ Some t = is in (cc));
   says = trim_says;
 }
@@ -108,7 +108,7 @@ block_bytes = refl
 may_move : Can (Move 0 2 taken_trim block) fetched
 unfolding changed
 may_move = record {
-  works = record { taken = refl; working = record { running = refl; present = refl; fresh = refl; admitted = refl; whole = refl } };
+  works = record { taken = refl; working = record { cr_is_set = refl; present = refl; fresh = refl; admitted = refl; is_not_broken = refl } };
   piece_is_left = omega arith;
   bytes_are_sector = is_sector block block_size block_bytes;
   brings = refl;
@@ -118,7 +118,7 @@ abbrev pub moved : Device
 moved = device_after (Move 0 2 taken_trim block) fetched
 
 pub moved_reached : OneMeaning → IsReachableByRun moved
-moved_reached alone = reached_more (issued_reached alone) (Came (Fetch 0 2 a_trim (0x9000 ∷ [])) ∷ Came (Move 0 2 taken_trim block) ∷ []) (may_fetch, (may_move, tt))
+moved_reached alone = reached_more (issued_reached alone) (DeviceStepCame (Fetch 0 2 a_trim (0x9000 ∷ [])) ∷ DeviceStepCame (Move 0 2 taken_trim block) ∷ []) (may_fetch, (may_move, tt))
 
 pub moved_steps : Steps issued moved
 moved_steps = record { steps = Fetch 0 2 a_trim (0x9000 ∷ []) ∷ Move 0 2 taken_trim block ∷ []; lead = (may_fetch, (may_move, refl)) }
@@ -126,7 +126,7 @@ moved_steps = record { steps = Fetch 0 2 a_trim (0x9000 ∷ []) ∷ Move 0 2 tak
 pub may_clear : Can (Clear 0 2 block_moved 100 8) moved
 unfolding changed memory patched bytes_at
 may_clear = record {
-  works = record { taken = refl; working = record { running = refl; present = refl; fresh = refl; admitted = refl; whole = refl } };
+  works = record { taken = refl; working = record { cr_is_set = refl; present = refl; fresh = refl; admitted = refl; is_not_broken = refl } };
   trim = refl;
   block_is_moved = refl;
   first_is_next = refl;

@@ -28,7 +28,7 @@ use Rattle.identify.specs.declared.wanted.Wanted.TheVariants.{Any}
 use Rattle.driver_history.specs.EvidenceHandling.{ServicesReadyPort, tells_fault}
 use Rattle.driver_history.specs.Histories.{IsIssuedOn, IsIssuingAccess, CallCorresponds, PortCorresponds}
 use Rattle.driver_history.specs.PortInvariants.{DriverInvariantWith}
-use Rattle.witnesses.specs.ReadyPort.{ReadyPortHasBegun}
+use Rattle.witnesses.specs.ReadyPort.{HistoryBeginsReady}
 use Rattle.witnesses.specs.RunningAdapter.{plain_disk_mode, running_port}
 use Rattle.witnesses.proofs.history.Command.{read_memory, told, zeros}
 use Rattle.witnesses.proofs.history.Holding.{IsUnnamed, first_slots, no_slots}
@@ -76,7 +76,7 @@ abbrev pub issuing : Machine
 issuing = issuing_on.issuing submission
 
 abbrev pub waiting : Pending
-waiting = outstanding_as first_id 100 100 (issuing_on.accepted submission).held_blocks
+waiting = outstanding_as first_id 100 100 (issuing_on.accepted submission).blocks_at_acceptance
 
 abbrev pub submitted_at : JointState Device
 submitted_at = issuing_on.submitted_at submission
@@ -103,10 +103,10 @@ in_book age e here = only (waiting_for age) e here
 -- ---- what holds
 
 serves_stage : (age : ℕ) → IsInSomeStage read_memory issued 0 0 (waiting_for age) (read_of 100 1) (piece_addresses 0x64000 1)
-serves_stage age = inl (record { started = refl; issued = refl; free = refl; sact = refl; block = tt; untouched = λ i. sym (le-ltb i 0 (omega arith)); unended = refl })
+serves_stage age = inl (record { started = refl; issued = refl; is_not_taken = refl; sact = refl; has_block_if_trim = tt; untouched = λ i. sym (le-ltb i 0 (omega arith)); unended = refl })
 
 pub serves : ServesRequest issuing read_memory issued 0 0 first_id
-serves = serves_one issuing read_memory issued 0 (read_of 100 1) first_id 100 100 waiting.request.held_blocks 0 refl (omega arith) (0, omega arith, refl) refl refl told (serves_stage 0)
+serves = serves_one issuing read_memory issued 0 (read_of 100 1) first_id 100 100 waiting.request.blocks_at_acceptance 0 refl (omega arith) (0, omega arith, refl) refl refl told (serves_stage 0)
 
 pub serves_plain : is_queued serves.command.operation ≡ false
 unfolding serves serves_one
@@ -116,7 +116,7 @@ serves_plain = refl
 abbrev pub issued_under : List GrantRow → ℕ → Machine
 issued_under rows age = record (issued_for age) { rows = rows }
 
-has_one : (rows : List GrantRow) (age : ℕ) → HasOne plain_disks (issued_under rows age) [] read_memory issued (read_of 100 1) 100 100 waiting.request.held_blocks age
+has_one : (rows : List GrantRow) (age : ℕ) → HasOne plain_disks (issued_under rows age) [] read_memory issued (read_of 100 1) 100 100 waiting.request.blocks_at_acceptance age
 has_one rows age = record {
   stands = stands;
   disks = (refl, refl, refl, refl);
@@ -129,12 +129,12 @@ has_one rows age = record {
   kind = refl;
   told = told;
   stage = serves_stage age;
-  others = λ slot. record { issued = others_clear slot; free = refl; unarmed = refl };
+  others = λ slot. record { is_not_issued = others_clear slot; is_not_taken = refl; unarmed = refl };
   frames = λ f b from small. past_driver f b from;
 }
 
 pub issued_agrees : (rows : List GrantRow) (age : ℕ) → Agreeing plain_disks first_slots (issued_under rows age) [] read_memory issued
-issued_agrees rows age = agrees_one plain_disks (issued_under rows age) [] read_memory issued (read_of 100 1) 100 100 waiting.request.held_blocks age (has_one rows age)
+issued_agrees rows age = agrees_one plain_disks (issued_under rows age) [] read_memory issued (read_of 100 1) 100 100 waiting.request.blocks_at_acceptance age (has_one rows age)
 
 pub holds_issued : (age : ℕ) → DriverInvariantWith (Any ∷ Any ∷ []) first_slots (issued_at age)
 holds_issued age = holds plain_disks first_slots (issued_for age) [] read_memory issued (issued_agrees two_rows age)
@@ -142,12 +142,12 @@ holds_issued age = holds plain_disks first_slots (issued_for age) [] read_memory
 pub holds_submitted : DriverInvariantWith (Any ∷ Any ∷ []) first_slots submitted_at
 holds_submitted = holds_issued 0
 
-pub ready_has_begun : ReadyPortHasBegun
+pub ready_has_begun : HistoryBeginsReady
 ready_has_begun = record {
   initial_state = first;
   ready = (refl, refl);
-  asked = ((0, omega arith, refl), (1, omega arith, refl));
-  begun = ((starts, fit_ready plain_disks), begins plain_disks);
+  pages_are_on_tape = ((0, omega arith, refl), (1, omega arith, refl));
+  history_begins = ((starts, fit_ready plain_disks), begins plain_disks);
 }
 
 -- ---- the read is accepted
@@ -207,10 +207,10 @@ pub leaves_other : (told : Outcome) (evidence : Evidence) (new : AbstractState) 
     → ServicesReadyPort submitted_at.abstract evidence (Answer waiting told ∷ []) new (port_at 1)
 leaves_other told evidence new un single same = record {
   answers_ended = λ e here at_port ended. absurd (not_ended 0 e here ended);
-  none_is_left = λ g. absurd (un.gone g);
-  others_are_told_alike = λ g. absurd (un.gone g);
-  is_interrupted = λ why. absurd (⊎_elim un.failed un.gone why);
-  none_stays_issued = λ why. absurd (⊎_elim un.failed un.stopped why);
+  link_change_leaves_none = λ g. absurd (un.gone g);
+  link_change_tells_alike = λ g. absurd (un.gone g);
+  trouble_interrupts = λ why. absurd (⊎_elim un.failed un.gone why);
+  trouble_leaves_none_issued = λ why. absurd (⊎_elim un.failed un.stopped why);
   one_fault_at_most = single;
   fatal_tells_no_fault = λ h. absurd (un.fatal h);
   shown_disk_was_in_or_came = λ shows. inl refl;

@@ -12,9 +12,9 @@ use Rattle.ata_types.specs.declared.request.Outcome.TheVariants as outcome
 use Rattle.adapter.specs.Device.{Device}
 use Rattle.adapter.specs.declared.access.DeviceStep.{DeviceStep}
 use Rattle.refinement.specs.Relation.{port_at}
-use Rattle.refinement.specs.Driver.{IsBacked}
+use Rattle.refinement.specs.Driver.{TapeBacksSteps}
 use Rattle.block_machine.specs.DueRequests.{NoneDue}
-use Rattle.block_machine.specs.Events.{AgesOnce, Happens, HasTimedOut, RestartsTimedOut, Served, Tick, is_age}
+use Rattle.block_machine.specs.Events.{AgesOnce, Happens, TimesOutAtTick, RestartsTimedOut, Replied, Tick, is_age}
 use Rattle.block_machine.specs.Histories.{JointEvent}
 use Rattle.block_machine.specs.State.{Pending, unanswered}
 use Rattle.block_machine.specs.Steps.{Step, WaitAgain, Age, Answer}
@@ -22,7 +22,7 @@ use Rattle.block_machine.specs.declared.due.Unanswered.{Unanswered}
 use Rattle.identify.specs.declared.wanted.Wanted.TheVariants.{Any}
 use Rattle.driver_history.specs.Evidence.{IsEvidencedOf, ShowsFailure, ShowsLoss}
 use Rattle.driver_history.specs.Histories.{IssuesDue, CallCorresponds, PortCorresponds}
-use Rattle.driver_history.specs.AccessTrace.{IsAccessForPorts, LeavesEngine}
+use Rattle.driver_history.specs.AccessTrace.{UsesPortsAndNotGhc, LeavesEngine}
 use Rattle.witnesses.specs.RunningAdapter.{plain_disk_mode}
 use Rattle.witnesses.proofs.history.Accepting.{both, holds_issued, in_book, issued_at, issued_for, waiting_for}
 use Rattle.witnesses.proofs.history.Command.{read_memory}
@@ -36,14 +36,14 @@ use Rattle.witnesses.proofs.history.Submitting.{issued, submitted}
 
 -- ---- who is hung
 
-pub hung_at : (age : ℕ) → 2 ≤ age → HasTimedOut (issued_at age).abstract (port_at 0)
+pub hung_at : (age : ℕ) → 2 ≤ age → TimesOutAtTick (issued_at age).abstract (port_at 0)
 hung_at age old = record { ready = refl; pending = waiting_for age; is_in_book = (0, omega arith, refl); port_is = refl; issued = refl; old_enough = old }
 
 -- port 0 alone is ever
-pub hung_first : (age : ℕ) (port : Port) → HasTimedOut (issued_at age).abstract port → port ≡ port_at 0
+pub hung_first : (age : ℕ) (port : Port) → TimesOutAtTick (issued_at age).abstract port → port ≡ port_at 0
 hung_first age port h = sym h.port_is ∙ ap (λ (e : Pending). e.request.port) (in_book age h.pending h.is_in_book)
 
-pub not_hung : (age : ℕ) → age < 2 → (port : Port) → HasTimedOut (issued_at age).abstract port → ⊥
+pub not_hung : (age : ℕ) → age < 2 → (port : Port) → TimesOutAtTick (issued_at age).abstract port → ⊥
 not_hung age young port h =
     let same : h.pending.age ≡ age = ap (λ (e : Pending). e.age) (in_book age h.pending h.is_in_book) in
     let old = h.old_enough in
@@ -77,7 +77,7 @@ quiet = calm submitted.tape read_memory issued refl refl refl (λ place from. re
 module _ (age : ℕ) where
   abbrev pub tick : JointEvent Device DeviceStep
   tick = record {
-    event = record { ask = Tick; said = Served []; evidence = nothing; steps = ages ∷ []; ports = both };
+    event = record { call = Tick; result = Replied []; evidence = nothing; steps = ages ∷ []; ports = both };
     device = submitted;
   }
 
@@ -88,18 +88,18 @@ module _ (age : ℕ) where
   unrepeated : (e : Pending) → Contains (ages ∷ []) (WaitAgain e) → ⊥
   unrepeated e here = let same : WaitAgain e ≡ ages = only ages (WaitAgain e) here in cc
 
-  pub backed : IsBacked submitted submitted (issued_for age) (ages ∷ [])
+  pub backed : TapeBacksSteps submitted submitted (issued_for age) (ages ∷ [])
   backed = record {
-    telling = refl;
+    telling_is_same = refl;
     new_entries = [];
     tape_is = refl;
     tells_device_steps = (tt, λ d. d);
     steps_are_faithful = λ _. (tt, tt);
-    plugged = λ port. ([], sym (append-nil (submitted.port port).plugged), refl);
+    plugged_disks_match_steps = λ port. ([], sym (append-nil (submitted.port port).plug_history), refl);
   }
 
-  pub evidenced : (n : ℕ) → IsEvidencedOf Tick (Served []) [] (issued_at age) both submitted nothing (port_at n)
-  evidenced n = unnamed_evidenced Tick (Served []) [] (issued_at age) both submitted nothing (port_at n) (none_named (port_at n)) (quiet n) (All-nil (LeavesEngine (port_at n)))
+  pub evidenced : (n : ℕ) → IsEvidencedOf Tick (Replied []) [] (issued_at age) both submitted nothing (port_at n)
+  evidenced n = unnamed_evidenced Tick (Replied []) [] (issued_at age) both submitted nothing (port_at n) (none_named (port_at n)) (quiet n) (All-nil (LeavesEngine (port_at n)))
 
   pub issues : (port : Port) → IssuesDue (both.mode port) (ages ∷ []) (issued_for (suc age)) port
   issues port r here at_port = (
@@ -110,12 +110,12 @@ module _ (age : ℕ) where
   module _ (young : age < 2) where
     restarts_none : RestartsTimedOut (issued_at age).abstract nothing (ages ∷ []) (issued_at (suc age)).abstract
     restarts_none = record {
-      ports = λ port. inl (not_hung age young port, (refl, refl, refl, refl, refl, refl));
+      each_port_is_same_or_restarts = λ port. inl (not_hung age young port, (refl, refl, refl, refl, refl, refl));
       only_timed_out_wait_again = λ e here. absurd (unrepeated e here);
       only_timed_out_are_answered = λ e o here. absurd (unanswered_then e o here);
       answers_ended = λ port h. absurd (not_hung age young port h);
       none_stays_issued = λ port h. absurd (not_hung age young port h);
-      is_interrupted = λ port. (λ h. absurd (not_hung age young port h), λ why. absurd (⊎_elim (nowhere port) (nowhere port) why));
+      timed_out_iff_interrupted = λ port. (λ h. absurd (not_hung age young port h), λ why. absurd (⊎_elim (nowhere port) (nowhere port) why));
       unplugged_lost_disk = λ e here. absurd (unanswered_then e outcome.Unplugged here);
       shown_disk_was_in_or_came = λ port h. absurd (not_hung age young port h);
     }
@@ -124,20 +124,20 @@ module _ (age : ℕ) where
     tick_happens = record {
       steps_are_enabled = (tt, tt);
       steps_are_of_call = (tt, inr tt);
-      issues_are_last = (tt, λ id handled issued_in. absurd (true≢false (sym handled)));
+      issue_is_last_of_request = (tt, λ id handled issued_in. absurd (true≢false (sym handled)));
       answers_are_lawful = tt;
       ports_are_well_formed = fit_ready plain_disks;
       unanswered_keep_disk = λ e o here there same. (refl, refl);
-      is_answered = record {
-        replies_match = record { answers = []; is_permutation = IsPermutation-refl _; ordered = λ i j d less low. absurd (omega (arith, less, low)); replies_are = refl };
+      result_matches_steps = record {
+        replies_match = record { answers = []; is_permutation = IsPermutation-refl _; ordered = λ i j d less low. absurd (omega (arith, less, low)); replies_are_of_answers = refl };
         ages_once = ages_once [] refl;
         restarts_timed_out = restarts_none;
-        answers_all_unplugged = record {
+        unplugged_empties_port = record {
           none_is_left = λ e other here. absurd (unanswered_then e outcome.Unplugged here);
           none_is_told_dead = λ e other here. absurd (unanswered_then e outcome.Unplugged here);
         };
         none_is_due = λ port is. not_due (suc age) port;
-        empty_unless_ready = λ port is not_ready. absurd (not_ready is);
+        was_ready_empty_unless_ready = λ port is not_ready. absurd (not_ready is);
       };
     }
 
@@ -155,9 +155,9 @@ module _ (age : ℕ) where
     unfoldable pub tick_ties : CallCorresponds (Any ∷ Any ∷ []) (issued_at age) tick
     tick_ties = record {
       accesses = [];
-      accesses_are_explained = (refl, All-nil (IsAccessForPorts (HasTimedOut (issued_at age).abstract)));
+      accesses_are_explained = (refl, All-nil (UsesPortsAndNotGhc (TimesOutAtTick (issued_at age).abstract)));
       is_backed = backed;
-      is_evidenced = record { faults = λ f here. absurd (nowhere f here); port = λ port. evidenced port.0 };
+      is_evidenced = record { faults_are_told = λ f here. absurd (nowhere f here); each_port_is_evidenced = λ port. evidenced port.0 };
       only_failed_requeue = tt;
       issues_all_due = λ port is. issues port;
       ports_correspond = λ port. tick_part port.0;

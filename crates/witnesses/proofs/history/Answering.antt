@@ -13,10 +13,10 @@ use Rattle.ata_types.specs.declared.request.Outcome.TheVariants as outcome
 use Rattle.adapter.specs.Device.{Device}
 use Rattle.adapter.specs.declared.tape.Entry.TheVariants as entry
 use Rattle.refinement.specs.Relation.{port_at}
-use Rattle.refinement.specs.Driver.{IsBacked}
+use Rattle.refinement.specs.Driver.{TapeBacksSteps}
 use Rattle.refinement.specs.ReadWitness.{first_id}
 use Rattle.block_machine.specs.Histories.{JointEvent}
-use Rattle.block_machine.specs.Events.{ShownDiskWasInOrCame, Happens, Service, Served}
+use Rattle.block_machine.specs.Events.{ShownDiskWasInOrCame, Happens, Service, Replied}
 use Rattle.block_machine.specs.Ports.{PortsWellFormed, IsStoppedOrStuck, IsServiced, SamePort}
 use Rattle.block_machine.specs.State.{Pending}
 use Rattle.block_machine.specs.Steps.{Step, End, Answer, Unplug}
@@ -29,11 +29,11 @@ use Rattle.hba_regs.specs.declared.reg.PortReg.TheVariants.{Cmd, Ssts, Serr}
 use Rattle.adapter.specs.Access.{Access}
 use Rattle.adapter.specs.Access.Access.{Reading, Writing}
 use Rattle.adapter.specs.declared.access.DeviceStep.{DeviceStep}
-use Rattle.refinement.specs.Links.{IsPlugEvent}
+use Rattle.refinement.specs.PreservedParts.{IsPlugEvent}
 use Rattle.error_recovery.specs.Evidence.{ShowsFatal}
 use Rattle.driver_history.specs.EvidenceHandling.{ServicesReadyPort}
 use Rattle.driver_history.specs.Evidence.{TapeGainsEntry, IsEvidencedOf, ShowsLoss, ShowsFailure}
-use Rattle.driver_history.specs.Histories.{FindsDone, IsIssuedOn, CallCorresponds, PortCorresponds, BootsAnew, LosesNoPortError, RunsWellAnew, IsPortAlive}
+use Rattle.driver_history.specs.Histories.{FindsDone, IsIssuedOn, CallCorresponds, PortCorresponds, BootsAnew, LosesNoPortError, RunsWellAnew, IsServedAndNotDead}
 use Rattle.driver_history.specs.AccessTrace.{DoesNotWriteCmd}
 use Rattle.port_control.specs.Engines.{Stops}
 use Rattle.witnesses.specs.Loss.{completing_turn, losing_turn, loss_evidence, LossIsAHistory}
@@ -53,7 +53,7 @@ use Rattle.witnesses.proofs.history.Members.{nowhere}
 
 fit_one : PortsWellFormed one
 fit_one = record {
-  few_are_served = (fit_ready plain_disks).few_are_served;
+  served_are_ports_0_to_3 = (fit_ready plain_disks).served_are_ports_0_to_3;
   unserved_are_absent = λ port is. absent_of port.0 is;
   modes_are_valid = λ port is. (omega arith, omega arith, λ _. refl);
   causes_are_valid = λ port cause is. absurd (no_cause port.0 cause is);
@@ -81,7 +81,7 @@ reply = record { id = first_id; client = asked.client; outcome = outcome.Ok }
 
 abbrev service : JointEvent Device DeviceStep
 service = record {
-  event = record { ask = Service; said = Served (reply ∷ []); evidence = loss_evidence; steps = service_steps; ports = one };
+  event = record { call = Service; result = Replied (reply ∷ []); evidence = loss_evidence; steps = service_steps; ports = one };
   device = lost;
 }
 
@@ -112,9 +112,9 @@ becomes n = (
   λ is. absurd (not_dead n is),
   λ _. (
     record {
-      served_is_kept = refl;
+      served_is_unchanged = refl;
       dead_is_stuck = (λ is. absurd (not_dead_then n is), λ h. absurd (nowhere (port_at n) h));
-      disk_is_kept = λ is. (refl, refl);
+      disk_is_remembered = λ is. (refl, refl);
     },
     changes n,
   ),
@@ -130,9 +130,9 @@ had_disk zero = inl (refl, refl, refl, refl, refl, refl)
 had_disk (suc zero) = inr (λ shows. absurd shows)
 had_disk (suc (suc n)) = inl (refl, refl, refl, refl, refl, refl)
 
-service_backed : IsBacked submitted lost issuing service_steps
+service_backed : TapeBacksSteps submitted lost issuing service_steps
 service_backed = record {
-  telling = refl;
+  telling_is_same = refl;
   new_entries = gained;
   tape_is = refl;
   tells_device_steps = (
@@ -165,10 +165,10 @@ service_backed = record {
     refl,
   );
   steps_are_faithful = λ _. ((((tt, λ _ b low. tells 100 b low), tt), tt), tt);
-  plugged = λ port. ([], plugs port, refl);
+  plugged_disks_match_steps = λ port. ([], plugs port, refl);
 }
   where
-    plugs : (n : ℕ) → (lost.port n).plugged ≡ (submitted.port n).plugged ++ []
+    plugs : (n : ℕ) → (lost.port n).plug_history ≡ (submitted.port n).plug_history ++ []
     plugs zero = refl
     plugs (suc zero) = refl
     plugs (suc (suc n)) = refl
@@ -178,9 +178,9 @@ service_backed = record {
 stops : Stops (port_at 1) turns
 stops = record {
   before = completing_turn ++ Reading (Px (port_at 1) Ssts) 0 ∷ Reading (Px (port_at 1) Cmd) 0xc011 ∷ [];
-  cleared = 0xc010;
+  written_cmd = 0xc010;
   between = [];
-  fallen = 0x4010;
+  read_cmd = 0x4010;
   later = Writing (Px (port_at 1) Serr) 0xffffffff ∷ Reading (Px (port_at 1) Ssts) 0 ∷ [];
   accesses_are = refl;
   start_is_cleared = refl;
@@ -191,10 +191,10 @@ stops = record {
 of_second : WritesOf (IsOf (port_at 1)) turns
 of_second = (refl, (refl, tt))
 
-of_served : AreServing (IsPortAlive both) turns
+of_served : AreServing (IsServedAndNotDead both) turns
 of_served = (tended 0 refl, (tended 0 refl, (tended 1 refl, (tended 1 refl, ((λ is. cc, tended 1 refl), (tended 1 refl, ((λ is. cc, tended 1 refl), (tended 1 refl, tt))))))))
   where
-    tended : (n : ℕ) → both.served (port_at n) ≡ true → IsPortAlive both (port_at n)
+    tended : (n : ℕ) → both.served (port_at n) ≡ true → IsServedAndNotDead both (port_at n)
     tended n served = (served, not_dead n)
 
 gains : TapeGainsEntry (IsPlugEvent 1) submitted lost
@@ -217,24 +217,24 @@ unnamed n ne = record {
   stuck = nowhere (port_at n);
 }
 
-apart_evidenced : (n : ℕ) → n ≢ 1 → IsEvidencedOf Service (Served (reply ∷ [])) turns submitted_at one lost loss_evidence (port_at n)
-apart_evidenced n ne = unnamed_evidenced Service (Served (reply ∷ [])) turns submitted_at one lost loss_evidence (port_at n) (unnamed n ne)
+apart_evidenced : (n : ℕ) → n ≢ 1 → IsEvidencedOf Service (Replied (reply ∷ [])) turns submitted_at one lost loss_evidence (port_at n)
+apart_evidenced n ne = unnamed_evidenced Service (Replied (reply ∷ [])) turns submitted_at one lost loss_evidence (port_at n) (unnamed n ne)
     (calm submitted.tape read_memory issued refl refl refl (λ place from. refl) lost n)
     (leaves (IsOf (port_at 1)) (port_at n) (λ is. ne (ap (λ (p : Port). p.0) is)) (λ is. ne (ap (λ (p : Port). p.0) is)) turns of_second)
 
-service_evidenced : (n : ℕ) → IsEvidencedOf Service (Served (reply ∷ [])) turns submitted_at one lost loss_evidence (port_at n)
+service_evidenced : (n : ℕ) → IsEvidencedOf Service (Replied (reply ∷ [])) turns submitted_at one lost loss_evidence (port_at n)
 service_evidenced zero = apart_evidenced 0 (omega arith)
 service_evidenced (suc zero) =
     let quiet = calm submitted.tape read_memory issued refl refl refl (λ place from. refl) lost 1 refl in
     record {
-      lost = λ h. inr (inr (inl gains));
+      lost_only = λ h. inr (inr (inl gains));
       link_changed_all = λ is loss. named 1;
       link_changed_only = λ h. (refl, inr (inr gains));
-      failed_all = λ is f. absurd (quiet.1 f);
-      failed_only = λ h. absurd (nowhere (port_at 1) h);
-      fatal_all = λ is f. absurd (quiet.1 (inl f));
-      fatal_only = λ h. absurd (nowhere (port_at 1) h);
-      stopped_all = inr (inl (named 1));
+      showing_error_all = λ is f. absurd (quiet.1 f);
+      showing_error_only = λ h. absurd (nowhere (port_at 1) h);
+      showing_fatal_error_all = λ is f. absurd (quiet.1 (inl f));
+      showing_fatal_error_only = λ h. absurd (nowhere (port_at 1) h);
+      engine_is_left_or_stopped = inr (inl (named 1));
       stopped_only = λ h. inl stops;
       stuck_only = λ h. absurd (nowhere (port_at 1) h);
     }
@@ -247,7 +247,7 @@ done_there = record {
   ci = 0;
   sact = 0;
   reads = record { before = []; later = losing_turn; accesses_are_split = refl; cmd_is_unwritten_before = All-nil (DoesNotWriteCmd (port_at 0)) };
-  exact = λ e slot on s. (λ ok. (no_bit slot, no_bit slot), λ clear. (ended, sym (ap (λ (x : Pending). x.request) (in_book 0 e on.is_in_book)), answer_here));
+  answered_iff_done = λ e slot on s. (λ ok. (no_bit slot, no_bit slot), λ clear. (ended, sym (ap (λ (x : Pending). x.request) (in_book 0 e on.is_in_book)), answer_here));
 }
 
 service_finds : (n : ℕ) (e : Pending) → IsIssuedOn (port_at n) issuing e → FindsDone (port_at n) turns submitted_at service_steps
@@ -257,10 +257,10 @@ service_finds (suc n) e on = absurd (none_there 0 n e on)
 heeds : (n : ℕ) → both.state (port_at n) ≡ Ready → ServicesReadyPort submitted_at.abstract loss_evidence service_steps lost_at.abstract (port_at n)
 heeds zero is = record {
   answers_ended = λ e here at_port done. absurd (not_ended 0 e here done);
-  none_is_left = λ g e here. absurd (nowhere e here);
-  others_are_told_alike = λ g. absurd ((unnamed 0 (omega arith)).gone g);
-  is_interrupted = λ why. absurd (⊎_elim (nowhere (port_at 0)) (unnamed 0 (omega arith)).gone why);
-  none_stays_issued = λ why e here. absurd (nowhere e here);
+  link_change_leaves_none = λ g e here. absurd (nowhere e here);
+  link_change_tells_alike = λ g. absurd ((unnamed 0 (omega arith)).gone g);
+  trouble_interrupts = λ why. absurd (⊎_elim (nowhere (port_at 0)) (unnamed 0 (omega arith)).gone why);
+  trouble_leaves_none_issued = λ why e here. absurd (nowhere e here);
   one_fault_at_most = omega arith;
   fatal_tells_no_fault = λ h. absurd (nowhere (port_at 0) h);
   shown_disk_was_in_or_came = λ shows. inl refl;
@@ -272,10 +272,10 @@ heeds zero is = record {
 }
 heeds (suc zero) is = record {
   answers_ended = λ e here at_port done. absurd (not_ended 0 e here done);
-  none_is_left = λ g e here. absurd (nowhere e here);
-  others_are_told_alike = λ g. inl (λ e o here at_port. inl (only_ok e o here));
-  is_interrupted = λ why. inl (named 1);
-  none_stays_issued = λ why e here. absurd (nowhere e here);
+  link_change_leaves_none = λ g e here. absurd (nowhere e here);
+  link_change_tells_alike = λ g. inl (λ e o here at_port. inl (only_ok e o here));
+  trouble_interrupts = λ why. inl (named 1);
+  trouble_leaves_none_issued = λ why e here. absurd (nowhere e here);
   one_fault_at_most = omega arith;
   fatal_tells_no_fault = λ h. absurd (nowhere (port_at 1) h);
   shown_disk_was_in_or_came = λ shows. absurd shows;
@@ -289,7 +289,7 @@ quiet = calm submitted.tape read_memory issued refl refl refl (λ place from. re
 not_shown : (n : ℕ) → both.state (port_at n) ≡ Ready → ShowsFatal (submitted.port n) ⊎ ShowsLoss (port_at n) submitted lost → ⊥
 not_shown n is f = ⊎_elim (λ fatal. (quiet n is).1 (inl fatal)) (quiet n is).0 f
 
-service_boots : (n : ℕ) → BootsAnew Service (Served (reply ∷ [])) turns submitted_at one lost (port_at n)
+service_boots : (n : ℕ) → BootsAnew Service (Replied (reply ∷ [])) turns submitted_at one lost (port_at n)
 service_boots zero = (λ is f. absurd (not_shown 0 is f), inl (refl, refl, refl, refl, refl, refl))
 service_boots (suc zero) = (λ is f. absurd (not_shown 1 is f), inr (inr (inl refl)))
 service_boots (suc (suc n)) = (λ is f. absurd (not_shown (suc (suc n)) is f), inl (refl, refl, refl, refl, refl, refl))
@@ -304,11 +304,11 @@ gained_calm n ne =
 port_error : (n : ℕ) → LosesNoPortError loss_evidence submitted_at one lost (port_at n)
 port_error zero = no_trouble loss_evidence submitted_at one lost (port_at 0) gained refl (gained_calm 0 (omega arith)) (served_ready 0) (quiet 0)
 port_error (suc zero) = record {
-  errors = λ ready why. inl (inl (named 1));
-  changes = λ tends why. inl (inl (named 1));
-  fault = λ ready. absurd (let x : Absent ≡ Ready = ready in cc);
-  fatal = λ ready. absurd (let x : Absent ≡ Ready = ready in cc);
-  disk = λ ready. absurd (let x : Absent ≡ Ready = ready in cc);
+  errors_are_handled_or_shown = λ ready why. inl (inl (named 1));
+  changes_are_handled_or_shown = λ tends why. inl (inl (named 1));
+  new_fault_is_shown = λ ready. absurd (let x : Absent ≡ Ready = ready in cc);
+  new_fatal_is_shown = λ ready. absurd (let x : Absent ≡ Ready = ready in cc);
+  new_plug_event_is_shown = λ ready. absurd (let x : Absent ≡ Ready = ready in cc);
 }
 port_error (suc (suc n)) = no_trouble loss_evidence submitted_at one lost (port_at (suc (suc n))) gained refl (gained_calm (suc (suc n)) (omega arith)) (served_ready (suc (suc n))) (quiet (suc (suc n)))
 
@@ -331,14 +331,14 @@ service_happens = record {
     refl,
   );
   steps_are_of_call = ((((tt, inl tt), inl tt), inr tt), inl tt);
-  issues_are_last = ((((tt, λ id h is. absurd (true≢false (sym is))), λ id h is. absurd (true≢false (sym is))), λ id h is. absurd (true≢false (sym is))), λ id h is. absurd (true≢false (sym is)));
+  issue_is_last_of_request = ((((tt, λ id h is. absurd (true≢false (sym is))), λ id h is. absurd (true≢false (sym is))), λ id h is. absurd (true≢false (sym is))), λ id h is. absurd (true≢false (sym is)));
   answers_are_lawful = (tt, (record { pending = waiting; is_in_book = (0, omega arith, refl); id_is = refl; issued = refl }, refl, all_touched, refl));
   ports_are_well_formed = fit_one;
   unanswered_keep_disk = λ e o here. absurd (nowhere e here);
-  is_answered = record {
-    replies_match = record { answers = (ended, outcome.Ok) ∷ []; is_permutation = IsPermutation-refl _; ordered = λ i j d less low. absurd (omega (arith, less, low)); replies_are = refl };
-    tells_dead = λ e o here is. absurd (not_dead e.request.port.0 is);
-    answers_all_unplugged = record { none_is_left = λ e other here. absurd (not_unplugged e here); none_is_told_dead = λ e other here. absurd (not_unplugged e here) };
+  result_matches_steps = record {
+    replies_match = record { answers = (ended, outcome.Ok) ∷ []; is_permutation = IsPermutation-refl _; ordered = λ i j d less low. absurd (omega (arith, less, low)); replies_are_of_answers = refl };
+    dead_ports_tell_only_port_dead = λ e o here is. absurd (not_dead e.request.port.0 is);
+    unplugged_empties_port = record { none_is_left = λ e other here. absurd (not_unplugged e here); none_is_told_dead = λ e other here. absurd (not_unplugged e here) };
     none_is_due = λ port is r at_port due. absurd (nowhere r due.is_in_book);
     empty_unless_ready = λ port other e here. absurd (nowhere e here);
     answers_ended = λ port is e here at_port done. absurd (not_ended 0 e here done);
@@ -361,9 +361,9 @@ service_part n = record {
 service_ties : CallCorresponds (Any ∷ Any ∷ []) submitted_at service
 service_ties = record {
   accesses = turns;
-  accesses_are_explained = (does_append completing_turn losing_turn submitted between lost finds loses, serving (IsPortAlive both) turns of_served);
+  accesses_are_explained = (does_append completing_turn losing_turn submitted between lost finds loses, serving (IsServedAndNotDead both) turns of_served);
   is_backed = service_backed;
-  is_evidenced = record { faults = λ f here. absurd (nowhere f here); port = λ port. service_evidenced port.0 };
+  is_evidenced = record { faults_are_told = λ f here. absurd (nowhere f here); each_port_is_evidenced = λ port. service_evidenced port.0 };
   only_failed_requeue = tt;
   issues_all_due = λ port is r here. absurd (nowhere r here);
   ports_correspond = λ port. service_part port.0;
@@ -377,21 +377,21 @@ loss_is_a_history = record {
   ready = (refl, refl);
   submit = submit;
   asked = asked;
-  reads = refl;
+  asked_is_read = refl;
   submits = (refl, refl);
   service = service;
   asks_for_service = (refl, refl);
   between = between;
-  finding = finds;
-  finding_allowed = finding_allowed;
-  in_then = refl;
-  losing = loses;
-  losing_allowed = losing_allowed;
+  completing_turn_is_made = finds;
+  completing_turn_is_allowed = finding_allowed;
+  disk_1_is_in_between = refl;
+  losing_turn_is_made = loses;
+  losing_turn_is_allowed = losing_allowed;
   evidence = refl;
-  still = refl;
-  absent = refl;
+  port_0_stays_ready = refl;
+  port_1_becomes_absent = refl;
   history = ((((starts, fit_ready plain_disks), begins plain_disks), submit_happens, submit_ties), service_happens, service_ties);
-  turns = refl;
-  submit_parts = submit_parts;
-  service_parts = λ port. service_part port.0;
+  accesses_are = refl;
+  submit_corresponds = submit_parts;
+  service_corresponds = λ port. service_part port.0;
 }

@@ -7,7 +7,7 @@ use Rattle.hba_regs.specs.Bits.{bit}
 use Rattle.hba_regs.specs.declared.reg.Reg.TheVariants.{Px}
 use Rattle.hba_regs.specs.declared.reg.Reg.TheVariants as registers
 use Rattle.hba_regs.specs.declared.reg.PortReg.TheVariants.{Is, Ssts}
-use Rattle.adapter.specs.Access.{DoesAll, Reads, Writes, note, port_after_write, shown_interrupt, port_after_hba_is_write}
+use Rattle.adapter.specs.Access.{DoesAll, Reads, Writes, notes_after_reading, port_after_write, shown_interrupt, port_after_hba_is_write}
 use Rattle.adapter.specs.Device.{DevicePort, Device}
 use Rattle.adapter.specs.Memory.{changed}
 use Rattle.adapter.specs.Rules.{AreAcknowledged}
@@ -42,7 +42,7 @@ abbrev acknowledged : DevicePort
 acknowledged = port_after_hba_is_write cleared
 
 abbrev linked : DevicePort
-linked = record acknowledged { notes = note Ssts 3 acknowledged }
+linked = record acknowledged { notes = notes_after_reading Ssts 3 acknowledged }
 
 -- the masks are read then
 abbrev pub outset : Outset
@@ -73,7 +73,7 @@ tells = reads_here tape_broken Is 0x08000000 broken (λ place cause. ifs_shown p
 
 -- the port's bit of IS is cleared
 acknowledges : Writes registers.Is 1 (dev cleared) (dev acknowledged)
-acknowledges = record { mid = dev cleared; steps = record { steps = []; lead = refl }; effect = ap (λ (f : ℕ → DevicePort). record (dev cleared) { port = f }) (λ i n. each n i) }
+acknowledges = record { at_access = dev cleared; steps = record { steps = []; lead = refl }; effect = ap (λ (f : ℕ → DevicePort). record (dev cleared) { port = f }) (λ i n. each n i) }
   where
     each : (n : ℕ) → port_or_empty (acknowledged ∷ second ∷ []) n ≡ (if bit 1 n then port_after_hba_is_write (port_or_empty (cleared ∷ second ∷ []) n) else port_or_empty (cleared ∷ second ∷ []) n)
     each zero = refl
@@ -90,4 +90,4 @@ may_acknowledge (suc n) low set = absurd (true≢false (sym set ∙ other_bit (s
 
 pub allowed : AreAllowed fatal_accesses (dev broken) (dev (unfit outset)) does
 unfolding does tells acknowledges reads_here writes_here reads writes
-allowed = ((record { ae = refl; no_reset = refl }, (omega arith, refl)), ((record { ae = refl; no_reset = refl }, (omega arith, refl), tt), ((record { ae = refl; no_reset = refl }, may_acknowledge), ((record { ae = refl; no_reset = refl }, (omega arith, refl)), restart_allowed outset))))
+allowed = ((record { ae_is_set = refl; no_reset = refl }, (omega arith, refl)), ((record { ae_is_set = refl; no_reset = refl }, (omega arith, refl), tt), ((record { ae_is_set = refl; no_reset = refl }, may_acknowledge), ((record { ae_is_set = refl; no_reset = refl }, (omega arith, refl)), restart_allowed outset))))

@@ -8,14 +8,14 @@ use Rattle.ata_types.specs.declared.request.Outcome.TheVariants as outcome
 use Rattle.adapter.specs.Device.{Device}
 use Rattle.adapter.specs.declared.access.DeviceStep.{DeviceStep}
 use Rattle.refinement.specs.Relation.{port_at}
-use Rattle.block_machine.specs.Events.{ShownDiskWasInOrCame, Happens, Served, Service}
+use Rattle.block_machine.specs.Events.{ShownDiskWasInOrCame, Happens, Replied, Service}
 use Rattle.block_machine.specs.Histories.{JointEvent}
 use Rattle.block_machine.specs.Ports.{IsStoppedOrStuck, IsServiced, SamePort}
 use Rattle.block_machine.specs.State.{Pending}
 use Rattle.block_machine.specs.Steps.{Step, Answer}
 use Rattle.identify.specs.declared.wanted.Wanted.TheVariants.{Any}
 use Rattle.driver_history.specs.EvidenceHandling.{ServicesReadyPort}
-use Rattle.driver_history.specs.Histories.{BootsAnew, FindsDone, IsIssuedOn, IsPortAlive, CallCorresponds, PortCorresponds}
+use Rattle.driver_history.specs.Histories.{BootsAnew, FindsDone, IsIssuedOn, IsServedAndNotDead, CallCorresponds, PortCorresponds}
 use Rattle.driver_history.specs.AccessTrace.{DoesNotWriteCmd}
 use Rattle.witnesses.specs.FatalError.{FatalErrorIsAHistory, fatal_accesses, fatal_evidence, fatal_look_accesses}
 use Rattle.witnesses.proofs.history.Accepting.{asked, both, first, issuing, submit, submit_happens, submit_parts, submit_ties, waiting, bits_set, leaves_other, none_there, not_ended, the_answer}
@@ -37,7 +37,7 @@ answer = Answer waiting outcome.Unplugged
 abbrev restart : Restart
 restart = record {
   ask = Service;
-  said = Served replies;
+  said = Replied replies;
   steps = answer ∷ [];
   machine = issuing;
   port = broken;
@@ -78,14 +78,14 @@ had_disk (suc n) = inl (others_same n)
 
 abbrev service : JointEvent Device DeviceStep
 service = record {
-  event = record { ask = Service; said = Served replies; evidence = fatal_evidence; steps = answer ∷ []; ports = one };
+  event = record { call = Service; result = Replied replies; evidence = fatal_evidence; steps = answer ∷ []; ports = one };
   device = booted;
 }
 
-of_tended : AreServing (IsPortAlive both) fatal_accesses
-of_tended = (tended, ((λ is. cc, tended), ((λ is. cc, tt), (tended, of_served (IsPortAlive both) tended))))
+of_tended : AreServing (IsServedAndNotDead both) fatal_accesses
+of_tended = (tended, ((λ is. cc, tended), ((λ is. cc, tt), (tended, of_served (IsServedAndNotDead both) tended))))
   where
-    tended : IsPortAlive both (port_at 0)
+    tended : IsServedAndNotDead both (port_at 0)
     tended = (refl, not_dead 0)
 
 -- ---- what it owes each port
@@ -93,10 +93,10 @@ of_tended = (tended, ((λ is. cc, tended), ((λ is. cc, tt), (tended, of_served 
 heeds : (n : ℕ) → both.state (port_at n) ≡ Ready → ServicesReadyPort broken_at.abstract fatal_evidence (answer ∷ []) (booted_at outset).abstract (port_at n)
 heeds zero is = record {
   answers_ended = λ e here at_port ended. absurd (not_ended 0 e here ended);
-  none_is_left = λ g. absurd (nowhere (port_at 0) g);
-  others_are_told_alike = λ g. absurd (nowhere (port_at 0) g);
-  is_interrupted = λ why. inl (named 0);
-  none_stays_issued = λ why e here. absurd (nowhere e here);
+  link_change_leaves_none = λ g. absurd (nowhere (port_at 0) g);
+  link_change_tells_alike = λ g. absurd (nowhere (port_at 0) g);
+  trouble_interrupts = λ why. inl (named 0);
+  trouble_leaves_none_issued = λ why e here. absurd (nowhere e here);
   one_fault_at_most = omega arith;
   fatal_tells_no_fault = λ h. (named 0, refl);
   shown_disk_was_in_or_came = λ shows. inl refl;
@@ -105,7 +105,7 @@ heeds zero is = record {
 heeds (suc zero) is = leaves_other outcome.Unplugged fatal_evidence (booted_at outset).abstract (unnamed restart is_restart 0) (omega arith) (refl, refl, refl, refl, refl, refl)
 heeds (suc (suc n)) is = absurd (let x : Absent ≡ Ready = is in cc)
 
-boots : (n : ℕ) → BootsAnew Service (Served replies) fatal_accesses broken_at one booted (port_at n)
+boots : (n : ℕ) → BootsAnew Service (Replied replies) fatal_accesses broken_at one booted (port_at n)
 boots zero = (λ is f. inr (inr (resets fatal_look_accesses)), inr (inr (inr (resets fatal_look_accesses))))
 boots (suc zero) = (λ is f. absurd (⊎_elim (λ fatal. quiet restart is_restart 0 is (inl fatal)) (there restart is_restart 1 is) f), inl (refl, refl, refl, refl, refl, refl))
 boots (suc (suc n)) = (λ is. absurd (let x : Absent ≡ Ready = is in cc), inl (refl, refl, refl, refl, refl, refl))
@@ -118,14 +118,14 @@ happens : Happens broken_at.abstract service.event
 happens = record {
   steps_are_enabled = (tt, ((0, omega arith, refl), tt));
   steps_are_of_call = (tt, inr tt);
-  issues_are_last = (tt, λ id h is. absurd (true≢false (sym is)));
+  issue_is_last_of_request = (tt, λ id h is. absurd (true≢false (sym is)));
   answers_are_lawful = (tt, (named 0, named 0));
   ports_are_well_formed = fit_one;
   unanswered_keep_disk = λ e o here. absurd (nowhere e here);
-  is_answered = record {
-    replies_match = record { answers = (waiting, outcome.Unplugged) ∷ []; is_permutation = IsPermutation-refl _; ordered = λ i j d less low. absurd (omega (arith, less, low)); replies_are = refl };
-    tells_dead = λ e o here is. absurd (not_dead e.request.port.0 is);
-    answers_all_unplugged = unplugs restart is_restart;
+  result_matches_steps = record {
+    replies_match = record { answers = (waiting, outcome.Unplugged) ∷ []; is_permutation = IsPermutation-refl _; ordered = λ i j d less low. absurd (omega (arith, less, low)); replies_are_of_answers = refl };
+    dead_ports_tell_only_port_dead = λ e o here is. absurd (not_dead e.request.port.0 is);
+    unplugged_empties_port = unplugs restart is_restart;
     none_is_due = λ port is r at_port due. absurd (nowhere r due.is_in_book);
     empty_unless_ready = λ port other e here. absurd (nowhere e here);
     answers_ended = λ port is e here at_port done. absurd (not_ended 0 e here done);
@@ -148,9 +148,9 @@ part_of n = record {
 ties : CallCorresponds (Any ∷ Any ∷ []) broken_at service
 ties = record {
   accesses = fatal_accesses;
-  accesses_are_explained = (does, serving (IsPortAlive both) fatal_accesses of_tended);
+  accesses_are_explained = (does, serving (IsServedAndNotDead both) fatal_accesses of_tended);
   is_backed = backed restart is_restart;
-  is_evidenced = record { faults = λ f here. absurd (nowhere f here); port = λ port. evidenced restart is_restart port.0 };
+  is_evidenced = record { faults_are_told = λ f here. absurd (nowhere f here); each_port_is_evidenced = λ port. evidenced restart is_restart port.0 };
   only_failed_requeue = tt;
   issues_all_due = λ port is r here. absurd (nowhere r here);
   ports_correspond = λ port. part_of port.0;
@@ -163,21 +163,21 @@ fatal_error_is_a_history = record {
   initial_state = first;
   submit = submit;
   asked = asked;
-  reads = refl;
+  asked_is_read = refl;
   submits = (refl, refl);
-  told = meeting;
-  tells = (refl, refl);
+  fatal_step = meeting;
+  device_is_told = (refl, refl);
   shows = shows_fatal;
   ready = refl;
   service = service;
   asks_for_service = (refl, refl);
   evidence = refl;
   unfit = refl;
-  does = does;
-  allowed = allowed;
+  service_makes_accesses = does;
+  accesses_are_allowed = allowed;
   history = (((((starts, fit_ready plain_disks), begins plain_disks), submit_happens, submit_ties), meeting_happens, meeting_ties), happens, ties);
   accesses = refl;
-  submit_parts = submit_parts;
-  told_parts = λ port. meeting_part port.0;
-  service_parts = λ port. part_of port.0;
+  submit_corresponds = submit_parts;
+  fatal_step_corresponds = λ port. meeting_part port.0;
+  service_corresponds = λ port. part_of port.0;
 }

@@ -44,8 +44,8 @@ start = record {
   present = λ p. slice_index_or (true ∷ true ∷ []) p.0 false;
   disk_ids = λ p. 0;
   sizes = λ p. slice_index_or (256 ∷ 256 ∷ []) p.0 0;
-  disks = λ p k b. k;
-  blocks_since_flush = λ p k. [];
+  disk_bytes = λ p k b. k;
+  overwritten_since_flush = λ p k. [];
   book = [];
   kept = [];
   lent = λ f. None;
@@ -57,15 +57,15 @@ start = record {
 
 pub starts : IsInitial start
 starts = record {
-  book = refl;
-  kept = refl;
-  lent = λ f. refl;
-  next = refl;
-  few = omega arith;
-  rows = AllPairs-cons DifferInName (row 0) (row 1 ∷ []) (All-from_recursion (DifferInName (row 0)) (row 1 ∷ []) (apart, tt))
+  book_is_empty = refl;
+  none_is_kept = refl;
+  no_frame_is_lent = λ f. refl;
+  next_id_is_1 = refl;
+  rows_are_at_most_64 = omega arith;
+  rows_differ_in_name = AllPairs-cons DifferInName (row 0) (row 1 ∷ []) (All-from_recursion (DifferInName (row 0)) (row 1 ∷ []) (apart, tt))
       (AllPairs-cons DifferInName (row 1) [] (All-nil (DifferInName (row 1))) (λ i j d less below. absurd (omega (arith, below))));
-  configured = λ r here. All-contains IsValidRow two_rows r (All-from_recursion IsValidRow two_rows (valid 0 (omega arith), (valid 1 (omega arith), tt))) here;
-  owned = λ f c. cond_both (is_behind_driver f) (Some client) None (λ o. o ≡ Some c → (1 ≤ c.0) × (c.0 ≤ 8) × (DRIVER_FRAMES ≤ f.0) × (f.0 < MOST_FRAMES))
+  rows_are_valid = λ r here. All-contains IsValidRow two_rows r (All-from_recursion IsValidRow two_rows (valid 0 (omega arith), (valid 1 (omega arith), tt))) here;
+  owned_frames_are_clients = λ f c. cond_both (is_behind_driver f) (Some client) None (λ o. o ≡ Some c → (1 ≤ c.0) × (c.0 ≤ 8) × (DRIVER_FRAMES ≤ f.0) × (f.0 < MOST_FRAMES))
       (λ behind is.
       let parts = and_parts (nat_le DRIVER_FRAMES f.0) (nat_lt f.0 MOST_FRAMES) behind in
       let same : client ≡ c = cc in

@@ -7,10 +7,10 @@ use Rattle.byteorder.specs.Endian.{little_from}
 use Rattle.adapter.specs.FirstRead.{header_bytes}
 use Rattle.adapter.specs.Memory.{bytes_at, patched}
 use Rattle.adapter.specs.ReadDone.{read_of}
-use Rattle.adapter.specs.Commands.{IsMeaning, Meaning, command_of, piece_count, reads_memory}
+use Rattle.adapter.specs.Commands.{IsValidMeaning, Meaning, command_of, piece_count, reads_memory}
 use Rattle.adapter.specs.Decoding.{IsWholePieces, piece_addresses}
 use Rattle.adapter.specs.Encoding.{EncodesCommand, EncodesHeader, EncodesPrd}
-use Rattle.refinement.specs.MemoryLayout.{table_of}
+use Rattle.refinement.specs.MemoryLayout.{command_table_address}
 use Rattle.adapter.specs.declared.command.Prd.{Prd}
 use Rattle.adapter.specs.declared.command.Operation.TheVariants.{ReadQueued}
 use Rattle.refinement.specs.Slots.{SlotDecodesTo}
@@ -43,17 +43,17 @@ whole prd is zero d small = is
 whole prd is (suc k) d small = absurd (omega (arith, small))
 
 -- The header, the FIS and the PRD of a slot of port 0 say a read of one sector into this place.
-pub told_one : (memory : ℕ → ℕ) (slot : ℕ) (c : Meaning) (address : ℕ) → EncodesHeader (bytes_at memory (0 + 32 * slot) 32) (reads_memory c.operation) 1 (table_of 0 slot)
-    → EncodesCommand (bytes_at memory (table_of 0 slot) 20) (command_of c.operation slot c.first c.count) → IsMeaning c
-    → EncodesPrd (bytes_at memory (table_of 0 slot + 128) 16) (record { address = address; bytes = 512 }) → 1 ≡ piece_count c.operation c.count → SlotDecodesTo memory 0 0 slot c (piece_addresses address 1)
+pub told_one : (memory : ℕ → ℕ) (slot : ℕ) (c : Meaning) (address : ℕ) → EncodesHeader (bytes_at memory (0 + 32 * slot) 32) (reads_memory c.operation) 1 (command_table_address 0 slot)
+    → EncodesCommand (bytes_at memory (command_table_address 0 slot) 20) (command_of c.operation slot c.first c.count) → IsValidMeaning c
+    → EncodesPrd (bytes_at memory (command_table_address 0 slot + 128) 16) (record { address = address; bytes = 512 }) → 1 ≡ piece_count c.operation c.count → SlotDecodesTo memory 0 0 slot c (piece_addresses address 1)
 told_one memory slot c address header fis meaning prd many = record {
   decodes_to = record {
-    table = table_of 0 slot;
+    table = command_table_address 0 slot;
     prds = record { address = address; bytes = 512 } ∷ [];
     header = header;
     fis = fis;
     meaning = meaning;
-    prds_stand = (prd, tt);
+    prds_are_encoded = (prd, tt);
     prd_count_is_allowed = omega arith;
     prds_are_whole_pieces = whole (record { address = address; bytes = 512 }) refl;
     places_are = refl;
@@ -94,14 +94,14 @@ queued_bytes slot k = 0x27 ∷ 0x80 ∷ 0x60 ∷ 1 ∷ k ∷ 0 ∷ 0 ∷ 0x40 �
 
 -- its header, but for those: no W, one PRD, and the address of the slot's table
 abbrev pub header_to : ℕ → List ℕ
-header_to slot = 5 ∷ 0 ∷ 1 ∷ replicate 5 0 ++ to_le_bytes w32 (table_of 0 slot)
+header_to slot = 5 ∷ 0 ∷ 1 ∷ replicate 5 0 ++ to_le_bytes w32 (command_table_address 0 slot)
 
-pub told_queued : (memory : ℕ → ℕ) (slot k frame : ℕ) → k < 256 → little_from 8 4 (header_to slot) ≡ table_of 0 slot → table_of 0 slot % 128 ≡ 0
+pub told_queued : (memory : ℕ → ℕ) (slot k frame : ℕ) → k < 256 → little_from 8 4 (header_to slot) ≡ command_table_address 0 slot → command_table_address 0 slot % 128 ≡ 0
     → little_from 0 4 (frame_head frame) ≡ 4096 * frame → 4096 * frame % 2 ≡ 0
-    → bytes_at memory (0 + 32 * slot) 32 ≡ header_to slot ++ replicate 20 0 → bytes_at memory (table_of 0 slot) 20 ≡ queued_bytes slot k ++ replicate 6 0
-    → bytes_at memory (table_of 0 slot + 128) 16 ≡ frame_head frame → SlotDecodesTo memory 0 0 slot (queued_read k) (piece_addresses (4096 * frame) 1)
+    → bytes_at memory (0 + 32 * slot) 32 ≡ header_to slot ++ replicate 20 0 → bytes_at memory (command_table_address 0 slot) 20 ≡ queued_bytes slot k ++ replicate 6 0
+    → bytes_at memory (command_table_address 0 slot + 128) 16 ≡ frame_head frame → SlotDecodesTo memory 0 0 slot (queued_read k) (piece_addresses (4096 * frame) 1)
 told_queued memory slot k frame low points aligned address even header fis prd = told_one memory slot (queued_read k) (4096 * frame)
-    (subst (λ (bytes : List ℕ). EncodesHeader bytes false 1 (table_of 0 slot)) (sym header)
+    (subst (λ (bytes : List ℕ). EncodesHeader bytes false 1 (command_table_address 0 slot)) (sym header)
     (record { size = refl; dword0_is = refl; table_address_is = points; aligned = aligned; zeros = λ i from to. zeros_past (header_to slot) 20 i from to }))
     (subst (λ (bytes : List ℕ). EncodesCommand bytes (command_of ReadQueued slot k 1)) (sym fis)
     (record {

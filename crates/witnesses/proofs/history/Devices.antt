@@ -12,7 +12,7 @@ use Rattle.hba_regs.specs.declared.reg.Reg.{Reg}
 use Rattle.hba_regs.specs.declared.reg.Reg.TheVariants.{Ghc, Px}
 use Rattle.hba_regs.specs.declared.reg.PortReg.{PortReg}
 use Rattle.hba_regs.specs.declared.reg.PortReg.TheVariants.{Cmd, Sctl}
-use Rattle.adapter.specs.Access.{Access, DoesAll, PortShows, Reads, Stores, Writes, note, port_after_write}
+use Rattle.adapter.specs.Access.{Access, DoesAll, PortShows, Reads, Stores, Writes, notes_after_reading, port_after_write}
 use Rattle.adapter.specs.Access.Access.{Reading, Writing, Loading, Storing}
 use Rattle.adapter.specs.Device.{DevicePort, Device}
 use Rattle.adapter.specs.Memory.{changed, patched}
@@ -21,7 +21,7 @@ use Rattle.adapter.specs.Steps.{Can, TransitionsLead, DeviceTransition, Steps, d
 use Rattle.adapter.specs.Steps.DeviceTransition.{Fall}
 use Rattle.adapter.specs.declared.tape.Entry.{Entry}
 use Rattle.refinement.specs.Relation.{port_at}
-use Rattle.driver_history.specs.AccessTrace.{LeavesEngine, IsAccessForPorts, IsOfPorts}
+use Rattle.driver_history.specs.AccessTrace.{LeavesEngine, UsesPortsAndNotGhc, UsesPortRegistersOf}
 use Rattle.witnesses.specs.RunningAdapter.{running_device, port_or_empty}
 
 -- ---- one port is changed
@@ -70,23 +70,23 @@ put_device tape memory k old new x here others = ap (λ (f : ℕ → DevicePort)
 
 -- bytes are stored, and the device does nothing first
 pub stores : (at : ℕ) (bytes : List ℕ) (tape : List Entry) (memory : ℕ → ℕ) (ports : List DevicePort) → Stores at bytes (running_device tape memory ports) (running_device tape (patched memory at bytes) ports)
-stores at bytes tape memory ports = record { mid = running_device tape memory ports; steps = record { steps = []; lead = refl }; effect = refl }
+stores at bytes tape memory ports = record { at_access = running_device tape memory ports; steps = record { steps = []; lead = refl }; effect = refl }
 
 module _ (tape : List Entry) (memory : ℕ → ℕ) (k : ℕ) (old new : List DevicePort) (others : AlikeBut k old new) where
   abbrev p : DevicePort
   p = port_or_empty old k
 
-  unfoldable pub reads : (r : PortReg) (v : ℕ) → PortShows r v p → port_or_empty new k ≡ record p { notes = note r v p } → Reads (Px (port_at k) r) v (running_device tape memory old) (running_device tape memory new)
+  unfoldable pub reads : (r : PortReg) (v : ℕ) → PortShows r v p → port_or_empty new k ≡ record p { notes = notes_after_reading r v p } → Reads (Px (port_at k) r) v (running_device tape memory old) (running_device tape memory new)
   reads r v shows here = record {
-    mid = running_device tape memory old;
+    at_access = running_device tape memory old;
     steps = record { steps = []; lead = refl };
     shows = shows;
-    effect = put_device tape memory k old new (record p { notes = note r v p }) here others;
+    effect = put_device tape memory k old new (record p { notes = notes_after_reading r v p }) here others;
   }
 
   unfoldable pub writes : (r : PortReg) (v : ℕ) → port_or_empty new k ≡ port_after_write r v (length tape) p → Writes (Px (port_at k) r) v (running_device tape memory old) (running_device tape memory new)
   writes r v here = record {
-    mid = running_device tape memory old;
+    at_access = running_device tape memory old;
     steps = record { steps = []; lead = refl };
     effect = put_device tape memory k old new (port_after_write r v (length tape) p) here others;
   }
@@ -98,13 +98,13 @@ fall p = record p { cr = false; taken = λ _. None }
 -- PxCMD is read when CR has just fallen
 unfoldable pub falls_reads : (tape : List Entry) (memory : ℕ → ℕ) (k v : ℕ) (old mid new : List DevicePort) → AlikeBut k old mid → AlikeBut k mid new
     → (port_or_empty old k).st ≡ false → (port_or_empty old k).cr ≡ true → port_or_empty mid k ≡ fall (port_or_empty old k)
-    → PortShows Cmd v (port_or_empty mid k) → port_or_empty new k ≡ record (port_or_empty mid k) { notes = note Cmd v (port_or_empty mid k) }
+    → PortShows Cmd v (port_or_empty mid k) → port_or_empty new k ≡ record (port_or_empty mid k) { notes = notes_after_reading Cmd v (port_or_empty mid k) }
     → Reads (Px (port_at k) Cmd) v (running_device tape memory old) (running_device tape memory new)
 falls_reads tape memory k v old mid new first then st cr fallen shows here = record {
-  mid = running_device tape memory mid;
+  at_access = running_device tape memory mid;
   steps = record { steps = Fall k ∷ []; lead = ((st, cr), put_device tape memory k old mid (fall (port_or_empty old k)) fallen first) };
   shows = shows;
-  effect = put_device tape memory k mid new (record (port_or_empty mid k) { notes = note Cmd v (port_or_empty mid k) }) here then;
+  effect = put_device tape memory k mid new (record (port_or_empty mid k) { notes = notes_after_reading Cmd v (port_or_empty mid k) }) here then;
 }
 
 pub no_bit : (k : ℕ) → bit 0 k ≡ false
@@ -131,7 +131,7 @@ may_stop p v was clear receives fre read half = record {
   start = λ h. absurd (true≢false (sym h ∙ clear));
   receive = λ h. inl fre;
   stop_receiving = λ h. absurd (true≢false (sym receives ∙ h));
-  others = λ place low ne other. same_above v was half place ne ∙ ap (λ (x : ℕ). bit x place) (sym read);
+  other_bits_are_kept = λ place low ne other. same_above v was half place ne ∙ ap (λ (x : ℕ). bit x place) (sym read);
 }
 
 -- and ST may be set so, where the port may start
@@ -140,7 +140,7 @@ may_start p v was receives fre read half may = record {
   start = λ h. inr may;
   receive = λ h. inl fre;
   stop_receiving = λ h. absurd (true≢false (sym receives ∙ h));
-  others = λ place low ne other. same_above v was half place ne ∙ ap (λ (x : ℕ). bit x place) (sym read);
+  other_bits_are_kept = λ place low ne other. same_above v was half place ne ∙ ap (λ (x : ℕ). bit x place) (sym read);
 }
 
 -- values that differ in bits 0 and 4 at most
@@ -187,17 +187,17 @@ module _ (IsSuch : Reg → Type 0) where
 -- a service of such ports may make each of these
 abbrev pub AreServing : (Port → Type 0) → List Access → Type 0
 AreServing Such [] = Unit {0}
-AreServing Such (Reading r v ∷ accesses) = IsOfPorts Such (Reading r v) × AreServing Such accesses
-AreServing Such (Writing r v ∷ accesses) = ((r ≢ Ghc) × IsOfPorts Such (Writing r v)) × AreServing Such accesses
+AreServing Such (Reading r v ∷ accesses) = UsesPortRegistersOf Such (Reading r v) × AreServing Such accesses
+AreServing Such (Writing r v ∷ accesses) = ((r ≢ Ghc) × UsesPortRegistersOf Such (Writing r v)) × AreServing Such accesses
 AreServing Such (Loading at bytes ∷ accesses) = (at + length bytes ≤ DRIVER_BYTES) × AreServing Such accesses
 AreServing Such (Storing at bytes ∷ accesses) = (at + length bytes ≤ DRIVER_BYTES) × AreServing Such accesses
 
-pub serving : (Such : Port → Type 0) (accesses : List Access) → AreServing Such accesses → All (IsAccessForPorts Such) accesses
-serving Such [] of = All-nil (IsAccessForPorts Such)
-serving Such (Reading r v ∷ accesses) of = All-cons (IsAccessForPorts Such) (Reading r v) accesses (tt, tt, of.0) (serving Such accesses of.1)
-serving Such (Writing r v ∷ accesses) of = All-cons (IsAccessForPorts Such) (Writing r v) accesses (tt, of.0.0, of.0.1) (serving Such accesses of.1)
-serving Such (Loading at bytes ∷ accesses) of = All-cons (IsAccessForPorts Such) (Loading at bytes) accesses (of.0, tt, tt) (serving Such accesses of.1)
-serving Such (Storing at bytes ∷ accesses) of = All-cons (IsAccessForPorts Such) (Storing at bytes) accesses (of.0, tt, tt) (serving Such accesses of.1)
+pub serving : (Such : Port → Type 0) (accesses : List Access) → AreServing Such accesses → All (UsesPortsAndNotGhc Such) accesses
+serving Such [] of = All-nil (UsesPortsAndNotGhc Such)
+serving Such (Reading r v ∷ accesses) of = All-cons (UsesPortsAndNotGhc Such) (Reading r v) accesses (tt, tt, of.0) (serving Such accesses of.1)
+serving Such (Writing r v ∷ accesses) of = All-cons (UsesPortsAndNotGhc Such) (Writing r v) accesses (tt, of.0.0, of.0.1) (serving Such accesses of.1)
+serving Such (Loading at bytes ∷ accesses) of = All-cons (UsesPortsAndNotGhc Such) (Loading at bytes) accesses (of.0, tt, tt) (serving Such accesses of.1)
+serving Such (Storing at bytes ∷ accesses) of = All-cons (UsesPortsAndNotGhc Such) (Storing at bytes) accesses (of.0, tt, tt) (serving Such accesses of.1)
 
 -- accesses follow others
 pub does_append : (early late : List Access) (old mid new : Device) → DoesAll early old mid → DoesAll late mid new → DoesAll (early ++ late) old new

@@ -11,29 +11,29 @@ use Rattle.ata_types.specs.declared.request.Reply.{Reply}
 use Rattle.adapter.specs.Device.{Device}
 use Rattle.adapter.specs.declared.access.DeviceStep.{DeviceStep}
 use Rattle.refinement.specs.Relation.{port_at}
-use Rattle.refinement.specs.Acts.{driver_state}
-use Rattle.refinement.specs.Driver.{IsBacked, DriverRelation}
+use Rattle.refinement.specs.Acts.{driver_state_of_slots}
+use Rattle.refinement.specs.Driver.{TapeBacksSteps, DriverRelation}
 use Rattle.refinement.specs.Slots.{ServesRequest, RelatesSlot}
 use Rattle.refinement.specs.ReadWitness.{first_id}
-use Rattle.block_machine.specs.Events.{Service, Served, Happens}
+use Rattle.block_machine.specs.Events.{Service, Replied, Happens}
 use Rattle.block_machine.specs.Histories.{JointEvent, JointState}
 use Rattle.block_machine.specs.Ports.{IsServiced, Ports, PortsWellFormed}
 use Rattle.block_machine.specs.Expected.{after}
 use Rattle.block_machine.specs.State.{Pending, Machine}
-use Rattle.block_machine.specs.Steps.{Step, Answer, NoneQuarantined}
+use Rattle.block_machine.specs.Steps.{Step, Answer, NoneKept}
 use Rattle.host_boot.specs.TakeOver.{wanted_of}
 use Rattle.identify.specs.declared.wanted.Wanted.TheVariants.{Any}
 use Rattle.driver_history.specs.Evidence.{IsEvidencedOf}
-use Rattle.driver_history.specs.Histories.{CallCorresponds, PortCorresponds, ProbesDisk, HasUnservedDisk, IsPortAlive}
+use Rattle.driver_history.specs.Histories.{CallCorresponds, PortCorresponds, ProbesDisk, IsForeignOrUnfit, IsServedAndNotDead}
 use Rattle.driver_history.specs.PortInvariants.{PortStateInvariant, DriverInvariantWith, HasNoUnanswered}
-use Rattle.driver_history.specs.AccessTrace.{LeavesEngine, IsAccessForPorts}
+use Rattle.driver_history.specs.AccessTrace.{LeavesEngine, UsesPortsAndNotGhc}
 use Rattle.host_boot.specs.Resets.{ReadsGlobalControl}
-use Rattle.witnesses.specs.StuckReset.{reset_accesses, StuckResetIsAHistory}
+use Rattle.witnesses.specs.StuckReset.{stuck_reset_accesses, StuckResetIsAHistory}
 use Rattle.witnesses.specs.RunningAdapter.{port_or_empty, ports_with_disks}
 use Rattle.hba_regs.specs.declared.reg.Reg.TheVariants.{Ghc}
 use Rattle.adapter.specs.Access.{DoesAll}
 use Rattle.adapter.specs.Rules.{IsOn}
-use Rattle.refinement.specs.Acts.{driver_state}
+use Rattle.refinement.specs.Acts.{driver_state_of_slots}
 use Rattle.refinement.specs.Driver.{DriverRelation}
 use Rattle.block_machine.specs.Events.{Reset, WasReset}
 use Rattle.block_machine.specs.Ports.{Evidence, IsAfterStuckReset}
@@ -56,19 +56,19 @@ dead = ports_with_disks plain_disks.info (true ∷ true ∷ []) (Dead ∷ Dead �
 abbrev pending : Device
 pending = record submitted { hr = true; ae = true; ie = false }
 
-resets : DoesAll reset_accesses submitted pending
+resets : DoesAll stuck_reset_accesses submitted pending
 resets = (
   pending,
-  record { mid = submitted; steps = record { steps = []; lead = refl }; effect = refl },
-  (pending, record { mid = pending; steps = record { steps = []; lead = refl }; shows = (refl, refl, refl); effect = refl }, refl),
+  record { at_access = submitted; steps = record { steps = []; lead = refl }; effect = refl },
+  (pending, record { at_access = pending; steps = record { steps = []; lead = refl }; shows = (refl, refl, refl); effect = refl }, refl),
 )
 
 abbrev stuck_evidence : Evidence
-stuck_evidence = record { faults = []; lost = []; link_changed = []; failed = []; fatal = []; stopped = []; stuck = port_at 0 ∷ port_at 1 ∷ [] }
+stuck_evidence = record { faults = []; lost = []; link_changed = []; showing_error = []; showing_fatal_error = []; stopped = []; stuck = port_at 0 ∷ port_at 1 ∷ [] }
 
 abbrev reset : JointEvent Device DeviceStep
 reset = record {
-  event = record { ask = Reset; said = WasReset None; evidence = stuck_evidence; steps = []; ports = dead };
+  event = record { call = Reset; result = WasReset None; evidence = stuck_evidence; steps = []; ports = dead };
   device = pending;
 }
 
@@ -79,14 +79,14 @@ not_on : IsOn pending → ⊥
 not_on on = absurd (true≢false on.no_reset)
 
 -- nothing that the machine agrees with changes by a reset that is pending
-still_knows : (m : Machine) → DriverRelation m (driver_state first_slots submitted) → DriverRelation m (driver_state first_slots pending)
+still_knows : (m : Machine) → DriverRelation m (driver_state_of_slots first_slots submitted) → DriverRelation m (driver_state_of_slots first_slots pending)
 still_knows m k = record {
-  state_relation = record { relates_slots = k.state_relation.relates_slots; serve_apart = k.state_relation.serve_apart; received_areas_are_placed = k.state_relation.received_areas_are_placed; disks_are_same = k.state_relation.disks_are_same; memory_is_same = k.state_relation.memory_is_same; sectors_are_same = k.state_relation.sectors_are_same; has_lasting = k.state_relation.has_lasting };
+  state_relation = record { relates_slots = k.state_relation.relates_slots; serve_distinct_requests = k.state_relation.serve_distinct_requests; received_areas_are_placed = k.state_relation.received_areas_are_placed; disks_are_same = k.state_relation.disks_are_same; client_frames_are_same = k.state_relation.client_frames_are_same; sectors_are_same = k.state_relation.sectors_are_same; holds_replug_candidates = k.state_relation.holds_replug_candidates };
   have_slots = k.have_slots;
 }
 
 -- what holds of each port, where requests are port 0's alone
-port_dead : (m : Machine) → ((n : ℕ) → n ≢ 0 → HasNoUnanswered m (port_at n)) → ((n : ℕ) → n ≢ 0 → NoneQuarantined m (port_at n)) → (n : ℕ)
+port_dead : (m : Machine) → ((n : ℕ) → n ≢ 0 → HasNoUnanswered m (port_at n)) → ((n : ℕ) → n ≢ 0 → NoneKept m (port_at n)) → (n : ℕ)
     → PortStateInvariant (wanted_of (Any ∷ Any ∷ []) n) first_slots (record { device = pending; abstract = record { machine = m; ports = dead } }) (port_at n) (dead.served (port_at n)) (dead.state (port_at n))
 port_dead m waits kept zero = record { is_backed_or_off = inr not_on; has_no_unanswered = λ on. absurd (not_on on) }
 port_dead m waits kept (suc zero) = record { is_backed_or_off = inr not_on; has_no_unanswered = λ on. absurd (not_on on) }
@@ -98,12 +98,12 @@ all_dead zero is = refl
 all_dead (suc zero) is = refl
 all_dead (suc (suc n)) is = absurd (true≢false (sym is))
 
-holds_dead : (m : Machine) → DriverRelation m (driver_state first_slots pending) → ((n : ℕ) → n ≢ 0 → HasNoUnanswered m (port_at n)) → ((n : ℕ) → n ≢ 0 → NoneQuarantined m (port_at n))
+holds_dead : (m : Machine) → DriverRelation m (driver_state_of_slots first_slots pending) → ((n : ℕ) → n ≢ 0 → HasNoUnanswered m (port_at n)) → ((n : ℕ) → n ≢ 0 → NoneKept m (port_at n))
     → DriverInvariantWith (Any ∷ Any ∷ []) first_slots (record { device = pending; abstract = record { machine = m; ports = dead } })
 holds_dead m knows waits kept = record {
   driver_relation = knows;
-  served = λ port low. served_of pages read_memory (issued ∷ second ∷ []) port.0;
-  adapter_is_on = inr (λ port is. all_dead port.0 is);
+  served_iff_wanted_and_there = λ port low. served_of pages read_memory (issued ∷ second ∷ []) port.0;
+  is_on_or_served_are_dead = inr (λ port is. all_dead port.0 is);
   ports_hold = λ port low. port_dead m waits kept port.0;
 }
 
@@ -117,7 +117,7 @@ not_ready (suc (suc n)) is = let x : Absent ≡ Ready = is in cc
 
 fit_dead : PortsWellFormed dead
 fit_dead = record {
-  few_are_served = (fit_ready plain_disks).few_are_served;
+  served_are_ports_0_to_3 = (fit_ready plain_disks).served_are_ports_0_to_3;
   unserved_are_absent = λ port is. absent_of port.0 is;
   modes_are_valid = λ port is. absurd (not_ready port.0 is);
   causes_are_valid = λ port cause is. absurd (no_cause port.0 cause is);
@@ -142,18 +142,18 @@ reset_happens : Happens submitted_at.abstract reset.event
 reset_happens = record {
   steps_are_enabled = tt;
   steps_are_of_call = tt;
-  issues_are_last = tt;
+  issue_is_last_of_request = tt;
   answers_are_lawful = tt;
   ports_are_well_formed = fit_dead;
   unanswered_keep_disk = λ e o here there same. (refl, refl);
-  is_answered = (tt, λ port. stuck_is port.0);
+  result_matches_steps = (tt, λ port. stuck_is port.0);
 }
 
-unchanged : (d : Device) → ((n : ℕ) → (d.port n).plugged ≡ (d.port n).plugged ++ [])
-unchanged d n = sym (append-nil (d.port n).plugged)
+unchanged : (d : Device) → ((n : ℕ) → (d.port n).plug_history ≡ (d.port n).plug_history ++ [])
+unchanged d n = sym (append-nil (d.port n).plug_history)
 
-reset_backed : IsBacked submitted pending issuing []
-reset_backed = record { telling = refl; new_entries = []; tape_is = refl; tells_device_steps = tt; steps_are_faithful = λ _. tt; plugged = λ port. ([], unchanged submitted port, refl) }
+reset_backed : TapeBacksSteps submitted pending issuing []
+reset_backed = record { telling_is_same = refl; new_entries = []; tape_is = refl; tells_device_steps = tt; steps_are_faithful = λ _. tt; plugged_disks_match_steps = λ port. ([], unchanged submitted port, refl) }
 
 -- the port is served if it is named
 named_served : (n : ℕ) → Contains (port_at 0 ∷ port_at 1 ∷ []) (port_at n) → both.served (port_at n) ≡ true
@@ -164,23 +164,23 @@ named_served (suc (suc n)) h = absurd (⊎_elim
     (λ (same : port_at (suc (suc n)) ≡ port_at 1). let z : suc (suc n) ≡ 1 = ap (λ (p : Port). p.0) same in omega (arith, z))
     (either (port_at 0) (port_at 1) (port_at (suc (suc n))) h))
 
-reset_evidenced : (n : ℕ) → IsEvidencedOf Reset (WasReset None) reset_accesses submitted_at dead pending stuck_evidence (port_at n)
+reset_evidenced : (n : ℕ) → IsEvidencedOf Reset (WasReset None) stuck_reset_accesses submitted_at dead pending stuck_evidence (port_at n)
 reset_evidenced n =
     let quiet = calm submitted.tape read_memory issued refl refl refl (λ place from. refl) pending n in
     record {
-      lost = λ h. absurd (nowhere (port_at n) h);
+      lost_only = λ h. absurd (nowhere (port_at n) h);
       link_changed_all = λ is loss. absurd ((quiet is).0 loss);
       link_changed_only = λ h. absurd (nowhere (port_at n) h);
-      failed_all = λ is f. absurd ((quiet is).1 f);
-      failed_only = λ h. absurd (nowhere (port_at n) h);
-      fatal_all = λ is f. absurd ((quiet is).1 (inl f));
-      fatal_only = λ h. absurd (nowhere (port_at n) h);
-      stopped_all = inl (leaves (λ r. r ≡ Ghc) (port_at n) (λ is. cc) (λ is. cc) reset_accesses (refl, tt));
+      showing_error_all = λ is f. absurd ((quiet is).1 f);
+      showing_error_only = λ h. absurd (nowhere (port_at n) h);
+      showing_fatal_error_all = λ is f. absurd ((quiet is).1 (inl f));
+      showing_fatal_error_only = λ h. absurd (nowhere (port_at n) h);
+      engine_is_left_or_stopped = inl (leaves (λ r. r ≡ Ghc) (port_at n) (λ is. cc) (λ is. cc) stuck_reset_accesses (refl, tt));
       stopped_only = λ h. absurd (nowhere (port_at n) h);
       stuck_only = λ h. inr (tt, named_served n h);
     }
 
-reset_part : (n : ℕ) → PortCorresponds submitted_at reset reset_accesses (port_at n)
+reset_part : (n : ℕ) → PortCorresponds submitted_at reset stuck_reset_accesses (port_at n)
 reset_part n = record {
   finds_done = tt;
   plain_faults_are_told = tt;
@@ -193,10 +193,10 @@ reset_part n = record {
 
 reset_ties : CallCorresponds (Any ∷ Any ∷ []) submitted_at reset
 reset_ties = record {
-  accesses = reset_accesses;
+  accesses = stuck_reset_accesses;
   accesses_are_explained = (resets, record { polls = []; last_ghc = 0x80000001; accesses_are = refl; only_reads_ghc = All-nil ReadsGlobalControl; hr_is = refl });
   is_backed = reset_backed;
-  is_evidenced = record { faults = λ f here. absurd (nowhere f here); port = λ port. reset_evidenced port.0 };
+  is_evidenced = record { faults_are_told = λ f here. absurd (nowhere f here); each_port_is_evidenced = λ port. reset_evidenced port.0 };
   only_failed_requeue = tt;
   issues_all_due = λ port is. absurd (not_ready port.0 is);
   ports_correspond = λ port. reset_part port.0;
@@ -216,7 +216,7 @@ replies = record { id = first_id; client = asked.client; outcome = outcome.PortD
 
 abbrev service : JointEvent Device DeviceStep
 service = record {
-  event = record { ask = Service; said = Served replies; evidence = nothing; steps = answer ∷ []; ports = dead };
+  event = record { call = Service; result = Replied replies; evidence = nothing; steps = answer ∷ []; ports = dead };
   device = pending;
 }
 
@@ -245,25 +245,25 @@ slot_kept zero zero = serves_kept
 slot_kept zero (suc k) = holds_submitted.driver_relation.state_relation.relates_slots zero (suc k)
 slot_kept (suc n) k = holds_submitted.driver_relation.state_relation.relates_slots (suc n) k
 
-knows_kept : DriverRelation answered (driver_state first_slots pending)
+knows_kept : DriverRelation answered (driver_state_of_slots first_slots pending)
 knows_kept =
-    let k : DriverRelation issuing (driver_state first_slots submitted) = holds_submitted.driver_relation in
+    let k : DriverRelation issuing (driver_state_of_slots first_slots submitted) = holds_submitted.driver_relation in
     record {
       state_relation = record {
         relates_slots = slot_kept;
-        serve_apart = k.state_relation.serve_apart;
+        serve_distinct_requests = k.state_relation.serve_distinct_requests;
         received_areas_are_placed = k.state_relation.received_areas_are_placed;
-        disks_are_same = λ n. let d = k.state_relation.disks_are_same n in record { present = d.present; id = d.id; size = d.size };
-        memory_is_same = k.state_relation.memory_is_same;
+        disks_are_same = λ n. let d = k.state_relation.disks_are_same n in record { present = d.present; id = d.id; sector_count = d.sector_count };
+        client_frames_are_same = k.state_relation.client_frames_are_same;
         sectors_are_same = λ telling n. let d = k.state_relation.sectors_are_same telling n in record { told_sectors = d.told_sectors; disk_tells = d.disk_tells; bytes_are_same = d.bytes_are_same };
-        has_lasting = k.state_relation.has_lasting;
+        holds_replug_candidates = k.state_relation.holds_replug_candidates;
       };
       have_slots = λ n e may at_port. inr (⊎_elim
           (λ here. absurd (nowhere e here.0))
           (λ kept. have_first e n (ap (λ (x : Pending). x.request.port.0) (is_kept e kept)) (ap (λ (x : Pending). x.request.id) (is_kept e kept)) at_port) may);
     }
 
-kept_first : (n : ℕ) → n ≢ 0 → NoneQuarantined answered (port_at n)
+kept_first : (n : ℕ) → n ≢ 0 → NoneKept answered (port_at n)
 kept_first n ne e here is = ne (sym (sym (ap (λ (x : Pending). x.request.port.0) (is_kept e here)) ∙ ap (λ (p : Port). p.0) is))
 
 not_unplugged : (e : Pending) → Contains (answer ∷ []) (Answer e outcome.Unplugged) → ⊥
@@ -276,9 +276,9 @@ becomes (suc (suc n)) = (
   λ is. (refl, refl, refl, refl, refl, refl),
   λ other. (
     record {
-      served_is_kept = refl;
+      served_is_unchanged = refl;
       dead_is_stuck = (λ is. absurd (let x : Absent ≡ Dead = is in cc), λ h. absurd (nowhere (port_at (suc (suc n))) h));
-      disk_is_kept = λ is. (refl, refl);
+      disk_is_remembered = λ is. (refl, refl);
     },
     inl (refl, refl, refl, refl, refl, refl),
   ),
@@ -288,14 +288,14 @@ service_happens : Happens pending_at.abstract service.event
 service_happens = record {
   steps_are_enabled = (tt, ((0, omega arith, refl), tt));
   steps_are_of_call = (tt, inr tt);
-  issues_are_last = (tt, λ id handled issued_in. absurd (true≢false (sym issued_in)));
+  issue_is_last_of_request = (tt, λ id handled issued_in. absurd (true≢false (sym issued_in)));
   answers_are_lawful = (tt, refl);
   ports_are_well_formed = fit_dead;
   unanswered_keep_disk = λ e o here. absurd (nowhere e here);
-  is_answered = record {
-    replies_match = record { answers = (waiting, outcome.PortDead) ∷ []; is_permutation = IsPermutation-refl _; ordered = λ i j d less low. absurd (omega (arith, less, low)); replies_are = refl };
-    tells_dead = λ e o here is. (the_answer outcome.PortDead e o here).1;
-    answers_all_unplugged = record { none_is_left = λ e other here. absurd (not_unplugged e here); none_is_told_dead = λ e other here. absurd (not_unplugged e here) };
+  result_matches_steps = record {
+    replies_match = record { answers = (waiting, outcome.PortDead) ∷ []; is_permutation = IsPermutation-refl _; ordered = λ i j d less low. absurd (omega (arith, less, low)); replies_are_of_answers = refl };
+    dead_ports_tell_only_port_dead = λ e o here is. (the_answer outcome.PortDead e o here).1;
+    unplugged_empties_port = record { none_is_left = λ e other here. absurd (not_unplugged e here); none_is_told_dead = λ e other here. absurd (not_unplugged e here) };
     none_is_due = λ port is r at_port due. absurd (nowhere r due.is_in_book);
     empty_unless_ready = λ port other e here. absurd (nowhere e here);
     answers_ended = λ port is e here at_port done. absurd (not_ended 0 e here done);
@@ -304,8 +304,8 @@ service_happens = record {
   };
 }
 
-service_evidenced : (n : ℕ) → IsEvidencedOf Service (Served replies) [] pending_at dead pending nothing (port_at n)
-service_evidenced n = unnamed_evidenced Service (Served replies) [] pending_at dead pending nothing (port_at n)
+service_evidenced : (n : ℕ) → IsEvidencedOf Service (Replied replies) [] pending_at dead pending nothing (port_at n)
+service_evidenced n = unnamed_evidenced Service (Replied replies) [] pending_at dead pending nothing (port_at n)
     (none_named (port_at n))
     (λ is. absurd (not_ready n is))
     (All-nil (LeavesEngine (port_at n)))
@@ -314,17 +314,17 @@ probes : (n : ℕ) → dead.served (port_at n) ≡ true → ProbesDisk [] pendin
 probes n served =
     let is = all_dead n served in
     record {
-      shown = λ absent. absurd (let x : Dead ≡ Absent = sym is ∙ absent in cc);
-      absent = λ absent. absurd (let x : Dead ≡ Absent = sym is ∙ absent in cc);
-      missing = λ bad. absurd (not_bad is bad);
-      changed = λ bad. absurd (not_bad is bad);
+      absent_with_device_is_booted = λ absent. absurd (let x : Dead ≡ Absent = sym is ∙ absent in cc);
+      absent_gets_first_fis = λ absent. absurd (let x : Dead ≡ Absent = sym is ∙ absent in cc);
+      missing_disk_makes_absent = λ bad. absurd (not_bad is bad);
+      changed_disk_is_booted = λ bad. absurd (not_bad is bad);
     }
   where
-    not_bad : dead.state (port_at n) ≡ Dead → HasUnservedDisk dead (port_at n) → ⊥
+    not_bad : dead.state (port_at n) ≡ Dead → IsForeignOrUnfit dead (port_at n) → ⊥
     not_bad is (inl foreign) = let x : Dead ≡ Foreign = sym is ∙ foreign in cc
     not_bad is (inr unfit) = let x : Dead ≡ Unfit unfit.0 = sym is ∙ unfit.1 in cc
 
-untended : (n : ℕ) → IsPortAlive dead (port_at n) → ⊥
+untended : (n : ℕ) → IsServedAndNotDead dead (port_at n) → ⊥
 untended zero tends = tends.1 refl
 untended (suc zero) tends = tends.1 refl
 untended (suc (suc n)) tends = true≢false (sym tends.0)
@@ -336,25 +336,25 @@ service_part n = record {
   probes_disk = λ served none. probes n served;
   boots_anew = (λ is. absurd (not_ready n is), inl (refl, refl, refl, refl, refl, refl));
   loses_no_error = record {
-    errors = λ is. absurd (not_ready n is);
-    changes = λ tends. absurd (untended n tends);
-    fault = λ is. absurd (not_ready n is);
-    fatal = λ is. absurd (not_ready n is);
-    disk = λ is. absurd (not_ready n is);
+    errors_are_handled_or_shown = λ is. absurd (not_ready n is);
+    changes_are_handled_or_shown = λ tends. absurd (untended n tends);
+    new_fault_is_shown = λ is. absurd (not_ready n is);
+    new_fatal_is_shown = λ is. absurd (not_ready n is);
+    new_plug_event_is_shown = λ is. absurd (not_ready n is);
   };
   runs_well_anew = λ why is. absurd (not_ready n is);
   handles_evidence = λ is. absurd (not_ready n is);
 }
 
-service_backed : IsBacked pending pending issuing (answer ∷ [])
-service_backed = record { telling = refl; new_entries = []; tape_is = refl; tells_device_steps = (tt, λ d. d); steps_are_faithful = λ _. (tt, tt); plugged = λ port. ([], unchanged pending port, refl) }
+service_backed : TapeBacksSteps pending pending issuing (answer ∷ [])
+service_backed = record { telling_is_same = refl; new_entries = []; tape_is = refl; tells_device_steps = (tt, λ d. d); steps_are_faithful = λ _. (tt, tt); plugged_disks_match_steps = λ port. ([], unchanged pending port, refl) }
 
 service_ties : CallCorresponds (Any ∷ Any ∷ []) pending_at service
 service_ties = record {
   accesses = [];
-  accesses_are_explained = (refl, All-nil (IsAccessForPorts (IsPortAlive dead)));
+  accesses_are_explained = (refl, All-nil (UsesPortsAndNotGhc (IsServedAndNotDead dead)));
   is_backed = service_backed;
-  is_evidenced = record { faults = λ f here. absurd (nowhere f here); port = λ port. service_evidenced port.0 };
+  is_evidenced = record { faults_are_told = λ f here. absurd (nowhere f here); each_port_is_evidenced = λ port. service_evidenced port.0 };
   only_failed_requeue = tt;
   issues_all_due = λ port is. absurd (not_ready port.0 is);
   ports_correspond = λ port. service_part port.0;
@@ -370,13 +370,13 @@ death_is_a_history = record {
   submits = (refl, refl);
   reset = reset;
   resets = (refl, refl);
-  dead = (refl, refl);
+  both_become_dead = (refl, refl);
   service = service;
   asks_for_service = (refl, refl);
   history = (((((starts, fit_ready plain_disks), begins plain_disks), submit_happens, submit_ties), reset_happens, reset_ties), service_happens, service_ties);
   kept = waiting;
-  keeps = ((0, omega arith, refl), refl);
+  read_is_kept = ((0, omega arith, refl), refl);
   accesses = (refl, refl);
-  reset_parts = λ port. reset_part port.0;
-  service_parts = λ port. service_part port.0;
+  reset_corresponds = λ port. reset_part port.0;
+  service_corresponds = λ port. service_part port.0;
 }

@@ -20,17 +20,17 @@ use Rattle.adapter.specs.Device.{DevicePort, Device, FetchedCommand}
 use Rattle.adapter.specs.FirstRead.{first_disk_sector}
 use Rattle.adapter.specs.Memory.{patched}
 use Rattle.adapter.specs.Decoding.{piece_addresses}
-use Rattle.adapter.specs.Steps.{begun, done_entry, move_of}
+use Rattle.adapter.specs.Steps.{newly_fetched, done_entry, move_of}
 use Rattle.adapter.specs.declared.access.DeviceStep.{DeviceStep}
 use Rattle.adapter.specs.declared.command.Operation.TheVariants.{ReadQueued}
 use Rattle.adapter.specs.declared.tape.Entry.{Entry}
 use Rattle.adapter.specs.declared.tape.Entry.TheVariants as entry
 use Rattle.refinement.specs.Acts.{DriverSlots}
 use Rattle.refinement.specs.Relation.{port_at}
-use Rattle.refinement.specs.Driver.{IsBacked}
+use Rattle.refinement.specs.Driver.{TapeBacksSteps}
 use Rattle.refinement.specs.Slots.{ServesRequest}
 use Rattle.block_machine.specs.DueRequests.{IsDue, NoneDue}
-use Rattle.block_machine.specs.Events.{Happens, Service, Served, ShowsDisk}
+use Rattle.block_machine.specs.Events.{Happens, Service, Replied, ShowsDisk}
 use Rattle.block_machine.specs.Histories.{JointState, JointEvent}
 use Rattle.block_machine.specs.Expected.{after}
 use Rattle.block_machine.specs.Ports.{Evidence, IsServiced}
@@ -40,7 +40,7 @@ use Rattle.block_machine.specs.declared.due.Unanswered.{Unanswered}
 use Rattle.identify.specs.declared.wanted.Wanted.TheVariants.{Any}
 use Rattle.driver_history.specs.EvidenceHandling.{ServicesReadyPort}
 use Rattle.driver_history.specs.Evidence.{IsEvidencedOf, ShowsFailure, ShowsLoss}
-use Rattle.driver_history.specs.Histories.{FindsDone, IsAnsweredOk, IsIssuedOn, IsPortAlive, CallCorresponds, PortCorresponds, with_issue_undone}
+use Rattle.driver_history.specs.Histories.{FindsDone, IsAnsweredOk, IsIssuedOn, IsServedAndNotDead, CallCorresponds, PortCorresponds, with_issue_undone}
 use Rattle.driver_history.specs.PortInvariants.{mode_of_disk}
 use Rattle.driver_history.specs.AccessTrace.{DoesNotWriteCmd, LeavesEngine}
 use Rattle.witnesses.specs.RunningAdapter.{queueing_cap}
@@ -60,9 +60,9 @@ stay_serviced disk evidence n unstuck = (
   λ is. absurd (not_dead n is),
   λ _. (
     record {
-      served_is_kept = refl;
+      served_is_unchanged = refl;
       dead_is_stuck = (λ is. absurd (not_dead n is), λ h. absurd (unstuck h));
-      disk_is_kept = λ is. (refl, refl);
+      disk_is_remembered = λ is. (refl, refl);
     },
     inl (refl, refl, refl, refl, refl, refl),
   ),
@@ -104,7 +104,7 @@ module _ (c : Discovery) where
   answered = after c.machine steps
 
   abbrev pub command : FetchedCommand
-  command = begun (queued_read c.sector) (piece_addresses (4096 * c.frame_number) 1)
+  command = newly_fetched (queued_read c.sector) (piece_addresses (4096 * c.frame_number) 1)
 
   -- the sector was moved, and the command ended
   abbrev pub gained : List Entry
@@ -127,7 +127,7 @@ module _ (c : Discovery) where
 
   abbrev pub service : JointEvent Device DeviceStep
   service = record {
-    event = record { ask = Service; said = Served replies; evidence = nothing; steps = steps; ports = two_ready c.disk };
+    event = record { call = Service; result = Replied replies; evidence = nothing; steps = steps; ports = two_ready c.disk };
     device = served_at.device;
   }
 
@@ -164,9 +164,9 @@ module _ (c : Discovery) where
     not_unplugged : (e : Pending) → Contains steps (Answer e outcome.Unplugged) → ⊥
     not_unplugged e here = let x : outcome.Unplugged ≡ outcome.Ok = (only_answer e outcome.Unplugged here).1 in cc
 
-    pub backed : IsBacked before.device served_at.device c.machine steps
+    pub backed : TapeBacksSteps before.device served_at.device c.machine steps
     backed = record {
-      telling = refl;
+      telling_is_same = refl;
       new_entries = gained;
       tape_is = refl;
       tells_device_steps = (
@@ -199,17 +199,17 @@ module _ (c : Discovery) where
         refl,
       );
       steps_are_faithful = λ _. (((tt, λ _ b low. brought b low), tt), tt);
-      plugged = λ port. ([], unplugged c.port c.port_then is.agreed.stands is.agreeing.stands port, refl);
+      plugged_disks_match_steps = λ port. ([], unplugged c.port c.port_then is.agreed.stands is.agreeing.stands port, refl);
     }
       where
-        brought : (b : ℕ) → b < 512 → slice_index (first_disk_sector c.sector) b ≡ c.machine.disks (port_at 0) (c.sector + 0) b
+        brought : (b : ℕ) → b < 512 → slice_index (first_disk_sector c.sector) b ≡ c.machine.disk_bytes (port_at 0) (c.sector + 0) b
         brought b low = tells c.sector b low ∙ (let same : c.sector ≡ c.sector + 0 = omega arith in same) ∙ sym (ap (λ (f : Port → ℕ → ℕ → ℕ). f (port_at 0) (c.sector + 0) b) is.agreed.disks.3)
 
     quiet : (n : ℕ) → two_states (port_at n) ≡ Ready → (ShowsLoss (port_at n) before.device served_at.device → ⊥) × (ShowsFailure (before.device.port n) → ⊥)
     quiet = shows_none before.device.tape c.memory c.port is.agreed.stands served_at.device
 
-    pub evidenced : (n : ℕ) → IsEvidencedOf Service (Served replies) masks before (two_ready c.disk) served_at.device nothing (port_at n)
-    evidenced n = unnamed_evidenced Service (Served replies) masks before (two_ready c.disk) served_at.device nothing (port_at n) (none_named (port_at n)) (quiet n)
+    pub evidenced : (n : ℕ) → IsEvidencedOf Service (Replied replies) masks before (two_ready c.disk) served_at.device nothing (port_at n)
+    evidenced n = unnamed_evidenced Service (Replied replies) masks before (two_ready c.disk) served_at.device nothing (port_at n) (none_named (port_at n)) (quiet n)
         (All-from_recursion (LeavesEngine (port_at n)) masks ((tt, tt), ((tt, tt), tt)))
 
     finds : (n : ℕ) (e : Pending) → IsIssuedOn (port_at n) c.machine e → FindsDone (port_at n) masks before steps
@@ -217,7 +217,7 @@ module _ (c : Discovery) where
       ci = c.ci;
       sact = c.sact;
       reads = record { before = []; later = []; accesses_are_split = refl; cmd_is_unwritten_before = All-from_recursion (DoesNotWriteCmd (port_at 0)) [] tt };
-      exact = is.exact;
+      answered_iff_done = is.exact;
     }
     finds (suc n) e on = absurd (let z : 0 ≡ suc n = sym (is.agreed.first_alone e on.is_in_book) ∙ ap (λ (q : Port). q.0) on.port_is in omega (arith, z))
 
@@ -227,10 +227,10 @@ module _ (c : Discovery) where
     heeds : (n : ℕ) → ServicesReadyPort before.abstract nothing steps served_at.abstract (port_at n)
     heeds n = record {
       answers_ended = λ e here at_port done. absurd (not_ended e here done);
-      none_is_left = λ g. absurd (nowhere (port_at n) g);
-      others_are_told_alike = λ g. absurd (nowhere (port_at n) g);
-      is_interrupted = λ why. absurd (⊎_elim (nowhere (port_at n)) (nowhere (port_at n)) why);
-      none_stays_issued = λ why. absurd (⊎_elim (nowhere (port_at n)) (nowhere (port_at n)) why);
+      link_change_leaves_none = λ g. absurd (nowhere (port_at n) g);
+      link_change_tells_alike = λ g. absurd (nowhere (port_at n) g);
+      trouble_interrupts = λ why. absurd (⊎_elim (nowhere (port_at n)) (nowhere (port_at n)) why);
+      trouble_leaves_none_issued = λ why. absurd (⊎_elim (nowhere (port_at n)) (nowhere (port_at n)) why);
       one_fault_at_most = omega arith;
       fatal_tells_no_fault = λ h. absurd (nowhere (port_at n) h);
       shown_disk_was_in_or_came = λ shows. inl (in_of n shows);
@@ -259,14 +259,14 @@ module _ (c : Discovery) where
         (is.ended_here, tt),
       );
       steps_are_of_call = (((tt, inl tt), inl tt), inr tt);
-      issues_are_last = (((tt, λ id h i. absurd (true≢false (sym i))), λ id h i. absurd (true≢false (sym i))), λ id h i. absurd (true≢false (sym i)));
+      issue_is_last_of_request = (((tt, λ id h i. absurd (true≢false (sym i))), λ id h i. absurd (true≢false (sym i))), λ id h i. absurd (true≢false (sym i)));
       answers_are_lawful = (tt, (record { pending = outstanding; is_in_book = is.here; id_is = refl; issued = refl }, refl, all_touched, refl));
       ports_are_well_formed = fit_ready c.disk;
       unanswered_keep_disk = λ e o here there same. (refl, refl);
-      is_answered = record {
-        replies_match = record { answers = (ended, outcome.Ok) ∷ []; is_permutation = IsPermutation-refl _; ordered = λ i j d less low. absurd (omega (arith, less, low)); replies_are = refl };
-        tells_dead = λ e o here dead. absurd (not_dead e.request.port.0 dead);
-        answers_all_unplugged = record { none_is_left = λ e other here. absurd (not_unplugged e here); none_is_told_dead = λ e other here. absurd (not_unplugged e here) };
+      result_matches_steps = record {
+        replies_match = record { answers = (ended, outcome.Ok) ∷ []; is_permutation = IsPermutation-refl _; ordered = λ i j d less low. absurd (omega (arith, less, low)); replies_are_of_answers = refl };
+        dead_ports_tell_only_port_dead = λ e o here dead. absurd (not_dead e.request.port.0 dead);
+        unplugged_empties_port = record { none_is_left = λ e other here. absurd (not_unplugged e here); none_is_told_dead = λ e other here. absurd (not_unplugged e here) };
         none_is_due = λ port ready. is.none_due port;
         empty_unless_ready = λ port other e here at. other (ap (λ (n : ℕ). two_states (port_at n)) (ap (λ (q : Port). q.0) (sym at) ∙ is.agreeing.first_alone e here));
         answers_ended = λ port ready e here at_port done. absurd (true≢false (sym done ∙ is.unended e here));
@@ -292,9 +292,9 @@ module _ (c : Discovery) where
     unfoldable pub service_ties : CallCorresponds (Any ∷ Any ∷ []) before service
     service_ties = record {
       accesses = masks;
-      accesses_are_explained = (is.does, serving (IsPortAlive (two_ready c.disk)) masks ((refl, not_dead 0), ((refl, not_dead 0), tt)));
+      accesses_are_explained = (is.does, serving (IsServedAndNotDead (two_ready c.disk)) masks ((refl, not_dead 0), ((refl, not_dead 0), tt)));
       is_backed = backed;
-      is_evidenced = record { faults = λ f here. absurd (nowhere f here); port = λ port. evidenced port.0 };
+      is_evidenced = record { faults_are_told = λ f here. absurd (nowhere f here); each_port_is_evidenced = λ port. evidenced port.0 };
       only_failed_requeue = tt;
       issues_all_due = λ port ready r here at_port. (
         λ issued. absurd (true≢false (sym issued)),

@@ -1,6 +1,6 @@
 -- What holds between two calls, of ports of these devices; and the evidence of ports that aren't named.
-use Rattle.refinement.specs.Links.{IsPlugEvent}
-use Rattle.refinement.specs.Errors.{IsFatalOf}
+use Rattle.refinement.specs.PreservedParts.{IsPlugEvent}
+use Rattle.refinement.specs.Errors.{IsFatalErrorOf}
 use Rattle.std.proofs.lemmas.List.Elements.{All-contains, Contains-append_right}
 use Rattle.std.proofs.lemmas.List.{append_cancel_left}
 use Rattle.std.proofs.Common.{ℕ, zero, suc, ◌≡◌, ◌≢◌, ◌≤◌, ◌∙◌, ◌++◌, true, false, List, [], ◌∷◌, length, None, inl, inr, ⊎_elim, refl, sym, ap, subst, arith}
@@ -10,7 +10,7 @@ use Rattle.ata_types.specs.declared.Port.{Port}
 use Rattle.ata_types.specs.declared.PortState.TheVariants.{Absent, Foreign, Ready, Unfit}
 use Rattle.ata_types.specs.declared.request.RequestId.{RequestId}
 use Rattle.ata_types.specs.declared.limits.TheConstants.{MOST_READINGS}
-use Rattle.adapter.specs.Access.{Access, named_causes}
+use Rattle.adapter.specs.Access.{Access, named_causes_mask}
 use Rattle.adapter.specs.Device.{DevicePort, Device}
 use Rattle.adapter.specs.Device.Halt.{NotHalted, HaltedPlain, HaltedQueued}
 use Rattle.adapter.specs.FirstRead.{empty_port}
@@ -23,17 +23,17 @@ use Rattle.refinement.specs.Relation.{port_at}
 use Rattle.refinement.specs.PortFacts.{IsFaulted, IsFaultOf}
 use Rattle.refinement.specs.Slots.{Free, Serves, SlotStates, IsMove}
 use Rattle.refinement.specs.ReadWitness.{first_id}
-use Rattle.block_machine.specs.Events.{AbstractCall, CallResult}
+use Rattle.block_machine.specs.Events.{AbstractCall, AbstractCallResult}
 use Rattle.block_machine.specs.Histories.{JointState}
 use Rattle.block_machine.specs.Ports.{Ports, Evidence}
 use Rattle.block_machine.specs.State.{Pending}
-use Rattle.block_machine.specs.Steps.{NoneQuarantined}
+use Rattle.block_machine.specs.Steps.{NoneKept}
 use Rattle.block_machine.specs.declared.due.QueueMode.{QueueMode}
-use Rattle.port_boot.specs.States.{HasFitDisk}
-use Rattle.port_control.specs.Ports.{programmed}
+use Rattle.port_boot.specs.States.{HasFitDiskAndInterrupts}
+use Rattle.port_control.specs.Ports.{programmed_bases}
 use Rattle.error_recovery.specs.Evidence.{GainsSinceStart}
 use Rattle.driver_history.specs.Evidence.{IsEvidencedOf, ShowsFailure, ShowsLoss, TapeGainsEntry}
-use Rattle.driver_history.specs.Histories.{HasUnservedDisk, ProbesDisk, LosesNoPortError}
+use Rattle.driver_history.specs.Histories.{IsForeignOrUnfit, ProbesDisk, LosesNoPortError}
 use Rattle.driver_history.specs.PortInvariants.{HasNothingInSlots, ReadySlotsInvariant, IsFreeOrServes, IsQueuedAsAsked, IsUnservedAt, HasNoUnanswered, EngineRuns}
 use Rattle.driver_history.specs.AccessTrace.{LeavesEngine}
 use Rattle.witnesses.specs.RunningAdapter.{page_entry, page_move}
@@ -44,7 +44,7 @@ use Rattle.witnesses.proofs.history.Members.{only}
 
 -- no slot is in use
 abbrev pub no_slots : DriverSlots
-no_slots = record { uses = λ port slot. Free; parked = λ port. [] }
+no_slots = record { slot_states = λ port slot. Free; awaiting_disposition = λ port. [] }
 
 -- slot 0 of port 0 serves request 1
 abbrev pub uses_first : SlotStates
@@ -53,7 +53,7 @@ uses_first zero (suc slot) = Free
 uses_first (suc port) slot = Free
 
 abbrev pub first_slots : DriverSlots
-first_slots = record { uses = uses_first; parked = λ port. [] }
+first_slots = record { slot_states = uses_first; awaiting_disposition = λ port. [] }
 
 -- no other does
 pub answers_first_only : (port slot : ℕ) (id : RequestId) → uses_first port slot ≡ Serves id → (port ≡ 0) × (slot ≡ 0)
@@ -64,10 +64,10 @@ answers_first_only (suc port) slot id is = absurd (let x : Free ≡ Serves id = 
 -- ---- ports
 
 pub unserved_at : (s : DriverSlots) (i : JointState Device) (port : ℕ) → i.abstract.ports.state (port_at port) ≡ Absent → i.device.port port ≡ empty_port → HasNothingInSlots s port → HasNoUnanswered i.abstract.machine (port_at port)
-    → NoneQuarantined i.abstract.machine (port_at port) → IsUnservedAt s i (port_at port)
+    → NoneKept i.abstract.machine (port_at port) → IsUnservedAt s i (port_at port)
 unserved_at s i port absent quiet slots waits kept = record {
   state_is_absent = absent;
-  port_is_idle = subst IsIdlePort (sym quiet) (record { st = refl; cr = refl; fre = refl; fr = refl; ci = λ s. refl; sact = λ s. refl; taken = λ s. refl });
+  port_is_idle = subst IsIdlePort (sym quiet) (record { st_is_clear = refl; cr_is_clear = refl; fre_is_clear = refl; fr_is_clear = refl; ci_is_clear = λ s. refl; sact_is_clear = λ s. refl; none_is_taken = λ s. refl });
   has_nothing_in_slots = slots;
   has_no_unanswered = waits;
   none_is_quarantined = kept;
@@ -78,20 +78,20 @@ unfaulted : IsFaulted NotHalted → ⊥
 unfaulted f = ⊎_elim (λ a. let x : NotHalted ≡ HaltedPlain = a in cc) (λ a. let x : NotHalted ≡ HaltedQueued = a in cc) f
 
 -- a port runs on which no fault is on record
-pub runs_on : (port : ℕ) (d : Device) → (d.port port).st ≡ true → (d.port port).cr ≡ true → (d.port port).fre ≡ true → (d.port port).bases ≡ programmed port → (d.port port).notes.link_count ≡ MOST_READINGS
+pub runs_on : (port : ℕ) (d : Device) → (d.port port).st ≡ true → (d.port port).cr ≡ true → (d.port port).fre ≡ true → (d.port port).bases ≡ programmed_bases port → (d.port port).notes.link_wait_count ≡ MOST_READINGS
     → (d.port port).notes.st_set_at ≤ length d.tape → (d.port port).link_due ≡ false → (d.port port).is 30 ≡ false → (d.port port).halt ≡ NotHalted → EngineRuns port d
 runs_on port d st cr fre bases saw known linked calm whole = record {
-  st = st;
-  cr = cr;
-  fre = fre;
-  bases = bases;
+  st_is_set = st;
+  cr_is_set = cr;
+  fre_is_set = fre;
+  bases_are_programmed = bases;
   device_was_seen = saw;
   faults_are_recorded = record { st_set_is_on_tape = known; no_link_is_due = linked; tfes_tells_fault = λ f. absurd (true≢false (sym f ∙ calm)); shows_last_fault = λ f. absurd (unfaulted (subst IsFaulted whole f)) };
 }
 
 -- the last page of its disk stands on the tape
-pub fit_disk : (disk : Kind) (port : ℕ) (d : Device) (before later : List Entry) → d.tape ≡ before ++ page_entry disk.page port ∷ later → (d.port port).sctl_det ≡ 0 → (d.port port).ie ≡ named_causes
-    → (d.port port).notes.sctl_written_at ≡ 0 → All (λ e. IsMove port Identify e → ⊥) later → HasFitDisk None port d disk.info
+pub fit_disk : (disk : Kind) (port : ℕ) (d : Device) (before later : List Entry) → d.tape ≡ before ++ page_entry disk.page port ∷ later → (d.port port).sctl_det ≡ 0 → (d.port port).ie ≡ named_causes_mask
+    → (d.port port).notes.sctl_written_at ≡ 0 → All (λ e. IsMove port Identify e → ⊥) later → HasFitDiskAndInterrupts None port d disk.info
 fit_disk disk port d before later is det ie since last = record {
   no_comreset = det;
   ie_is_named = ie;
@@ -110,7 +110,7 @@ fit_disk disk port d before later is det ie since last = record {
 }
 
 -- nothing is in its slots
-pub requests_none : (s : DriverSlots) (i : JointState Device) (port : Port) (mode : QueueMode) → ((slot : ℕ) → s.uses port.0 slot ≡ Free) → s.parked port.0 ≡ [] → ReadySlotsInvariant s i port mode
+pub requests_none : (s : DriverSlots) (i : JointState Device) (port : Port) (mode : QueueMode) → ((slot : ℕ) → s.slot_states port.0 slot ≡ Free) → s.awaiting_disposition port.0 ≡ [] → ReadySlotsInvariant s i port mode
 requests_none s i port mode free unparked = record {
   slots_serve_clients = λ slot. inl (free slot);
   unusable_are_free = λ slot above. free slot;
@@ -119,11 +119,11 @@ requests_none s i port mode free unparked = record {
   plain_is_alone = λ slot e in_slot. absurd (unserved slot e.request.id in_slot.serves);
 }
   where
-    unserved : (slot : ℕ) (id : RequestId) → s.uses port.0 slot ≡ Serves id → ⊥
+    unserved : (slot : ℕ) (id : RequestId) → s.slot_states port.0 slot ≡ Serves id → ⊥
     unserved slot id is = let z : Free ≡ Serves id = sym (free slot) ∙ is in cc
 
 -- slot 0 of port 0 serves the one request, by a command of its kind
-pub requests_first : (i : JointState Device) (mode : QueueMode) → 1 ≤ mode.usable → ((e : Pending) → Contains i.abstract.machine.book e → IsQueuedAsAsked mode i.device 0 0 e) → ReadySlotsInvariant first_slots i (port_at 0) mode
+pub requests_first : (i : JointState Device) (mode : QueueMode) → 1 ≤ mode.usable_slots → ((e : Pending) → Contains i.abstract.machine.book e → IsQueuedAsAsked mode i.device 0 0 e) → ReadySlotsInvariant first_slots i (port_at 0) mode
 requests_first i mode usable kind = record {
   slots_serve_clients = clients;
   unusable_are_free = λ slot above. low slot (omega (arith, usable, above));
@@ -165,8 +165,8 @@ named_is port n here = ap (λ (p : Port). p.0) (only (port_at port) (port_at n) 
 pub record IsUnnamed (evidence : Evidence) (port : Port) : Type 0 where
   pub lost : Contains evidence.lost port → ⊥
   pub gone : Contains evidence.link_changed port → ⊥
-  pub failed : Contains evidence.failed port → ⊥
-  pub fatal : Contains evidence.fatal port → ⊥
+  pub failed : Contains evidence.showing_error port → ⊥
+  pub fatal : Contains evidence.showing_fatal_error port → ⊥
   pub stopped : Contains evidence.stopped port → ⊥
   pub stuck : Contains evidence.stuck port → ⊥
 
@@ -179,18 +179,18 @@ pub unfailing : (p : DevicePort) → ((place : ℕ) → 27 ≤ place → p.is pl
 unfailing p calm fails = ⊎_elim (λ fatal. absurd (true≢false (sym fatal.cause_is_set ∙ calm fatal.place fatal.from))) (λ fault. absurd (true≢false (sym fault ∙ calm 30 (omega arith)))) fails
 
 -- a port that isn't named, wasn't stopped, and showed no trouble if it was ready
-pub unnamed_evidenced : (ask : AbstractCall DeviceStep) (said : CallResult) (accesses : List Access) (old : JointState Device) (ports : Ports) (new : Device) (evidence : Evidence) (port : Port) → IsUnnamed evidence port
+pub unnamed_evidenced : (ask : AbstractCall DeviceStep) (said : AbstractCallResult) (accesses : List Access) (old : JointState Device) (ports : Ports) (new : Device) (evidence : Evidence) (port : Port) → IsUnnamed evidence port
     → (old.abstract.ports.state port ≡ Ready → (ShowsLoss port old.device new → ⊥) × (ShowsFailure (old.device.port port.0) → ⊥)) → All (LeavesEngine port) accesses
     → IsEvidencedOf ask said accesses old ports new evidence port
 unnamed_evidenced ask said accesses old ports new evidence port un calm left = record {
-  lost = λ h. absurd (un.lost h);
+  lost_only = λ h. absurd (un.lost h);
   link_changed_all = λ is loss. absurd ((calm is).0 loss);
   link_changed_only = λ h. absurd (un.gone h);
-  failed_all = λ is f. absurd ((calm is).1 f);
-  failed_only = λ h. absurd (un.failed h);
-  fatal_all = λ is f. absurd ((calm is).1 (inl f));
-  fatal_only = λ h. absurd (un.fatal h);
-  stopped_all = inl left;
+  showing_error_all = λ is f. absurd ((calm is).1 f);
+  showing_error_only = λ h. absurd (un.failed h);
+  showing_fatal_error_all = λ is f. absurd ((calm is).1 (inl f));
+  showing_fatal_error_only = λ h. absurd (un.fatal h);
+  engine_is_left_or_stopped = inl left;
   stopped_only = λ h. absurd (un.stopped h);
   stuck_only = λ h. absurd (un.stuck h);
 }
@@ -200,16 +200,16 @@ unnamed_evidenced ask said accesses old ports new evidence port un calm left = r
 -- a ready port isn't tried
 pub tries_ready : (accesses : List Access) (old : JointState Device) (ports : Ports) (new : Device) (port : Port) → old.abstract.ports.state port ≡ Ready → ProbesDisk accesses old ports new port
 tries_ready accesses old ports new port ready = record {
-  shown = λ is. absurd (not_absent is);
-  absent = λ is. absurd (not_absent is);
-  missing = λ bad. absurd (not_bad bad);
-  changed = λ bad. absurd (not_bad bad);
+  absent_with_device_is_booted = λ is. absurd (not_absent is);
+  absent_gets_first_fis = λ is. absurd (not_absent is);
+  missing_disk_makes_absent = λ bad. absurd (not_bad bad);
+  changed_disk_is_booted = λ bad. absurd (not_bad bad);
 }
   where
     not_absent : old.abstract.ports.state port ≡ Absent → ⊥
     not_absent is = let x : Ready ≡ Absent = sym ready ∙ is in cc
 
-    not_bad : HasUnservedDisk old.abstract.ports port → ⊥
+    not_bad : IsForeignOrUnfit old.abstract.ports port → ⊥
     not_bad (inl is) = let x : Ready ≡ Foreign = sym ready ∙ is in cc
     not_bad (inr is) = let x : Ready ≡ Unfit is.0 = sym ready ∙ is.1 in cc
 
@@ -225,7 +225,7 @@ gained_none Is old new gained is none g =
 pub ran_none : (Is : Entry → Type 0) (port : ℕ) (old new : Device) → (TapeGainsEntry Is old new → ⊥) → GainsSinceStart Is port old new → ⊥
 ran_none Is port old new none g = none (record {
   new_entries = g.before ++ (g.entry ∷ g.later);
-  tape_is = g.tape;
+  tape_is = g.tape_grows;
   entry = g.entry;
   entry_is_new = Contains-append_right g.before (g.entry ∷ g.later) g.entry (0, omega arith, refl);
   entry_is_of_kind = g.is_of_kind;
@@ -233,7 +233,7 @@ ran_none Is port old new none g = none (record {
 
 -- neither a fault, nor a fatal error, nor a disk of the port that goes or comes
 abbrev pub IsCalm : ℕ → Entry → Type 0
-IsCalm port e = (IsFaultOf port e → ⊥) × (IsFatalOf port e → ⊥) × (IsPlugEvent port e → ⊥)
+IsCalm port e = (IsFaultOf port e → ⊥) × (IsFatalErrorOf port e → ⊥) × (IsPlugEvent port e → ⊥)
 
 pub each : {X : Type 0} {P Q : X → Type 0} (xs : List X) → ((x : X) → P x → Q x) → All P xs → All Q xs
 each xs goes all k d low = goes _ (all k d low)
@@ -243,18 +243,18 @@ pub no_trouble : (evidence : Evidence) (old : JointState Device) (ports : Ports)
     → (old.abstract.ports.served port ≡ true → old.abstract.ports.state port ≡ Ready)
     → (old.abstract.ports.state port ≡ Ready → (ShowsLoss port old.device new → ⊥) × (ShowsFailure (old.device.port port.0) → ⊥)) → LosesNoPortError evidence old ports new port
 no_trouble evidence old ports new port gained is none served calm = record {
-  errors = λ ready why. absurd (⊎_elim (calm ready).1 (λ came. ⊎_elim faults fatals came) why);
-  changes = λ tends why. absurd (⊎_elim (λ change. (calm (served tends.0)).0 (inl change)) plugs why);
-  fault = λ ready g. absurd (ran_none (IsFaultOf port.0) port.0 old.device new faults g);
-  fatal = λ ready g. absurd (ran_none (IsFatalOf port.0) port.0 old.device new fatals g);
-  disk = λ ready g. absurd (ran_none (IsPlugEvent port.0) port.0 old.device new plugs g);
+  errors_are_handled_or_shown = λ ready why. absurd (⊎_elim (calm ready).1 (λ came. ⊎_elim faults fatals came) why);
+  changes_are_handled_or_shown = λ tends why. absurd (⊎_elim (λ change. (calm (served tends.0)).0 (inl change)) plugs why);
+  new_fault_is_shown = λ ready g. absurd (ran_none (IsFaultOf port.0) port.0 old.device new faults g);
+  new_fatal_is_shown = λ ready g. absurd (ran_none (IsFatalErrorOf port.0) port.0 old.device new fatals g);
+  new_plug_event_is_shown = λ ready g. absurd (ran_none (IsPlugEvent port.0) port.0 old.device new plugs g);
 }
   where
     faults : TapeGainsEntry (IsFaultOf port.0) old.device new → ⊥
     faults = gained_none (IsFaultOf port.0) old.device new gained is (each gained (λ e (c : IsCalm port.0 e). c.0) none)
 
-    fatals : TapeGainsEntry (IsFatalOf port.0) old.device new → ⊥
-    fatals = gained_none (IsFatalOf port.0) old.device new gained is (each gained (λ e (c : IsCalm port.0 e). c.1) none)
+    fatals : TapeGainsEntry (IsFatalErrorOf port.0) old.device new → ⊥
+    fatals = gained_none (IsFatalErrorOf port.0) old.device new gained is (each gained (λ e (c : IsCalm port.0 e). c.1) none)
 
     plugs : TapeGainsEntry (IsPlugEvent port.0) old.device new → ⊥
     plugs = gained_none (IsPlugEvent port.0) old.device new gained is (each gained (λ e (c : IsCalm port.0 e). c.2) none)

@@ -12,7 +12,7 @@ use Rattle.adapter.specs.Device.{Device}
 use Rattle.adapter.specs.declared.access.DeviceStep.{DeviceStep}
 use Rattle.refinement.specs.Relation.{port_at}
 use Rattle.refinement.specs.PortFacts.{RunsWell}
-use Rattle.block_machine.specs.Events.{Happens, HasTimedOut, RestartsTimedOut, Served, Tick}
+use Rattle.block_machine.specs.Events.{Happens, TimesOutAtTick, RestartsTimedOut, Replied, Tick}
 use Rattle.block_machine.specs.Histories.{JointEvent}
 use Rattle.block_machine.specs.Ports.{IsStoppedOrStuck, MayBecome, SamePort}
 use Rattle.block_machine.specs.State.{Pending}
@@ -52,7 +52,7 @@ steps = answer ∷ ages ∷ []
 abbrev restart : Restart
 restart = record {
   ask = Tick;
-  said = Served replies;
+  said = Replied replies;
   steps = steps;
   machine = issued_for 2;
   port = issued;
@@ -94,38 +94,38 @@ is_restart = record {
 
 abbrev restarting_tick : JointEvent Device DeviceStep
 restarting_tick = record {
-  event = record { ask = Tick; said = Served replies; evidence = restart_evidence []; steps = steps; ports = one };
+  event = record { call = Tick; result = Replied replies; evidence = restart_evidence []; steps = steps; ports = one };
   device = booted;
 }
 
-hung : HasTimedOut (issued_at 2).abstract (port_at 0)
+hung : TimesOutAtTick (issued_at 2).abstract (port_at 0)
 hung = hung_at 2 (omega arith)
 
 -- what is of port 0 alone is of a hung port
-is_hung : (port : Port) → port ≡ port_at 0 → HasTimedOut (issued_at 2).abstract port
-is_hung port is = subst (HasTimedOut (issued_at 2).abstract) (sym is) hung
+is_hung : (port : Port) → port ≡ port_at 0 → TimesOutAtTick (issued_at 2).abstract port
+is_hung port is = subst (TimesOutAtTick (issued_at 2).abstract) (sym is) hung
 
 -- no other port is hung
-other : (n : ℕ) → HasTimedOut (issued_at 2).abstract (port_at (suc n)) → ⊥
+other : (n : ℕ) → TimesOutAtTick (issued_at 2).abstract (port_at (suc n)) → ⊥
 other n h = let same = ap (λ (p : Port). p.0) (hung_first 2 (port_at (suc n)) h) in omega (arith, same)
 
-interrupted : (port : Port) → IsStoppedOrStuck (restart_evidence []) port → HasTimedOut (issued_at 2).abstract port
+interrupted : (port : Port) → IsStoppedOrStuck (restart_evidence []) port → TimesOutAtTick (issued_at 2).abstract port
 interrupted port (inl h) = is_hung port (ap port_at (named_is 0 port.0 h))
 interrupted port (inr h) = absurd (nowhere port h)
 
 -- it becomes what a restart may make of it, and the others stay as they are
-becomes : (n : ℕ) → ((HasTimedOut (issued_at 2).abstract (port_at n) → ⊥) × SamePort both one (port_at n)) ⊎ (HasTimedOut (issued_at 2).abstract (port_at n) × MayBecome both (restart_evidence []) one (port_at n))
+becomes : (n : ℕ) → ((TimesOutAtTick (issued_at 2).abstract (port_at n) → ⊥) × SamePort both one (port_at n)) ⊎ (TimesOutAtTick (issued_at 2).abstract (port_at n) × MayBecome both (restart_evidence []) one (port_at n))
 becomes zero = inr (hung, may_become [] 0)
 becomes (suc n) = inl (other n, others_same n)
 
 restarts_hung : RestartsTimedOut (issued_at 2).abstract (restart_evidence []) steps (booted_at outset).abstract
 restarts_hung = record {
-  ports = λ port. becomes port.0;
+  each_port_is_same_or_restarts = λ port. becomes port.0;
   only_timed_out_wait_again = λ e here. absurd (unrepeated e here);
   only_timed_out_are_answered = λ e o here. is_hung e.request.port (answers_first e o here);
   answers_ended = λ port h e here at_port ended. absurd (not_ended 2 e here ended);
   none_stays_issued = λ port h e here. absurd (nowhere e here);
-  is_interrupted = λ port. (λ h. subst (IsStoppedOrStuck (restart_evidence [])) (sym (hung_first 2 port h)) (inl (named 0)), interrupted port);
+  timed_out_iff_interrupted = λ port. (λ h. subst (IsStoppedOrStuck (restart_evidence [])) (sym (hung_first 2 port h)) (inl (named 0)), interrupted port);
   unplugged_lost_disk = λ e here. (not_dead_then e.request.port.0, λ ready. absurd (not_ready_first e.request.port (answers_first e outcome.Unplugged here) ready));
   shown_disk_was_in_or_came = λ port h shows. inl (subst (λ (p : Port). (issued_for 2).present p ≡ true) (sym (hung_first 2 port h)) refl);
 }
@@ -137,27 +137,27 @@ happens : Happens (issued_at 2).abstract restarting_tick.event
 happens = record {
   steps_are_enabled = ((tt, tt), ((0, omega arith, refl), tt));
   steps_are_of_call = ((tt, inr tt), inr (inl tt));
-  issues_are_last = ((tt, λ id handled issued_in. absurd (true≢false (sym handled))), λ id handled issued_in. absurd (true≢false (sym issued_in)));
+  issue_is_last_of_request = ((tt, λ id handled issued_in. absurd (true≢false (sym handled))), λ id handled issued_in. absurd (true≢false (sym issued_in)));
   answers_are_lawful = (tt, (named 0, named 0));
   ports_are_well_formed = fit_one;
   unanswered_keep_disk = λ e o here. absurd (nowhere e here);
-  is_answered = record {
-    replies_match = record { answers = (waiting_for 3, outcome.Unplugged) ∷ []; is_permutation = IsPermutation-refl _; ordered = λ i j d less low. absurd (omega (arith, less, low)); replies_are = refl };
+  result_matches_steps = record {
+    replies_match = record { answers = (waiting_for 3, outcome.Unplugged) ∷ []; is_permutation = IsPermutation-refl _; ordered = λ i j d less low. absurd (omega (arith, less, low)); replies_are_of_answers = refl };
     ages_once = ages_once (answer ∷ []) refl;
     restarts_timed_out = restarts_hung;
-    answers_all_unplugged = unplugs restart is_restart;
+    unplugged_empties_port = unplugs restart is_restart;
     none_is_due = λ port is r at_port due. absurd (nowhere r due.is_in_book);
-    empty_unless_ready = λ port is not_ready e here. absurd (nowhere e here);
+    was_ready_empty_unless_ready = λ port is not_ready e here. absurd (nowhere e here);
   };
 }
 
 -- ---- what it owes each port
 
-finds_there : (n : ℕ) → HasTimedOut (issued_at 2).abstract (port_at n) → FindsDone (port_at n) restart_accesses (issued_at 2) steps
+finds_there : (n : ℕ) → TimesOutAtTick (issued_at 2).abstract (port_at n) → FindsDone (port_at n) restart_accesses (issued_at 2) steps
 finds_there zero h = finds restart is_restart
 finds_there (suc n) h = absurd (other n h)
 
-boots : (n : ℕ) → BootsAnew Tick (Served replies) restart_accesses (issued_at 2) one booted (port_at n)
+boots : (n : ℕ) → BootsAnew Tick (Replied replies) restart_accesses (issued_at 2) one booted (port_at n)
 boots zero h = inr (resets [])
 boots (suc n) h = absurd (other n h)
 
@@ -175,9 +175,9 @@ part_of n = record {
 ties : CallCorresponds (Any ∷ Any ∷ []) (issued_at 2) restarting_tick
 ties = record {
   accesses = restart_accesses;
-  accesses_are_explained = (restarts outset, serving (HasTimedOut (issued_at 2).abstract) restart_accesses (of_served (HasTimedOut (issued_at 2).abstract) hung));
+  accesses_are_explained = (restarts outset, serving (TimesOutAtTick (issued_at 2).abstract) restart_accesses (of_served (TimesOutAtTick (issued_at 2).abstract) hung));
   is_backed = backed restart is_restart;
-  is_evidenced = record { faults = λ f here. absurd (nowhere f here); port = λ port. evidenced restart is_restart port.0 };
+  is_evidenced = record { faults_are_told = λ f here. absurd (nowhere f here); each_port_is_evidenced = λ port. evidenced restart is_restart port.0 };
   only_failed_requeue = tt;
   issues_all_due = λ port is r here. absurd (nowhere r here);
   ports_correspond = λ port. part_of port.0;
@@ -189,15 +189,15 @@ ties = record {
 -- when the third tick begins, the port runs well
 runs_well : RunsWell (submitted.port 0)
 runs_well = record {
-  st = refl;
-  cr = refl;
-  det = refl;
+  st_is_set = refl;
+  cr_is_set = refl;
+  det_is_3 = refl;
   present = refl;
   fresh = refl;
   no_link_is_due = refl;
   is_not_halted = refl;
   is_not_broken = refl;
-  shows_no_trouble = record { serr_n = refl; serr_x = refl; no_error_bit_is_set = λ place from to. refl };
+  shows_no_trouble = record { serr_n_is_clear = refl; serr_x_is_clear = refl; no_error_bit_is_set = λ place from to. refl };
 }
 
 pub hung_port_is_a_history : HungPortIsAHistory
@@ -206,28 +206,28 @@ hung_port_is_a_history = record {
   initial_state = first;
   submit = submit;
   asked = asked;
-  reads = refl;
+  asked_is_read = refl;
   submits = (refl, refl);
-  tick = tick 0;
-  ticks = (refl, refl);
-  young = not_hung 0 (omega arith);
-  second = tick 1;
-  ticks_again = (refl, refl);
-  young_then = not_hung 1 (omega arith);
+  first_tick = tick 0;
+  first_tick_is_silent = (refl, refl);
+  none_timed_out_at_first = not_hung 0 (omega arith);
+  second_tick = tick 1;
+  second_tick_is_silent = (refl, refl);
+  none_timed_out_at_second = not_hung 1 (omega arith);
   ready = refl;
   port_runs_well = runs_well;
-  hung = hung;
-  alone = hung_first 2;
-  restart = restarting_tick;
-  restarts = (refl, refl);
+  port_0_has_timed_out = hung;
+  only_port_0_has_timed_out = hung_first 2;
+  third_tick = restarting_tick;
+  third_tick_tells_unplugged = (refl, refl);
   evidence = refl;
   unfit = refl;
-  does = restarts outset;
-  allowed = restart_allowed outset;
+  third_tick_makes_accesses = restarts outset;
+  accesses_are_allowed = restart_allowed outset;
   history = ((((((starts, fit_ready plain_disks), begins plain_disks), submit_happens, submit_ties), tick_happens 0 (omega arith), tick_ties 0 (omega arith)), tick_happens 1 (omega arith), tick_ties 1 (omega arith)), happens, ties);
   accesses = (refl, refl, refl);
-  submit_parts = submit_parts;
-  tick_parts = λ port. tick_part 0 (omega arith) port.0;
-  second_parts = λ port. tick_part 1 (omega arith) port.0;
-  restart_parts = λ port. part_of port.0;
+  submit_corresponds = submit_parts;
+  first_tick_corresponds = λ port. tick_part 0 (omega arith) port.0;
+  second_tick_corresponds = λ port. tick_part 1 (omega arith) port.0;
+  third_tick_corresponds = λ port. part_of port.0;
 }

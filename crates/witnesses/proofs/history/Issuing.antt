@@ -22,7 +22,7 @@ use Rattle.adapter.specs.Device.{DevicePort, Device}
 use Rattle.adapter.specs.declared.access.DeviceStep.{DeviceStep}
 use Rattle.refinement.specs.Acts.{DriverSlots}
 use Rattle.refinement.specs.Relation.{port_at}
-use Rattle.refinement.specs.Driver.{IsBacked}
+use Rattle.refinement.specs.Driver.{TapeBacksSteps}
 use Rattle.block_machine.specs.DueRequests.{IsDue}
 use Rattle.block_machine.specs.Events.{Happens, Submit, Submitted, NoneDueWhereReady, IsIssuedIn, admission_context_of}
 use Rattle.block_machine.specs.Histories.{JointState, JointEvent}
@@ -52,7 +52,7 @@ abbrev pub reading : ℕ → ℕ → Request
 reading k n = record { client = client; grant = 0; op = Read; first = record { 0 = k }; count = 1; frames = record { items = frame n ∷ [] } }
 
 abbrev pub accepted_as : RequestId → ℕ → ℕ → (ℕ → Block) → Accepted
-accepted_as id k n held = record { id = id; port = port_at 0; asked = reading k n; held_blocks = held }
+accepted_as id k n held = record { id = id; port = port_at 0; asked = reading k n; blocks_at_acceptance = held }
 
 -- The machine may take it next: its frame is free, and the client hasn't too many.
 pub record MayTake (disk : Kind) (m : Machine) (id : RequestId) (k n : ℕ) : Type 0 where
@@ -98,19 +98,19 @@ module _ (disk : Kind) (m : Machine) (id : RequestId) (k n : ℕ) (may : MayTake
 
   pub is_new : MayAccept m (accepted_as id k n (block_of m.memory (frame n ∷ [])))
   is_new = record {
-    id = may.id_is;
-    id_left = may.left;
-    unbroken = λ rule h. is_acceptable (refused.Rule rule) h;
-    port = λ x named. sym (ap (λ (r : GrantRow). r.port) (named_row x named));
-    few = may.few;
-    held = refl;
+    id_is_next = may.id_is;
+    an_id_is_left = may.left;
+    breaks_no_rule = λ rule h. is_acceptable (refused.Rule rule) h;
+    port_is_of_its_row = λ x named. sym (ap (λ (r : GrantRow). r.port) (named_row x named));
+    client_has_room = may.few;
+    blocks_are_in_memory = refl;
   }
 
 -- ---- evidence
 
 -- nothing is named
 abbrev pub nothing : Evidence
-nothing = record { faults = []; lost = []; link_changed = []; failed = []; fatal = []; stopped = []; stuck = [] }
+nothing = record { faults = []; lost = []; link_changed = []; showing_error = []; showing_fatal_error = []; stopped = []; stuck = [] }
 
 pub none_named : (port : Port) → IsUnnamed nothing port
 none_named port = record { lost = nowhere port; gone = nowhere port; failed = nowhere port; fatal = nowhere port; stopped = nowhere port; stuck = nowhere port }
@@ -126,10 +126,10 @@ leaves_engine port (Writing r v) i = (
 )
 
 -- no disk is put in where port 0 stands before and after
-pub unplugged : (p p' : DevicePort) → Stands p → Stands p' → (n : ℕ) → (port_or_empty (p' ∷ second ∷ []) n).plugged ≡ (port_or_empty (p ∷ second ∷ []) n).plugged ++ []
+pub unplugged : (p p' : DevicePort) → Stands p → Stands p' → (n : ℕ) → (port_or_empty (p' ∷ second ∷ []) n).plug_history ≡ (port_or_empty (p ∷ second ∷ []) n).plug_history ++ []
 unplugged p p' a b zero =
-    let same : p'.plugged ≡ p.plugged = ap (λ (q : DevicePort). q.plugged) (b.same ∙ sym a.same) in
-    same ∙ sym (append-nil p.plugged)
+    let same : p'.plug_history ≡ p.plug_history = ap (λ (q : DevicePort). q.plug_history) (b.same ∙ sym a.same) in
+    same ∙ sym (append-nil p.plug_history)
 unplugged p p' a b (suc zero) = refl
 unplugged p p' a b (suc (suc n)) = refl
 
@@ -168,7 +168,7 @@ module _ (c : Submission) where
 
   abbrev pub submit : JointEvent Device DeviceStep
   submit = record {
-    event = record { ask = Submit (reading c.sector c.frame_number); said = Submitted (Ok c.id); evidence = nothing; steps = submit_steps; ports = two_ready c.disk };
+    event = record { call = Submit (reading c.sector c.frame_number); result = Submitted (Ok c.id); evidence = nothing; steps = submit_steps; ports = two_ready c.disk };
     device = submitted_at.device;
   }
 
@@ -201,25 +201,25 @@ module _ (c : Submission) where
     submit_happens = record {
       steps_are_enabled = ((tt, is_new c.disk c.machine c.id c.sector c.frame_number is.takes), is.may);
       steps_are_of_call = ((tt, inr refl), inr (refl, refl));
-      issues_are_last = ((tt, λ id handled issued_in. absurd (true≢false (sym handled))), λ id handled issued_in. absurd (true≢false (sym issued_in)));
+      issue_is_last_of_request = ((tt, λ id handled issued_in. absurd (true≢false (sym handled))), λ id handled issued_in. absurd (true≢false (sym issued_in)));
       answers_are_lawful = tt;
       ports_are_well_formed = fit_ready c.disk;
       unanswered_keep_disk = λ e o here there same. (refl, refl);
-      is_answered = (is_acceptable c.disk c.machine c.id c.sector c.frame_number is.takes, (accepted, refl, refl), λ port. (refl, refl, refl, refl, refl, refl), is.all_issued);
+      result_matches_steps = (is_acceptable c.disk c.machine c.id c.sector c.frame_number is.takes, (accepted, refl, refl), λ port. (refl, refl, refl, refl, refl, refl), is.all_issued);
     }
 
-    pub backed : IsBacked before.device submitted_at.device c.machine submit_steps
+    pub backed : TapeBacksSteps before.device submitted_at.device c.machine submit_steps
     backed = record {
-      telling = refl;
+      telling_is_same = refl;
       new_entries = [];
       tape_is = sym (append-nil _);
       tells_device_steps = ((tt, λ d. d), λ d. d);
       steps_are_faithful = λ _. ((tt, tt), tt);
-      plugged = λ port. ([], unplugged c.port c.port_then is.stands is.agreeing.stands port, refl);
+      plugged_disks_match_steps = λ port. ([], unplugged c.port c.port_then is.stands is.agreeing.stands port, refl);
     }
 
-    pub evidenced : (port : ℕ) → IsEvidencedOf submit.event.ask submit.event.said c.accesses before (two_ready c.disk) submitted_at.device nothing (port_at port)
-    evidenced port = unnamed_evidenced submit.event.ask submit.event.said c.accesses before (two_ready c.disk) submitted_at.device nothing (port_at port) (none_named (port_at port))
+    pub evidenced : (port : ℕ) → IsEvidencedOf submit.event.call submit.event.result c.accesses before (two_ready c.disk) submitted_at.device nothing (port_at port)
+    evidenced port = unnamed_evidenced submit.event.call submit.event.result c.accesses before (two_ready c.disk) submitted_at.device nothing (port_at port) (none_named (port_at port))
         (shows_none before.device.tape c.memory c.port is.stands submitted_at.device port)
         (each c.accesses (leaves_engine (port_at port)) is.only)
 
@@ -240,7 +240,7 @@ module _ (c : Submission) where
       accesses = c.accesses;
       accesses_are_explained = (is.does, (row 0, (subst (λ (rows : List GrantRow). Contains rows (row 0)) (sym is.takes.rows) (0, omega arith, refl), (refl, refl)), is.only));
       is_backed = backed;
-      is_evidenced = record { faults = λ f here. absurd (nowhere f here); port = λ port. evidenced port.0 };
+      is_evidenced = record { faults_are_told = λ f here. absurd (nowhere f here); each_port_is_evidenced = λ port. evidenced port.0 };
       only_failed_requeue = tt;
       issues_all_due = λ port ready. is.due port;
       ports_correspond = λ port. submit_part port.0;

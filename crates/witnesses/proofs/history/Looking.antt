@@ -7,7 +7,7 @@ use Rattle.hba_regs.specs.Bits.{bit}
 use Rattle.hba_regs.specs.declared.reg.Reg.TheVariants.{Px}
 use Rattle.hba_regs.specs.declared.reg.PortReg.{PortReg}
 use Rattle.hba_regs.specs.declared.reg.PortReg.TheVariants.{Is, Cmd, Ssts, Serr}
-use Rattle.adapter.specs.Access.{DoesAll, PortShows, Reads, Writes, note, port_after_write, shown_interrupt}
+use Rattle.adapter.specs.Access.{DoesAll, PortShows, Reads, Writes, notes_after_reading, port_after_write, shown_interrupt}
 use Rattle.adapter.specs.Device.{DevicePort, Device}
 use Rattle.adapter.specs.Rules.{MayWriteCmd}
 use Rattle.adapter.specs.Steps.{Can, device_after}
@@ -49,44 +49,44 @@ goes = put_device tape_gone read_memory 0 (unfit 0 ∷ unfit 1 ∷ []) (gone ∷
 -- ---- the service
 
 abbrev told : DevicePort
-told = record gone { notes = note Is 0x400000 gone }
+told = record gone { notes = notes_after_reading Is 0x400000 gone }
 
 abbrev looked : DevicePort
-looked = record told { notes = note Ssts 0 told }
+looked = record told { notes = notes_after_reading Ssts 0 told }
 
 abbrev commanded : DevicePort
-commanded = record looked { notes = note Cmd 0x4010 looked }
+commanded = record looked { notes = notes_after_reading Cmd 0x4010 looked }
 
 abbrev stopping : DevicePort
 stopping = port_after_write Cmd 0x4010 3 commanded
 
 abbrev stopped : DevicePort
-stopped = record stopping { notes = note Cmd 0x4010 stopping }
+stopped = record stopping { notes = notes_after_reading Cmd 0x4010 stopping }
 
 abbrev cleared : DevicePort
 cleared = port_after_write Serr 0xffffffff 3 stopped
 
 abbrev pub absent : DevicePort
-absent = record cleared { notes = note Ssts 0 cleared }
+absent = record cleared { notes = notes_after_reading Ssts 0 cleared }
 
 -- the other one is looked at
 abbrev quiet : DevicePort
-quiet = record (unfit 1) { notes = note Is 0 (unfit 1) }
+quiet = record (unfit 1) { notes = notes_after_reading Is 0 (unfit 1) }
 
 abbrev pub passed : DevicePort
-passed = record quiet { notes = note Ssts 3 quiet }
+passed = record quiet { notes = notes_after_reading Ssts 3 quiet }
 
 abbrev pub looked_over : Device
 looked_over = dev absent passed
 
-unfoldable pub reads_here : (r : PortReg) (v : ℕ) (p : DevicePort) → PortShows r v p → Reads (Px (port_at 0) r) v (dev p (unfit 1)) (dev (record p { notes = note r v p }) (unfit 1))
-reads_here r v p shows = reads tape_gone read_memory 0 (p ∷ unfit 1 ∷ []) (record p { notes = note r v p } ∷ unfit 1 ∷ []) (but_first p (record p { notes = note r v p }) (unfit 1 ∷ [])) r v shows refl
+unfoldable pub reads_here : (r : PortReg) (v : ℕ) (p : DevicePort) → PortShows r v p → Reads (Px (port_at 0) r) v (dev p (unfit 1)) (dev (record p { notes = notes_after_reading r v p }) (unfit 1))
+reads_here r v p shows = reads tape_gone read_memory 0 (p ∷ unfit 1 ∷ []) (record p { notes = notes_after_reading r v p } ∷ unfit 1 ∷ []) (but_first p (record p { notes = notes_after_reading r v p }) (unfit 1 ∷ [])) r v shows refl
 
 unfoldable pub writes_here : (r : PortReg) (v : ℕ) (p : DevicePort) → Writes (Px (port_at 0) r) v (dev p (unfit 1)) (dev (port_after_write r v 3 p) (unfit 1))
 writes_here r v p = writes tape_gone read_memory 0 (p ∷ unfit 1 ∷ []) (port_after_write r v 3 p ∷ unfit 1 ∷ []) (but_first p (port_after_write r v 3 p) (unfit 1 ∷ [])) r v refl
 
-unfoldable pub reads_there : (r : PortReg) (v : ℕ) (q : DevicePort) → PortShows r v q → Reads (Px (port_at 1) r) v (dev absent q) (dev absent (record q { notes = note r v q }))
-reads_there r v q shows = reads tape_gone read_memory 1 (absent ∷ q ∷ []) (absent ∷ record q { notes = note r v q } ∷ []) (but_second absent q (record q { notes = note r v q }) []) r v shows refl
+unfoldable pub reads_there : (r : PortReg) (v : ℕ) (q : DevicePort) → PortShows r v q → Reads (Px (port_at 1) r) v (dev absent q) (dev absent (record q { notes = notes_after_reading r v q }))
+reads_there r v q shows = reads tape_gone read_memory 1 (absent ∷ q ∷ []) (absent ∷ record q { notes = notes_after_reading r v q } ∷ []) (but_second absent q (record q { notes = notes_after_reading r v q }) []) r v shows refl
 
 -- PxIS shows PRCS alone
 pub prcs_shown : (place : ℕ) → bit 0x400000 place ≡ shown_interrupt gone place
@@ -151,28 +151,28 @@ may_command = record {
   start = λ set. absurd (false≢true set);
   receive = λ set. inl refl;
   stop_receiving = λ clear. absurd (true≢false clear);
-  others = λ place low start receive. refl;
+  other_bits_are_kept = λ place low start receive. refl;
 }
 
 pub allowed : AreAllowed (missing_look_accesses ++ unfit_look_accesses) unplugged looked_over does
 unfolding does reads_here writes_here reads_there reads writes
 allowed = (
-  (record { ae = refl; no_reset = refl }, (omega arith, refl)),
+  (record { ae_is_set = refl; no_reset = refl }, (omega arith, refl)),
   (
-    (record { ae = refl; no_reset = refl }, (omega arith, refl)),
+    (record { ae_is_set = refl; no_reset = refl }, (omega arith, refl)),
     (
-      (record { ae = refl; no_reset = refl }, (omega arith, refl)),
+      (record { ae_is_set = refl; no_reset = refl }, (omega arith, refl)),
       (
-        (record { ae = refl; no_reset = refl }, (omega arith, refl), may_command),
+        (record { ae_is_set = refl; no_reset = refl }, (omega arith, refl), may_command),
         (
-          (record { ae = refl; no_reset = refl }, (omega arith, refl)),
+          (record { ae_is_set = refl; no_reset = refl }, (omega arith, refl)),
           (
-            (record { ae = refl; no_reset = refl }, (omega arith, refl), tt),
+            (record { ae_is_set = refl; no_reset = refl }, (omega arith, refl), tt),
             (
-              (record { ae = refl; no_reset = refl }, (omega arith, refl)),
+              (record { ae_is_set = refl; no_reset = refl }, (omega arith, refl)),
               (
-                (record { ae = refl; no_reset = refl }, (omega arith, refl)),
-                ((record { ae = refl; no_reset = refl }, (omega arith, refl)), tt),
+                (record { ae_is_set = refl; no_reset = refl }, (omega arith, refl)),
+                ((record { ae_is_set = refl; no_reset = refl }, (omega arith, refl)), tt),
               ),
             ),
           ),

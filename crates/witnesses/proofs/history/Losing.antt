@@ -5,8 +5,8 @@ use Rattle.std.proofs.lemmas.List.Elements.{All-replicate}
 use Rattle.hba_regs.specs.declared.reg.Reg.TheVariants.{Px}
 use Rattle.hba_regs.specs.declared.reg.PortReg.{PortReg}
 use Rattle.hba_regs.specs.declared.reg.PortReg.TheVariants.{Cmd, Ssts, Serr, Sact, Ci}
-use Rattle.adapter.specs.Access.{DoesAll, PortShows, Reads, Writes, note, port_after_write}
-use Rattle.adapter.specs.Device.{IsSector, DevicePort, Device}
+use Rattle.adapter.specs.Access.{DoesAll, PortShows, Reads, Writes, notes_after_reading, port_after_write}
+use Rattle.adapter.specs.Device.{IsValidSector, DevicePort, Device}
 use Rattle.adapter.specs.FirstRead.{first_disk_sector}
 use Rattle.adapter.specs.Memory.{changed, patched}
 use Rattle.witnesses.specs.AllowedAccesses.{AreAllowed}
@@ -40,7 +40,7 @@ tape_done = tape_moved ++ done_entry 0 0 Read ∷ []
 unfoldable pub memory_done : ℕ → ℕ
 memory_done = patched read_memory 0x64000 (first_disk_sector 100)
 
-pub is_sector : (k : ℕ) → k < 256 → IsSector (first_disk_sector k)
+pub is_sector : (k : ℕ) → k < 256 → IsValidSector (first_disk_sector k)
 unfolding first_disk_sector
 is_sector k low = (length-replicate {A = ℕ} 512 k, All-replicate (λ b. b < 256) 512 k low)
 
@@ -48,7 +48,7 @@ moves : (new : Device) → Steps (running_device tape_moved memory_done (moved �
 unfolding changed memory_done
 moves new = step_first (Move 0 0 command (first_disk_sector 100)) (running_device pages read_memory (taken ∷ second ∷ [])) (running_device tape_moved memory_done (moved ∷ second ∷ [])) new
     (record {
-      works = record { taken = refl; working = record { running = refl; present = refl; fresh = refl; admitted = refl; whole = refl } };
+      works = record { taken = refl; working = record { cr_is_set = refl; present = refl; fresh = refl; admitted = refl; is_not_broken = refl } };
       piece_is_left = omega arith;
       bytes_are_sector = is_sector 100 (omega arith);
       brings = (omega arith, refl);
@@ -61,7 +61,7 @@ ends = record {
   steps = Done 0 0 0 (record command { moved = 1 }) ∷ [];
   lead = (
     record {
-      works = record { taken = refl; working = record { running = refl; present = refl; fresh = refl; admitted = refl; whole = refl } };
+      works = record { taken = refl; working = record { cr_is_set = refl; present = refl; fresh = refl; admitted = refl; is_not_broken = refl } };
       finished = record { all_is_moved = refl; all_is_cleared = λ e. absurd (let x : Read ≡ Trim = e in cc) };
       cause_is_allowed = inl refl;
     },
@@ -76,10 +76,10 @@ done_clear zero = refl
 done_clear (suc k) = past_first issued.ci false k ∙ others_clear k
 
 abbrev seen : DevicePort
-seen = record done { notes = note Ci 0 done }
+seen = record done { notes = notes_after_reading Ci 0 done }
 
 abbrev pub found : DevicePort
-found = record seen { notes = note Sact 0 seen }
+found = record seen { notes = notes_after_reading Sact 0 seen }
 
 abbrev pub between : Device
 between = running_device tape_done memory_done (found ∷ second ∷ [])
@@ -88,7 +88,7 @@ pub finds : DoesAll completing_turn submitted between
 finds = (
   running_device tape_done memory_done (seen ∷ second ∷ []),
   record {
-    mid = running_device tape_done memory_done (done ∷ second ∷ []);
+    at_access = running_device tape_done memory_done (done ∷ second ∷ []);
     steps = fetches (running_device tape_done memory_done (done ∷ second ∷ [])) (moves (running_device tape_done memory_done (done ∷ second ∷ [])) ends);
     shows = λ k low. no_bit k ∙ sym (done_clear k);
     effect = put_device tape_done memory_done 0 (done ∷ second ∷ []) (seen ∷ second ∷ []) seen refl (but_first done seen (second ∷ []));
@@ -98,7 +98,7 @@ finds = (
 
 pub found_free : (k : ℕ) → IsEmptySlot found k
 unfolding changed
-found_free k = record { issued = done_clear k; free = free k; unarmed = refl }
+found_free k = record { is_not_issued = done_clear k; is_not_taken = free k; unarmed = refl }
   where
     free : (k : ℕ) → done.taken k ≡ None
     free zero = refl
@@ -110,22 +110,22 @@ abbrev out : DevicePort
 out = record second { ssts_det = 0; present = false; fresh = false; serr_n = true }
 
 abbrev looked : DevicePort
-looked = record out { notes = note Ssts 0 out }
+looked = record out { notes = notes_after_reading Ssts 0 out }
 
 abbrev commanded : DevicePort
-commanded = record looked { notes = note Cmd 0xc011 looked }
+commanded = record looked { notes = notes_after_reading Cmd 0xc011 looked }
 
 abbrev stopping : DevicePort
 stopping = port_after_write Cmd 0xc010 5 commanded
 
 abbrev stopped : DevicePort
-stopped = record (fall stopping) { notes = note Cmd 0x4010 (fall stopping) }
+stopped = record (fall stopping) { notes = notes_after_reading Cmd 0x4010 (fall stopping) }
 
 abbrev cleared : DevicePort
 cleared = port_after_write Serr 0xffffffff 5 stopped
 
 abbrev pub gone : DevicePort
-gone = record cleared { notes = note Ssts 0 cleared }
+gone = record cleared { notes = notes_after_reading Ssts 0 cleared }
 
 abbrev pub tape_lost : List Entry
 tape_lost = tape_done ++ entry.Unplug (port_at 1) ∷ []
@@ -140,8 +140,8 @@ goes : Steps between (lost_with out)
 goes = record { steps = Unplug 1 ∷ []; lead = (refl, put_device tape_lost memory_done 1 (found ∷ second ∷ []) (found ∷ out ∷ []) out refl (but_second found second out [])) }
 
 -- an access of port 1
-reads_there : (r : PortReg) (v : ℕ) (p : DevicePort) → PortShows r v p → Reads (Px (port_at 1) r) v (lost_with p) (lost_with (record p { notes = note r v p }))
-reads_there r v p shows = reads tape_lost memory_done 1 (found ∷ p ∷ []) (found ∷ record p { notes = note r v p } ∷ []) (but_second found p (record p { notes = note r v p }) []) r v shows refl
+reads_there : (r : PortReg) (v : ℕ) (p : DevicePort) → PortShows r v p → Reads (Px (port_at 1) r) v (lost_with p) (lost_with (record p { notes = notes_after_reading r v p }))
+reads_there r v p shows = reads tape_lost memory_done 1 (found ∷ p ∷ []) (found ∷ record p { notes = notes_after_reading r v p } ∷ []) (but_second found p (record p { notes = notes_after_reading r v p }) []) r v shows refl
 
 writes_there : (r : PortReg) (v : ℕ) (p : DevicePort) → Writes (Px (port_at 1) r) v (lost_with p) (lost_with (port_after_write r v 5 p))
 writes_there r v p = writes tape_lost memory_done 1 (found ∷ p ∷ []) (found ∷ port_after_write r v 5 p ∷ []) (but_second found p (port_after_write r v 5 p) []) r v refl
@@ -154,7 +154,7 @@ pub loses : DoesAll losing_turn between lost
 loses = (
   lost_with looked,
   record {
-    mid = lost_with out;
+    at_access = lost_with out;
     steps = goes;
     shows = refl;
     effect = put_device tape_lost memory_done 1 (found ∷ out ∷ []) (found ∷ looked ∷ []) looked refl (but_second found out looked []);
@@ -183,9 +183,9 @@ loses = (
 pub finding_allowed : AreAllowed completing_turn submitted between finds
 unfolding finds reads
 finding_allowed = (
-  (record { ae = refl; no_reset = refl }, (omega arith, refl)),
+  (record { ae_is_set = refl; no_reset = refl }, (omega arith, refl)),
   (
-    (record { ae = refl; no_reset = refl }, (omega arith, refl)),
+    (record { ae_is_set = refl; no_reset = refl }, (omega arith, refl)),
     tt,
   ),
 )
@@ -193,17 +193,17 @@ finding_allowed = (
 pub losing_allowed : AreAllowed losing_turn between lost loses
 unfolding loses falls reads_there writes_there reads writes falls_reads
 losing_allowed = (
-  (record { ae = refl; no_reset = refl }, (omega arith, refl)),
+  (record { ae_is_set = refl; no_reset = refl }, (omega arith, refl)),
   (
-    (record { ae = refl; no_reset = refl }, (omega arith, refl)),
+    (record { ae_is_set = refl; no_reset = refl }, (omega arith, refl)),
     (
-      (record { ae = refl; no_reset = refl }, (omega arith, refl), may_stop commanded 0xc010 0xc011 refl refl refl refl refl),
+      (record { ae_is_set = refl; no_reset = refl }, (omega arith, refl), may_stop commanded 0xc010 0xc011 refl refl refl refl refl),
       (
-        (record { ae = refl; no_reset = refl }, (omega arith, refl)),
+        (record { ae_is_set = refl; no_reset = refl }, (omega arith, refl)),
         (
-          (record { ae = refl; no_reset = refl }, (omega arith, refl), tt),
+          (record { ae_is_set = refl; no_reset = refl }, (omega arith, refl), tt),
           (
-            (record { ae = refl; no_reset = refl }, (omega arith, refl)),
+            (record { ae_is_set = refl; no_reset = refl }, (omega arith, refl)),
             tt,
           ),
         ),

@@ -13,7 +13,7 @@ use Rattle.adapter.specs.declared.command.Operation.TheVariants as operation
 use Rattle.adapter.specs.declared.command.Operation.TheVariants.{Identify}
 use Rattle.adapter.specs.declared.tape.Entry.{Entry}
 use Rattle.adapter.specs.declared.tape.Entry.TheVariants as entry
-use Rattle.refinement.specs.Acts.{driver_state}
+use Rattle.refinement.specs.Acts.{driver_state_of_slots}
 use Rattle.refinement.specs.Relation.{port_at}
 use Rattle.refinement.specs.Driver.{DriverRelation}
 use Rattle.refinement.specs.Slots.{IsEmptySlot, IsMove}
@@ -66,15 +66,15 @@ lost_at = record { device = lost; abstract = record { machine = served; ports = 
 
 lost_free : (n k : ℕ) → IsEmptySlot (port_or_empty (found ∷ gone ∷ []) n) k
 lost_free zero k = found_free k
-lost_free (suc zero) k = record { issued = refl; free = refl; unarmed = refl }
-lost_free (suc (suc n)) k = record { issued = refl; free = refl; unarmed = refl }
+lost_free (suc zero) k = record { is_not_issued = refl; is_not_taken = refl; unarmed = refl }
+lost_free (suc (suc n)) k = record { is_not_issued = refl; is_not_taken = refl; unarmed = refl }
 
 one_in : (n : ℕ) → served.present (port_at n) ≡ (port_or_empty (found ∷ gone ∷ []) n).present
 one_in zero = refl
 one_in (suc zero) = refl
 one_in (suc (suc n)) = cond-false (suc (suc n) == 1) false false (ne_eqb (suc (suc n)) 1 (omega arith))
 
-knows_lost : DriverRelation served (driver_state no_slots lost)
+knows_lost : DriverRelation served (driver_state_of_slots no_slots lost)
 unfolding changed
 knows_lost = agreeing served no_slots tape_lost memory_done found gone
     (record { own_first = refl; own_second = refl; disks = (refl, refl); present = one_in; ids = refl; sizes = refl; bytes = refl; lasting = (refl, refl); still = refl })
@@ -95,21 +95,21 @@ unpaged port =
 lost_ready : IsReadyAt Any no_slots lost_at (port_at 0)
 unfolding changed
 lost_ready = record {
-  adapter_is_on = record { ae = refl; no_reset = refl };
+  adapter_is_on = record { ae_is_set = refl; no_reset = refl };
   engine_runs = runs_on 0 lost refl refl refl refl refl (omega arith) refl refl refl;
   info = plain_disks.info;
   has_fit_disk = fit_disk plain_disks 0 lost [] (page_entry plain_disks.page 1 ∷ gained) refl refl refl refl (other_page plain_disks.page gained (unpaged 0));
-  shows_disk_info = record { serial = refl; sectors = refl; trims = refl; mode = refl };
+  shows_disk_info = record { serial = refl; sectors = refl; zeroes_after_trim_is = refl; mode = refl };
   slots_invariant = requests_none no_slots lost_at (port_at 0) plain_disk_mode (λ slot. refl) refl;
   none_is_quarantined = λ e k. absurd (nowhere e k);
 }
 
 lost_absent : IsStoppedAt Any no_slots lost_at (port_at 1) Absent
 lost_absent = record {
-  adapter_is_on = record { ae = refl; no_reset = refl };
+  adapter_is_on = record { ae_is_set = refl; no_reset = refl };
   shows_disk_if_in = λ bad. absurd bad;
   backs_state = (
-    record { halted = record { st = refl; cr = refl; ci = λ k. refl; taken = λ k. refl }; sact = λ k. refl },
+    record { engine_is_stopped = record { st_is_clear = refl; cr_is_clear = refl; no_command_is_issued = λ k. refl; no_command_is_taken = λ k. refl }; sact_is_clear = λ k. refl },
     ((λ e. let x : 0 ≡ 3 = e in omega (arith, x)), refl),
   );
   has_nothing_in_slots = record { all_are_free = λ k. refl; none_is_parked = refl };
@@ -125,7 +125,7 @@ port_lost (suc (suc n)) = unserved_at no_slots lost_at (suc (suc n)) refl refl (
 pub holds_lost : DriverInvariantWith (Any ∷ Any ∷ []) no_slots lost_at
 holds_lost = record {
   driver_relation = knows_lost;
-  served = λ port low. served_of tape_lost memory_done (found ∷ gone ∷ []) port.0;
-  adapter_is_on = inl (record { ae = refl; no_reset = refl });
+  served_iff_wanted_and_there = λ port low. served_of tape_lost memory_done (found ∷ gone ∷ []) port.0;
+  is_on_or_served_are_dead = inl (record { ae_is_set = refl; no_reset = refl });
   ports_hold = λ port low. port_lost port.0;
 }

@@ -16,15 +16,15 @@ use Rattle.adapter.specs.declared.access.FatalError.TheVariants.{Interface}
 use Rattle.adapter.specs.declared.command.Operation.TheVariants.{Identify}
 use Rattle.adapter.specs.declared.tape.Entry.{Entry}
 use Rattle.adapter.specs.declared.tape.Entry.TheVariants as entry
-use Rattle.refinement.specs.Acts.{driver_state}
+use Rattle.refinement.specs.Acts.{driver_state_of_slots}
 use Rattle.refinement.specs.Relation.{port_at}
-use Rattle.refinement.specs.Driver.{IsBacked, DriverRelation}
+use Rattle.refinement.specs.Driver.{TapeBacksSteps, DriverRelation}
 use Rattle.refinement.specs.PortFacts.{IsFaultOf}
-use Rattle.refinement.specs.Links.{IsPlugEvent}
+use Rattle.refinement.specs.PreservedParts.{IsPlugEvent}
 use Rattle.refinement.specs.Slots.{IsMove, RelatesSlot, ServesRequest}
 use Rattle.refinement.specs.ReadWitness.{first_id}
 use Rattle.block_machine.specs.DueRequests.{is_plain}
-use Rattle.block_machine.specs.Events.{Device as Told, Happens, Stepped}
+use Rattle.block_machine.specs.Events.{StepDevice as Told, Happens, Stepped}
 use Rattle.block_machine.specs.Histories.{JointEvent, JointState}
 use Rattle.block_machine.specs.State.{Pending}
 use Rattle.error_recovery.specs.Evidence.{ShowsFatal}
@@ -73,12 +73,12 @@ no_fault (suc (suc n)) = refl
 
 -- the slot serves the request as before
 serves_still : ServesRequest issuing read_memory broken 0 0 first_id
-serves_still = serves_one issuing read_memory broken 0 (read_of 100 1) first_id 100 100 waiting.request.held_blocks 0 refl (omega arith) (0, omega arith, refl) refl refl told
-    (inl (record { started = refl; issued = refl; free = refl; sact = refl; block = tt; untouched = λ i. sym (le-ltb i 0 (omega arith)); unended = refl }))
+serves_still = serves_one issuing read_memory broken 0 (read_of 100 1) first_id 100 100 waiting.request.blocks_at_acceptance 0 refl (omega arith) (0, omega arith, refl) refl refl told
+    (inl (record { started = refl; issued = refl; is_not_taken = refl; sact = refl; has_block_if_trim = tt; untouched = λ i. sym (le-ltb i 0 (omega arith)); unended = refl }))
 
 slots : (n k : ℕ) → RelatesSlot issuing read_memory tape_broken (port_or_empty (broken ∷ second ∷ []) n) n k (uses_first n k)
 slots zero zero = serves_still
-slots zero (suc k) = record { issued = others_clear k; free = refl; unarmed = refl }
+slots zero (suc k) = record { is_not_issued = others_clear k; is_not_taken = refl; unarmed = refl }
 slots (suc n) k = holds_submitted.driver_relation.state_relation.relates_slots (suc n) k
 
 present : (n : ℕ) → issuing.present (port_at n) ≡ (port_or_empty (broken ∷ second ∷ []) n).present
@@ -86,26 +86,26 @@ present zero = refl
 present (suc zero) = refl
 present (suc (suc n)) = refl
 
-knows : DriverRelation issuing (driver_state first_slots (dev broken))
+knows : DriverRelation issuing (driver_state_of_slots first_slots (dev broken))
 knows = agreeing issuing first_slots tape_broken read_memory broken second
     (record { own_first = refl; own_second = refl; disks = (refl, refl); present = present; ids = refl; sizes = refl; bytes = refl; lasting = (refl, refl); still = refl })
-    slots holds_submitted.driver_relation.state_relation.serve_apart (λ f b from small. past_driver f b from) holds_submitted.driver_relation.have_slots
+    slots holds_submitted.driver_relation.state_relation.serve_distinct_requests (λ f b from small. past_driver f b from) holds_submitted.driver_relation.have_slots
 
 kind_of : (e : Pending) → e ≡ waiting → IsQueuedAsAsked plain_disk_mode (dev broken) 0 0 e
 kind_of e is = record {
   command = read_of 100 1;
   places = piece_addresses 0x64000 1;
   slot_decodes_to = told;
-  kind = subst (λ (x : Pending). is_queued (read_of 100 1).operation ≡ not (is_plain plain_disk_mode x.request.asked.op)) (sym is) refl;
+  is_queued_if_not_plain = subst (λ (x : Pending). is_queued (read_of 100 1).operation ≡ not (is_plain plain_disk_mode x.request.asked.op)) (sym is) refl;
 }
 
 port_ready : IsReadyAt Any first_slots broken_at (port_at 0)
 port_ready = record {
-  adapter_is_on = record { ae = refl; no_reset = refl };
+  adapter_is_on = record { ae_is_set = refl; no_reset = refl };
   engine_runs = runs_on 0 (dev broken) refl refl refl refl refl (omega arith) refl (no_fault 0) refl;
   info = plain_disks.info;
   has_fit_disk = fit_disk plain_disks 0 (dev broken) [] (page_entry plain_disks.page 1 ∷ gained) refl refl refl refl (other_page plain_disks.page gained (unpaged 0));
-  shows_disk_info = record { serial = refl; sectors = refl; trims = refl; mode = refl };
+  shows_disk_info = record { serial = refl; sectors = refl; zeroes_after_trim_is = refl; mode = refl };
   slots_invariant = requests_first broken_at plain_disk_mode (omega arith) (λ e here. kind_of e (in_book 0 e here));
   none_is_quarantined = λ e k. absurd (nowhere e k);
 }
@@ -120,8 +120,8 @@ port_broken (suc (suc n)) = unserved_at first_slots broken_at (suc (suc n)) refl
 pub holds_broken : DriverInvariantWith (Any ∷ Any ∷ []) first_slots broken_at
 holds_broken = record {
   driver_relation = knows;
-  served = λ port low. served_of tape_broken read_memory (broken ∷ second ∷ []) port.0;
-  adapter_is_on = inl (record { ae = refl; no_reset = refl });
+  served_iff_wanted_and_there = λ port low. served_of tape_broken read_memory (broken ∷ second ∷ []) port.0;
+  is_on_or_served_are_dead = inl (record { ae_is_set = refl; no_reset = refl });
   ports_hold = λ port low. port_broken port.0;
 }
 
@@ -129,7 +129,7 @@ holds_broken = record {
 
 abbrev pub meeting : JointEvent Device DeviceStep
 meeting = record {
-  event = record { ask = Told (Fatal (port_at 0) Interface); said = Stepped true; evidence = nothing; steps = []; ports = both };
+  event = record { call = Told (Fatal (port_at 0) Interface); result = Stepped true; evidence = nothing; steps = []; ports = both };
   device = dev broken;
 }
 
@@ -137,24 +137,24 @@ pub meeting_happens : Happens submitted_at.abstract meeting.event
 meeting_happens = record {
   steps_are_enabled = tt;
   steps_are_of_call = tt;
-  issues_are_last = tt;
+  issue_is_last_of_request = tt;
   answers_are_lawful = tt;
   ports_are_well_formed = fit_ready plain_disks;
   unanswered_keep_disk = λ e o here there same. (refl, refl);
-  is_answered = (tt, λ port. (refl, refl, refl, refl, refl, refl));
+  result_matches_steps = (tt, λ port. (refl, refl, refl, refl, refl, refl));
 }
 
-pub backed : IsBacked submitted (dev broken) issuing []
+pub backed : TapeBacksSteps submitted (dev broken) issuing []
 backed = record {
-  telling = refl;
+  telling_is_same = refl;
   new_entries = gained;
   tape_is = refl;
   tells_device_steps = ([], [], [], tt, refl, tt, refl);
   steps_are_faithful = λ _. tt;
-  plugged = λ port. ([], plugs port, refl);
+  plugged_disks_match_steps = λ port. ([], plugs port, refl);
 }
   where
-    plugs : (n : ℕ) → ((dev broken).port n).plugged ≡ (submitted.port n).plugged ++ []
+    plugs : (n : ℕ) → ((dev broken).port n).plug_history ≡ (submitted.port n).plug_history ++ []
     plugs zero = refl
     plugs (suc zero) = refl
     plugs (suc (suc n)) = refl
@@ -162,8 +162,8 @@ backed = record {
 quiet : (n : ℕ) → both.state (port_at n) ≡ Ready → (ShowsLoss (port_at n) submitted (dev broken) → ⊥) × (ShowsFailure (submitted.port n) → ⊥)
 quiet = calm submitted.tape read_memory issued refl refl refl (λ place from. refl) (dev broken)
 
-pub evidenced : (n : ℕ) → IsEvidencedOf meeting.event.ask meeting.event.said [] submitted_at both (dev broken) nothing (port_at n)
-evidenced n = unnamed_evidenced meeting.event.ask meeting.event.said [] submitted_at both (dev broken) nothing (port_at n) (none_named (port_at n)) (quiet n) (All-nil (LeavesEngine (port_at n)))
+pub evidenced : (n : ℕ) → IsEvidencedOf meeting.event.call meeting.event.result [] submitted_at both (dev broken) nothing (port_at n)
+evidenced n = unnamed_evidenced meeting.event.call meeting.event.result [] submitted_at both (dev broken) nothing (port_at n) (none_named (port_at n)) (quiet n) (All-nil (LeavesEngine (port_at n)))
 
 -- the error is no trouble of another port
 fatal_alone : (n : ℕ) → n ≢ 0 → All (IsCalm n) gained
@@ -174,11 +174,11 @@ no_plugging = All-cons (λ e. IsPlugEvent 0 e → ⊥) (entry.Fatal (port_at 0))
 
 port_error : (n : ℕ) → LosesNoPortError nothing submitted_at both (dev broken) (port_at n)
 port_error zero = record {
-  errors = λ ready why. inr (inl shows_fatal);
-  changes = λ tends why. absurd (⊎_elim (λ change. (quiet 0 refl).0 (inl change)) plugs why);
-  fault = λ ready g. absurd (ran_none (IsFaultOf 0) 0 submitted (dev broken) faults g);
-  fatal = λ ready g. shows_fatal;
-  disk = λ ready g. absurd (ran_none (IsPlugEvent 0) 0 submitted (dev broken) plugs g);
+  errors_are_handled_or_shown = λ ready why. inr (inl shows_fatal);
+  changes_are_handled_or_shown = λ tends why. absurd (⊎_elim (λ change. (quiet 0 refl).0 (inl change)) plugs why);
+  new_fault_is_shown = λ ready g. absurd (ran_none (IsFaultOf 0) 0 submitted (dev broken) faults g);
+  new_fatal_is_shown = λ ready g. shows_fatal;
+  new_plug_event_is_shown = λ ready g. absurd (ran_none (IsPlugEvent 0) 0 submitted (dev broken) plugs g);
 }
   where
     faults : TapeGainsEntry (IsFaultOf 0) submitted (dev broken) → ⊥
@@ -204,7 +204,7 @@ meeting_ties = record {
   accesses = [];
   accesses_are_explained = (refl, inl (record { can = can_break; effect = breaks }));
   is_backed = backed;
-  is_evidenced = record { faults = λ f here. absurd (nowhere f here); port = λ port. evidenced port.0 };
+  is_evidenced = record { faults_are_told = λ f here. absurd (nowhere f here); each_port_is_evidenced = λ port. evidenced port.0 };
   only_failed_requeue = tt;
   issues_all_due = λ port. tt;
   ports_correspond = λ port. meeting_part port.0;

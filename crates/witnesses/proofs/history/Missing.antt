@@ -13,12 +13,12 @@ use Rattle.adapter.specs.Device.{Device}
 use Rattle.adapter.specs.declared.access.DeviceStep.{DeviceStep}
 use Rattle.adapter.specs.declared.access.DeviceStep.TheVariants as asked
 use Rattle.adapter.specs.declared.tape.Entry.TheVariants as entry
-use Rattle.refinement.specs.Acts.{driver_state}
+use Rattle.refinement.specs.Acts.{driver_state_of_slots}
 use Rattle.refinement.specs.Relation.{port_at}
-use Rattle.refinement.specs.Driver.{IsBacked, DriverRelation}
-use Rattle.refinement.specs.Links.{IsPlugEvent}
+use Rattle.refinement.specs.Driver.{TapeBacksSteps, DriverRelation}
+use Rattle.refinement.specs.PreservedParts.{IsPlugEvent}
 use Rattle.refinement.specs.Slots.{IsEmptySlot}
-use Rattle.block_machine.specs.Events.{AnswersService, Device as Told, ShownDiskWasInOrCame, Happens, Served, Service, Stepped}
+use Rattle.block_machine.specs.Events.{AnswersService, StepDevice as Told, ShownDiskWasInOrCame, Happens, Replied, Service, Stepped}
 use Rattle.block_machine.specs.Histories.{JointEvent, JointState}
 use Rattle.block_machine.specs.Expected.{after}
 use Rattle.block_machine.specs.Ports.{PortsWellFormed, Evidence, IsStoppedOrStuck, IsServiced, Ports, SamePort}
@@ -27,8 +27,8 @@ use Rattle.block_machine.specs.Steps.{Answer, Step, Unplug}
 use Rattle.host_boot.specs.TakeOver.{wanted_of}
 use Rattle.identify.specs.declared.wanted.Wanted.TheVariants.{Any}
 use Rattle.port_control.specs.Engines.{Stops}
-use Rattle.driver_history.specs.Evidence.{TapeGainsEntry, IsEvidencedOf, ShowsChange}
-use Rattle.driver_history.specs.Histories.{HasUnservedDisk, IsPortAlive, CallCorresponds, PortCorresponds, ProbesDisk}
+use Rattle.driver_history.specs.Evidence.{TapeGainsEntry, IsEvidencedOf, ShowsLinkChange}
+use Rattle.driver_history.specs.Histories.{IsForeignOrUnfit, IsServedAndNotDead, CallCorresponds, PortCorresponds, ProbesDisk}
 use Rattle.driver_history.specs.PortInvariants.{PortStateInvariant}
 use Rattle.driver_history.specs.AccessTrace.{DoesNotWriteCmd, LeavesEngine, ResetsLink}
 use Rattle.witnesses.specs.RunningAdapter.{port_or_empty, ports_with_disks}
@@ -54,7 +54,7 @@ going = Unplug (port_at 0)
 
 abbrev unplug : JointEvent Device DeviceStep
 unplug = record {
-  event = record { ask = Told (asked.Unplug (port_at 0)); said = Stepped true; evidence = nothing; steps = going ∷ []; ports = unfit_ports };
+  event = record { call = Told (asked.Unplug (port_at 0)); result = Stepped true; evidence = nothing; steps = going ∷ []; ports = unfit_ports };
   device = unplugged;
 }
 
@@ -69,11 +69,11 @@ one_absent = ports_with_disks plain_disks.info (true ∷ true ∷ []) (Absent �
 
 -- port 0 was stopped
 abbrev evidence : Evidence
-evidence = record { faults = []; lost = []; link_changed = []; failed = []; fatal = []; stopped = port_at 0 ∷ []; stuck = [] }
+evidence = record { faults = []; lost = []; link_changed = []; showing_error = []; showing_fatal_error = []; stopped = port_at 0 ∷ []; stuck = [] }
 
 abbrev service : JointEvent Device DeviceStep
 service = record {
-  event = record { ask = Service; said = Served []; evidence = evidence; steps = []; ports = one_absent };
+  event = record { call = Service; result = Replied []; evidence = evidence; steps = []; ports = one_absent };
   device = looked_over;
 }
 
@@ -94,7 +94,7 @@ not_dead_then (suc (suc n)) is = let x : Absent ≡ Dead = is in cc
 
 fit_then : PortsWellFormed one_absent
 fit_then = record {
-  few_are_served = fit.few_are_served;
+  served_are_ports_0_to_3 = fit.served_are_ports_0_to_3;
   unserved_are_absent = λ port is. absent_of port.0 is;
   modes_are_valid = λ port is. absurd (not_ready_then port.0 is);
   causes_are_valid = λ port cause is. cause_of port.0 cause is;
@@ -118,7 +118,7 @@ same_past (suc n) = (refl, refl, refl, refl, refl, refl)
 becomes : (n : ℕ) → IsServiced unfit_ports evidence one_absent (port_at n)
 becomes n = (
   λ is. absurd (not_dead n is),
-  λ _. (record { served_is_kept = refl; dead_is_stuck = (λ is. absurd (not_dead_then n is), λ h. absurd (nowhere (port_at n) h)); disk_is_kept = λ is. (refl, refl) }, changes n),
+  λ _. (record { served_is_unchanged = refl; dead_is_stuck = (λ is. absurd (not_dead_then n is), λ h. absurd (nowhere (port_at n) h)); disk_is_remembered = λ is. (refl, refl) }, changes n),
 )
   where
     changes : (n : ℕ) → SamePort unfit_ports one_absent (port_at n) ⊎ IsStoppedOrStuck evidence (port_at n)
@@ -135,11 +135,11 @@ unplug_happens : Happens rebooted_at.abstract unplug.event
 unplug_happens = record {
   steps_are_enabled = (tt, refl);
   steps_are_of_call = (tt, inl tt);
-  issues_are_last = (tt, λ id handled issued_in. absurd (true≢false (sym handled)));
+  issue_is_last_of_request = (tt, λ id handled issued_in. absurd (true≢false (sym handled)));
   answers_are_lawful = tt;
   ports_are_well_formed = fit;
   unanswered_keep_disk = λ e o here. absurd (nowhere e here);
-  is_answered = ((tt, tt), λ port. (refl, refl, refl, refl, refl, refl));
+  result_matches_steps = ((tt, tt), λ port. (refl, refl, refl, refl, refl, refl));
 }
 
 -- another port's disk neither goes nor comes
@@ -148,7 +148,7 @@ gains_none n = gained_none (IsPlugEvent (suc n)) rebooted unplugged gained refl
     (All-cons (λ e. IsPlugEvent (suc n) e → ⊥) (entry.Unplug (port_at 0)) [] (λ (is : 0 ≡ suc n). omega (arith, is)) (All-nil (λ e. IsPlugEvent (suc n) e → ⊥)))
 
 -- a port that isn't the first shows no change
-quiet : (n : ℕ) → ShowsChange (port_or_empty (unfit 0 ∷ unfit 1 ∷ []) (suc n)) → ⊥
+quiet : (n : ℕ) → ShowsLinkChange (port_or_empty (unfit 0 ∷ unfit 1 ∷ []) (suc n)) → ⊥
 quiet zero (inl is) = true≢false (sym is)
 quiet zero (inr is) = true≢false (sym is)
 quiet (suc n) (inl is) = true≢false (sym is)
@@ -161,41 +161,41 @@ unplug_part n = record {
   probes_disk = tt;
   boots_anew = tt;
   loses_no_error = record {
-    errors = λ ready why. absurd (not_ready n ready);
-    changes = λ tends why. inr (changes n why);
-    fault = λ ready g. absurd (not_ready n ready);
-    fatal = λ ready g. absurd (not_ready n ready);
-    disk = λ ready g. absurd (not_ready n ready);
+    errors_are_handled_or_shown = λ ready why. absurd (not_ready n ready);
+    changes_are_handled_or_shown = λ tends why. inr (changes n why);
+    new_fault_is_shown = λ ready g. absurd (not_ready n ready);
+    new_fatal_is_shown = λ ready g. absurd (not_ready n ready);
+    new_plug_event_is_shown = λ ready g. absurd (not_ready n ready);
   };
   runs_well_anew = λ why ready. absurd (not_ready n ready);
   handles_evidence = λ why. ⊎_elim (nowhere (port_at n)) (nowhere (port_at n)) why;
 }
   where
-    changes : (n : ℕ) → ShowsChange (rebooted.port n) ⊎ TapeGainsEntry (IsPlugEvent n) rebooted unplugged → ShowsChange (unplugged.port n)
+    changes : (n : ℕ) → ShowsLinkChange (rebooted.port n) ⊎ TapeGainsEntry (IsPlugEvent n) rebooted unplugged → ShowsLinkChange (unplugged.port n)
     changes zero why = inl refl
     changes (suc n) why = absurd (⊎_elim (quiet n) (gains_none n) why)
 
-unplug_backed : IsBacked rebooted unplugged answered (going ∷ [])
+unplug_backed : TapeBacksSteps rebooted unplugged answered (going ∷ [])
 unplug_backed = record {
-  telling = refl;
+  telling_is_same = refl;
   new_entries = gained;
   tape_is = refl;
   tells_device_steps = ([], going ∷ [], [], tt, refl, tt, refl);
   steps_are_faithful = λ _. (tt, tt);
-  plugged = λ port. ([], plugs port, refl);
+  plugged_disks_match_steps = λ port. ([], plugs port, refl);
 }
   where
-    plugs : (n : ℕ) → (unplugged.port n).plugged ≡ (rebooted.port n).plugged ++ []
+    plugs : (n : ℕ) → (unplugged.port n).plug_history ≡ (rebooted.port n).plug_history ++ []
     plugs zero = refl
     plugs (suc zero) = refl
     plugs (suc (suc n)) = refl
 
 free : (n k : ℕ) → IsEmptySlot (port_or_empty (gone ∷ unfit 1 ∷ []) n) k
-free zero k = record { issued = refl; free = refl; unarmed = refl }
-free (suc zero) k = record { issued = refl; free = refl; unarmed = refl }
-free (suc (suc n)) k = record { issued = refl; free = refl; unarmed = refl }
+free zero k = record { is_not_issued = refl; is_not_taken = refl; unarmed = refl }
+free (suc zero) k = record { is_not_issued = refl; is_not_taken = refl; unarmed = refl }
+free (suc (suc n)) k = record { is_not_issued = refl; is_not_taken = refl; unarmed = refl }
 
-unplug_knows : DriverRelation without (driver_state no_slots unplugged)
+unplug_knows : DriverRelation without (driver_state_of_slots no_slots unplugged)
 unplug_knows = agreeing without no_slots tape_gone read_memory gone (unfit 1)
     (record { own_first = refl; own_second = refl; disks = (refl, refl); present = present; ids = refl; sizes = refl; bytes = refl; lasting = (refl, refl); still = refl })
     free free_apart (λ f b from small. past_driver f b from) (λ n e may at_port. ⊎_elim (λ z. absurd (nowhere e z.0)) (λ z. absurd (nowhere e z)) may)
@@ -207,9 +207,9 @@ unplug_knows = agreeing without no_slots tape_gone read_memory gone (unfit 1)
 
 still_unfit : (n : ℕ) → PortStateInvariant (wanted_of (Any ∷ Any ∷ []) n) no_slots unplugged_at (port_at n) (unfit_ports.served (port_at n)) (unfit_ports.state (port_at n))
 still_unfit zero = record {
-  adapter_is_on = record { ae = refl; no_reset = refl };
+  adapter_is_on = record { ae_is_set = refl; no_reset = refl };
   backs_state = (
-    record { halted = record { st = refl; cr = refl; ci = λ k. refl; taken = λ k. refl }; sact = λ k. refl },
+    record { engine_is_stopped = record { st_is_clear = refl; cr_is_clear = refl; no_command_is_issued = λ k. refl; no_command_is_taken = λ k. refl }; sact_is_clear = λ k. refl },
     inr (inl (refl, (0xeb140101, ((refl, refl), refl, refl, λ (e : 0xeb140101 ≡ 0x101). omega (arith, e))))),
   );
   shows_disk_if_in = λ bad. inr refl;
@@ -218,9 +218,9 @@ still_unfit zero = record {
   none_is_quarantined = λ e k. absurd (nowhere e k);
 }
 still_unfit (suc zero) = record {
-  adapter_is_on = record { ae = refl; no_reset = refl };
+  adapter_is_on = record { ae_is_set = refl; no_reset = refl };
   backs_state = (
-    record { halted = record { st = refl; cr = refl; ci = λ k. refl; taken = λ k. refl }; sact = λ k. refl },
+    record { engine_is_stopped = record { st_is_clear = refl; cr_is_clear = refl; no_command_is_issued = λ k. refl; no_command_is_taken = λ k. refl }; sact_is_clear = λ k. refl },
     inr (inl (refl, (0xeb140101, ((refl, refl), refl, refl, λ (e : 0xeb140101 ≡ 0x101). omega (arith, e))))),
   );
   shows_disk_if_in = λ bad. inl refl;
@@ -230,15 +230,15 @@ still_unfit (suc zero) = record {
 }
 still_unfit (suc (suc n)) = unserved_at no_slots unplugged_at (suc (suc n)) refl refl (record { all_are_free = λ slot. refl; none_is_parked = refl }) (λ e here. absurd (nowhere e here)) (λ e kept. absurd (nowhere e kept))
 
-unplug_evidenced : (n : ℕ) → IsEvidencedOf unplug.event.ask unplug.event.said [] rebooted_at unfit_ports unplugged nothing (port_at n)
-unplug_evidenced n = unnamed_evidenced unplug.event.ask unplug.event.said [] rebooted_at unfit_ports unplugged nothing (port_at n) (none_named (port_at n)) (λ ready. absurd (not_ready n ready)) (All-nil (LeavesEngine (port_at n)))
+unplug_evidenced : (n : ℕ) → IsEvidencedOf unplug.event.call unplug.event.result [] rebooted_at unfit_ports unplugged nothing (port_at n)
+unplug_evidenced n = unnamed_evidenced unplug.event.call unplug.event.result [] rebooted_at unfit_ports unplugged nothing (port_at n) (none_named (port_at n)) (λ ready. absurd (not_ready n ready)) (All-nil (LeavesEngine (port_at n)))
 
 unfoldable unplug_ties : CallCorresponds (Any ∷ Any ∷ []) rebooted_at unplug
 unplug_ties = record {
   accesses = [];
   accesses_are_explained = (refl, inl (record { can = can_go; effect = goes }));
   is_backed = unplug_backed;
-  is_evidenced = record { faults = λ f here. absurd (nowhere f here); port = λ port. unplug_evidenced port.0 };
+  is_evidenced = record { faults_are_told = λ f here. absurd (nowhere f here); each_port_is_evidenced = λ port. unplug_evidenced port.0 };
   only_failed_requeue = tt;
   issues_all_due = λ port. tt;
   ports_correspond = λ port. unplug_part port.0;
@@ -246,8 +246,8 @@ unplug_ties = record {
     no_slots,
     record {
       driver_relation = unplug_knows;
-      served = λ port low. served_of tape_gone read_memory (gone ∷ unfit 1 ∷ []) port.0;
-      adapter_is_on = inl (record { ae = refl; no_reset = refl });
+      served_iff_wanted_and_there = λ port low. served_of tape_gone read_memory (gone ∷ unfit 1 ∷ []) port.0;
+      is_on_or_served_are_dead = inl (record { ae_is_set = refl; no_reset = refl });
       ports_hold = λ port low. still_unfit port.0;
     },
   );
@@ -257,9 +257,9 @@ unplug_ties = record {
 
 answers : AnswersService unplugged_at.abstract evidence [] [] looked_at.abstract
 answers = record {
-  replies_match = record { answers = []; is_permutation = IsPermutation-refl _; ordered = λ i j d less low. absurd (omega (arith, less, low)); replies_are = refl };
-  tells_dead = λ e o here. absurd (nowhere (Answer e o) here);
-  answers_all_unplugged = record { none_is_left = λ e other here. absurd (nowhere (Answer e outcome.Unplugged) here); none_is_told_dead = λ e other here. absurd (nowhere (Answer e outcome.Unplugged) here) };
+  replies_match = record { answers = []; is_permutation = IsPermutation-refl _; ordered = λ i j d less low. absurd (omega (arith, less, low)); replies_are_of_answers = refl };
+  dead_ports_tell_only_port_dead = λ e o here. absurd (nowhere (Answer e o) here);
+  unplugged_empties_port = record { none_is_left = λ e other here. absurd (nowhere (Answer e outcome.Unplugged) here); none_is_told_dead = λ e other here. absurd (nowhere (Answer e outcome.Unplugged) here) };
   none_is_due = λ port ready. absurd (not_ready_then port.0 ready);
   empty_unless_ready = λ port other e here. absurd (nowhere e here);
   answers_ended = λ port ready e here. absurd (nowhere e here);
@@ -271,19 +271,19 @@ service_happens : Happens unplugged_at.abstract service.event
 service_happens = record {
   steps_are_enabled = tt;
   steps_are_of_call = tt;
-  issues_are_last = tt;
+  issue_is_last_of_request = tt;
   answers_are_lawful = tt;
   ports_are_well_formed = fit_then;
   unanswered_keep_disk = λ e o here. absurd (nowhere e here);
-  is_answered = answers;
+  result_matches_steps = answers;
 }
 
 stops : Stops (port_at 0) (missing_look_accesses ++ unfit_look_accesses)
 stops = record {
   before = Reading (Px (port_at 0) Is) 0x400000 ∷ Reading (Px (port_at 0) Ssts) 0 ∷ Reading (Px (port_at 0) Cmd) 0x4010 ∷ [];
-  cleared = 0x4010;
+  written_cmd = 0x4010;
   between = [];
-  fallen = 0x4010;
+  read_cmd = 0x4010;
   later = Writing (Px (port_at 0) Serr) 0xffffffff ∷ Reading (Px (port_at 0) Ssts) 0 ∷ unfit_look_accesses;
   accesses_are = refl;
   start_is_cleared = refl;
@@ -294,10 +294,10 @@ stops = record {
 of_first : WritesOf (IsOf (port_at 0)) (missing_look_accesses ++ unfit_look_accesses)
 of_first = (refl, (refl, tt))
 
-of_served : AreServing (IsPortAlive unfit_ports) (missing_look_accesses ++ unfit_look_accesses)
+of_served : AreServing (IsServedAndNotDead unfit_ports) (missing_look_accesses ++ unfit_look_accesses)
 of_served = (tended 0 refl, (tended 0 refl, (tended 0 refl, ((λ is. cc, tended 0 refl), (tended 0 refl, ((λ is. cc, tended 0 refl), (tended 0 refl, (tended 1 refl, (tended 1 refl, tt)))))))))
   where
-    tended : (n : ℕ) → unfit_ports.served (port_at n) ≡ true → IsPortAlive unfit_ports (port_at n)
+    tended : (n : ℕ) → unfit_ports.served (port_at n) ≡ true → IsServedAndNotDead unfit_ports (port_at n)
     tended n served = (served, not_dead n)
 
 unnamed : (n : ℕ) → IsUnnamed evidence (port_at (suc n))
@@ -310,20 +310,20 @@ unnamed n = record {
   stuck = nowhere (port_at (suc n));
 }
 
-service_evidenced : (n : ℕ) → IsEvidencedOf Service (Served []) (missing_look_accesses ++ unfit_look_accesses) unplugged_at one_absent looked_over evidence (port_at n)
+service_evidenced : (n : ℕ) → IsEvidencedOf Service (Replied []) (missing_look_accesses ++ unfit_look_accesses) unplugged_at one_absent looked_over evidence (port_at n)
 service_evidenced zero = record {
-  lost = λ h. absurd (nowhere (port_at 0) h);
+  lost_only = λ h. absurd (nowhere (port_at 0) h);
   link_changed_all = λ ready loss. absurd (not_ready 0 ready);
   link_changed_only = λ h. absurd (nowhere (port_at 0) h);
-  failed_all = λ ready f. absurd (not_ready 0 ready);
-  failed_only = λ h. absurd (nowhere (port_at 0) h);
-  fatal_all = λ ready f. absurd (not_ready 0 ready);
-  fatal_only = λ h. absurd (nowhere (port_at 0) h);
-  stopped_all = inr (inl (named 0));
+  showing_error_all = λ ready f. absurd (not_ready 0 ready);
+  showing_error_only = λ h. absurd (nowhere (port_at 0) h);
+  showing_fatal_error_all = λ ready f. absurd (not_ready 0 ready);
+  showing_fatal_error_only = λ h. absurd (nowhere (port_at 0) h);
+  engine_is_left_or_stopped = inr (inl (named 0));
   stopped_only = λ h. inl stops;
   stuck_only = λ h. absurd (nowhere (port_at 0) h);
 }
-service_evidenced (suc n) = unnamed_evidenced Service (Served []) (missing_look_accesses ++ unfit_look_accesses) unplugged_at one_absent looked_over evidence (port_at (suc n)) (unnamed n) (λ ready. absurd (not_ready (suc n) ready))
+service_evidenced (suc n) = unnamed_evidenced Service (Replied []) (missing_look_accesses ++ unfit_look_accesses) unplugged_at one_absent looked_over evidence (port_at (suc n)) (unnamed n) (λ ready. absurd (not_ready (suc n) ready))
     (leaves (IsOf (port_at 0)) (port_at (suc n)) (λ is. apart (ap (λ (p : Port). p.0) is)) (λ is. apart (ap (λ (p : Port). p.0) is)) (missing_look_accesses ++ unfit_look_accesses) of_first)
   where
     apart : suc n ≡ 0 → ⊥
@@ -332,25 +332,25 @@ service_evidenced (suc n) = unnamed_evidenced Service (Served []) (missing_look_
 -- the first port's disk isn't there; the other's is, and shows no change
 probes : (n : ℕ) → ProbesDisk (missing_look_accesses ++ unfit_look_accesses) unplugged_at one_absent looked_over (port_at n)
 probes zero = record {
-  shown = λ is. absurd (let x : Unfit 8 ≡ Absent = is in cc);
-  absent = λ is. absurd (let x : Unfit 8 ≡ Absent = is in cc);
-  missing = λ bad none. inl refl;
-  changed = λ bad x. absurd (true≢false (sym x));
+  absent_with_device_is_booted = λ is. absurd (let x : Unfit 8 ≡ Absent = is in cc);
+  absent_gets_first_fis = λ is. absurd (let x : Unfit 8 ≡ Absent = is in cc);
+  missing_disk_makes_absent = λ bad none. inl refl;
+  changed_disk_is_booted = λ bad x. absurd (true≢false (sym x));
 }
 probes (suc zero) = record {
-  shown = λ is. absurd (let x : Unfit 8 ≡ Absent = is in cc);
-  absent = λ is. absurd (let x : Unfit 8 ≡ Absent = is in cc);
-  missing = λ bad none. absurd (none refl);
-  changed = λ bad x. absurd (true≢false (sym x));
+  absent_with_device_is_booted = λ is. absurd (let x : Unfit 8 ≡ Absent = is in cc);
+  absent_gets_first_fis = λ is. absurd (let x : Unfit 8 ≡ Absent = is in cc);
+  missing_disk_makes_absent = λ bad none. absurd (none refl);
+  changed_disk_is_booted = λ bad x. absurd (true≢false (sym x));
 }
 probes (suc (suc n)) = record {
-  shown = λ is there. absurd (let x : 0 ≡ 3 = there in omega (arith, x));
-  absent = λ is there. absurd (let x : 0 ≡ 3 = there in omega (arith, x));
-  missing = λ bad. absurd (not_bad bad);
-  changed = λ bad. absurd (not_bad bad);
+  absent_with_device_is_booted = λ is there. absurd (let x : 0 ≡ 3 = there in omega (arith, x));
+  absent_gets_first_fis = λ is there. absurd (let x : 0 ≡ 3 = there in omega (arith, x));
+  missing_disk_makes_absent = λ bad. absurd (not_bad bad);
+  changed_disk_is_booted = λ bad. absurd (not_bad bad);
 }
   where
-    not_bad : HasUnservedDisk unfit_ports (port_at (suc (suc n))) → ⊥
+    not_bad : IsForeignOrUnfit unfit_ports (port_at (suc (suc n))) → ⊥
     not_bad (inl is) = let x : Absent ≡ Foreign = is in cc
     not_bad (inr is) = let x : Absent ≡ Unfit is.0 = is.1 in cc
 
@@ -361,11 +361,11 @@ service_part n = record {
   probes_disk = λ served none. probes n;
   boots_anew = (λ ready. absurd (not_ready n ready), boots n);
   loses_no_error = record {
-    errors = λ ready why. absurd (not_ready n ready);
-    changes = λ tends why. changes n why;
-    fault = λ ready g. absurd (not_ready_then n ready);
-    fatal = λ ready g. absurd (not_ready_then n ready);
-    disk = λ ready g. absurd (not_ready_then n ready);
+    errors_are_handled_or_shown = λ ready why. absurd (not_ready n ready);
+    changes_are_handled_or_shown = λ tends why. changes n why;
+    new_fault_is_shown = λ ready g. absurd (not_ready_then n ready);
+    new_fatal_is_shown = λ ready g. absurd (not_ready_then n ready);
+    new_plug_event_is_shown = λ ready g. absurd (not_ready_then n ready);
   };
   runs_well_anew = λ why ready. absurd (not_ready_then n ready);
   handles_evidence = λ ready. absurd (not_ready n ready);
@@ -375,35 +375,35 @@ service_part n = record {
     boots zero = inr (inr (inl refl))
     boots (suc n) = inl (same_past n)
 
-    quiet_past : (n : ℕ) → ShowsChange (unplugged.port (suc n)) → ⊥
+    quiet_past : (n : ℕ) → ShowsLinkChange (unplugged.port (suc n)) → ⊥
     quiet_past zero shows = quiet 0 shows
     quiet_past (suc n) shows = quiet (suc n) shows
 
-    changes : (n : ℕ) → ShowsChange (unplugged.port n) ⊎ TapeGainsEntry (IsPlugEvent n) unplugged looked_over → IsStoppedOrStuck evidence (port_at n) ⊎ ShowsChange (looked_over.port n)
+    changes : (n : ℕ) → ShowsLinkChange (unplugged.port n) ⊎ TapeGainsEntry (IsPlugEvent n) unplugged looked_over → IsStoppedOrStuck evidence (port_at n) ⊎ ShowsLinkChange (looked_over.port n)
     changes zero why = inl (inl (named 0))
     changes (suc n) why = absurd (⊎_elim (quiet_past n) (gained_none (IsPlugEvent (suc n)) unplugged looked_over [] (sym (append-nil _)) (All-nil (λ e. IsPlugEvent (suc n) e → ⊥))) why)
 
-service_backed : IsBacked unplugged looked_over without []
+service_backed : TapeBacksSteps unplugged looked_over without []
 service_backed = record {
-  telling = refl;
+  telling_is_same = refl;
   new_entries = [];
   tape_is = sym (append-nil _);
   tells_device_steps = tt;
   steps_are_faithful = λ _. tt;
-  plugged = λ port. ([], plugs port, refl);
+  plugged_disks_match_steps = λ port. ([], plugs port, refl);
 }
   where
-    plugs : (n : ℕ) → (looked_over.port n).plugged ≡ (unplugged.port n).plugged ++ []
+    plugs : (n : ℕ) → (looked_over.port n).plug_history ≡ (unplugged.port n).plug_history ++ []
     plugs zero = refl
     plugs (suc zero) = refl
     plugs (suc (suc n)) = refl
 
 free_then : (n k : ℕ) → IsEmptySlot (port_or_empty (absent ∷ passed ∷ []) n) k
-free_then zero k = record { issued = refl; free = refl; unarmed = refl }
-free_then (suc zero) k = record { issued = refl; free = refl; unarmed = refl }
-free_then (suc (suc n)) k = record { issued = refl; free = refl; unarmed = refl }
+free_then zero k = record { is_not_issued = refl; is_not_taken = refl; unarmed = refl }
+free_then (suc zero) k = record { is_not_issued = refl; is_not_taken = refl; unarmed = refl }
+free_then (suc (suc n)) k = record { is_not_issued = refl; is_not_taken = refl; unarmed = refl }
 
-service_knows : DriverRelation without (driver_state no_slots looked_over)
+service_knows : DriverRelation without (driver_state_of_slots no_slots looked_over)
 service_knows = agreeing without no_slots tape_gone read_memory absent passed
     (record { own_first = refl; own_second = refl; disks = (refl, refl); present = present; ids = refl; sizes = refl; bytes = refl; lasting = (refl, refl); still = refl })
     free_then free_apart (λ f b from small. past_driver f b from) (λ n e may at_port. ⊎_elim (λ z. absurd (nowhere e z.0)) (λ z. absurd (nowhere e z)) may)
@@ -415,9 +415,9 @@ service_knows = agreeing without no_slots tape_gone read_memory absent passed
 
 holds_of : (n : ℕ) → PortStateInvariant (wanted_of (Any ∷ Any ∷ []) n) no_slots looked_at (port_at n) (one_absent.served (port_at n)) (one_absent.state (port_at n))
 holds_of zero = record {
-  adapter_is_on = record { ae = refl; no_reset = refl };
+  adapter_is_on = record { ae_is_set = refl; no_reset = refl };
   backs_state = (
-    record { halted = record { st = refl; cr = refl; ci = λ k. refl; taken = λ k. refl }; sact = λ k. refl },
+    record { engine_is_stopped = record { st_is_clear = refl; cr_is_clear = refl; no_command_is_issued = λ k. refl; no_command_is_taken = λ k. refl }; sact_is_clear = λ k. refl },
     (λ (e : 0 ≡ 3). omega (arith, e), refl),
   );
   shows_disk_if_in = λ bad. inr refl;
@@ -426,9 +426,9 @@ holds_of zero = record {
   none_is_quarantined = λ e k. absurd (nowhere e k);
 }
 holds_of (suc zero) = record {
-  adapter_is_on = record { ae = refl; no_reset = refl };
+  adapter_is_on = record { ae_is_set = refl; no_reset = refl };
   backs_state = (
-    record { halted = record { st = refl; cr = refl; ci = λ k. refl; taken = λ k. refl }; sact = λ k. refl },
+    record { engine_is_stopped = record { st_is_clear = refl; cr_is_clear = refl; no_command_is_issued = λ k. refl; no_command_is_taken = λ k. refl }; sact_is_clear = λ k. refl },
     inr (inl (refl, (0xeb140101, ((refl, refl), refl, refl, λ (e : 0xeb140101 ≡ 0x101). omega (arith, e))))),
   );
   shows_disk_if_in = λ bad. inl refl;
@@ -441,9 +441,9 @@ holds_of (suc (suc n)) = unserved_at no_slots looked_at (suc (suc n)) refl refl 
 service_ties : CallCorresponds (Any ∷ Any ∷ []) unplugged_at service
 service_ties = record {
   accesses = missing_look_accesses ++ unfit_look_accesses;
-  accesses_are_explained = (does, serving (IsPortAlive unfit_ports) (missing_look_accesses ++ unfit_look_accesses) of_served);
+  accesses_are_explained = (does, serving (IsServedAndNotDead unfit_ports) (missing_look_accesses ++ unfit_look_accesses) of_served);
   is_backed = service_backed;
-  is_evidenced = record { faults = λ f here. absurd (nowhere f here); port = λ port. service_evidenced port.0 };
+  is_evidenced = record { faults_are_told = λ f here. absurd (nowhere f here); each_port_is_evidenced = λ port. service_evidenced port.0 };
   only_failed_requeue = tt;
   issues_all_due = λ port ready. absurd (not_ready_then port.0 ready);
   ports_correspond = λ port. service_part port.0;
@@ -451,8 +451,8 @@ service_ties = record {
     no_slots,
     record {
       driver_relation = service_knows;
-      served = λ port low. served_of tape_gone read_memory (absent ∷ passed ∷ []) port.0;
-      adapter_is_on = inl (record { ae = refl; no_reset = refl });
+      served_iff_wanted_and_there = λ port low. served_of tape_gone read_memory (absent ∷ passed ∷ []) port.0;
+      is_on_or_served_are_dead = inl (record { ae_is_set = refl; no_reset = refl });
       ports_hold = λ port low. holds_of port.0;
     },
   );
@@ -465,18 +465,18 @@ unfolding service_ties unplug_ties
 missing_disk_is_a_history = record {
   initial_state = first;
   past = reset ∷ submit ∷ [];
-  unfit = (refl, refl);
+  both_are_unfit = (refl, refl);
   unplug = unplug;
   disk_is_unplugged = (refl, refl);
-  unseen = refl;
+  port_0_shows_unfit_still = refl;
   service = service;
   asks_for_service = (refl, refl);
-  absent = refl;
-  stays = refl;
-  does = does;
-  allowed = allowed;
+  port_0_becomes_absent = refl;
+  port_1_stays_unfit = refl;
+  service_makes_accesses = does;
+  accesses_are_allowed = allowed;
   history = ((((((starts, fit_ready plain_disks), begins plain_disks), submit_happens, submit_ties), resetting.happens, resetting.ties), unplug_happens, unplug_ties), service_happens, service_ties);
   accesses = refl;
-  unplug_parts = λ port. unplug_part port.0;
-  service_parts = λ port. service_part port.0;
+  unplug_corresponds = λ port. unplug_part port.0;
+  service_corresponds = λ port. service_part port.0;
 }

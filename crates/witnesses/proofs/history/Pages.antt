@@ -6,11 +6,11 @@ use Rattle.std.proofs.lemmas.Bool.{true≢false}
 use Rattle.std.proofs.lemmas.List.{get_or-replicate, get_or_append_left}
 use Rattle.block_machine.specs.Ports.{IsValidMode}
 use Rattle.driver_history.specs.PortInvariants.{mode_of_disk}
-use Rattle.identify.specs.Page.{HasNoUnfit, AllowsTrim, identity_word}
+use Rattle.identify.specs.IdentityPage.{IsFitPage, ZeroesAfterTrim, identity_word}
 use Rattle.identify.specs.declared.DiskInfo.{DiskInfo}
 use Rattle.identify.specs.declared.Unfit.TheVariants.{BadChecksum, Word83, No48Bit, SectorSize, NoFlush, NoSectors}
-use Rattle.port_boot.specs.States.{IsFit}
-use Rattle.witnesses.specs.RunningAdapter.{fit_page, page_rest, identify_page, queueing_cap, queueing_page}
+use Rattle.port_boot.specs.States.{IsFitAndWanted}
+use Rattle.witnesses.specs.RunningAdapter.{fit_page, page_from_word_83, identify_page, queueing_cap, queueing_page}
 
 -- what a page with this queue says
 abbrev pub info_with : ℕ → Bool → DiskInfo
@@ -20,7 +20,7 @@ module _ (depth queues : ℕ) where
   abbrev page : List ℕ
   page = identify_page depth queues
 
-  no_fault : HasNoUnfit page
+  no_fault : IsFitPage page
   no_fault BadChecksum (a, b) = let x : 0 ≡ 0xa5 = a in absurd (omega (arith, x))
   no_fault Word83 a = a refl
   no_fault No48Bit a = let x : 1 ≡ 0 = a in absurd (omega (arith, x))
@@ -30,12 +30,12 @@ module _ (depth queues : ℕ) where
 
   -- what the first bytes of the page are
   zero_at : (n : ℕ) → n < 150 → slice_index page n ≡ 0
-  zero_at n low = get_or_append_left (replicate 150 0) (depth ∷ 0 ∷ 0 ∷ queues ∷ (replicate 13 0 ++ page_rest)) 0 n low ∙ get_or-replicate 150 n 0 0 low
+  zero_at n low = get_or_append_left (replicate 150 0) (depth ∷ 0 ∷ 0 ∷ queues ∷ (replicate 13 0 ++ page_from_word_83)) 0 n low ∙ get_or-replicate 150 n 0 0 low
 
   zero_in : (n : ℕ) → n < 20 → slice_index (replicate 20 0) n ≡ 0
   zero_in n low = get_or-replicate 20 n 0 0 low
 
-  pub page_fits : (ncq : Bool) → IsTrue ncq ↔ (bit_at (identity_word page 76) 8 ≡ 1) → IsFit None page (info_with (identity_word page 75 % 2 ^ 5 + 1) ncq)
+  pub page_fits : (ncq : Bool) → IsTrue ncq ↔ (bit_at (identity_word page 76) 8 ≡ 1) → IsFitAndWanted None page (info_with (identity_word page 75 % 2 ^ 5 + 1) ncq)
   page_fits ncq queue = record {
     no_fault = no_fault;
     page_tells = record {
@@ -47,7 +47,7 @@ module _ (depth queues : ℕ) where
       depth = refl;
       ncq = queue;
       sectors = refl;
-      trim = (λ f. absurd (true≢false (sym f)), λ (a : AllowsTrim page). let x : 0 ≡ 1 = a.trim in absurd (omega (arith, x)));
+      trim = (λ f. absurd (true≢false (sym f)), λ (a : ZeroesAfterTrim page). let x : 0 ≡ 1 = a.trim in absurd (omega (arith, x)));
     };
     serial_matches = tt;
   }
@@ -56,7 +56,7 @@ module _ (depth queues : ℕ) where
 pub record Kind : Type 0 where
   pub page : List ℕ
   pub info : DiskInfo
-  pub fits : IsFit None page info
+  pub fits : IsFitAndWanted None page info
   pub mode : IsValidMode (mode_of_disk queueing_cap info)
 
 -- the disks that take commands one at a time

@@ -10,20 +10,20 @@ use Rattle.adapter.specs.Device.{Bases, Disk, DevicePort, Device}
 use Rattle.adapter.specs.FirstRead.{first_disk, first_disk_sector}
 use Rattle.adapter.specs.declared.command.Operation.TheVariants.{Identify}
 use Rattle.adapter.specs.declared.tape.Entry.{Entry}
-use Rattle.refinement.specs.Acts.{DriverSlots, driver_state}
-use Rattle.refinement.specs.Relation.{ServeApart, HaveSlots, HasReceivedArea, SameMemory, SameSectors, HasLasting, port_at}
+use Rattle.refinement.specs.Acts.{DriverSlots, driver_state_of_slots}
+use Rattle.refinement.specs.Relation.{ServeDistinctRequests, HaveSlotsUnlessParked, HasReceivedArea, SameClientFrames, SameSectors, HoldsReplugCandidates, port_at}
 use Rattle.refinement.specs.Driver.{DriverRelation}
 use Rattle.refinement.specs.Slots.{Free, Serves, IsEmptySlot, IsMove, RelatesSlot}
 use Rattle.block_machine.specs.Histories.{JointState}
 use Rattle.block_machine.specs.Ports.{Ports, PortsWellFormed}
 use Rattle.block_machine.specs.State.{Machine, Pending}
-use Rattle.block_machine.specs.Steps.{NoneQuarantined}
+use Rattle.block_machine.specs.Steps.{NoneKept}
 use Rattle.driver_history.specs.Evidence.{ShowsFailure, ShowsLoss}
 use Rattle.driver_history.specs.Histories.{IsFirstInstant}
 use Rattle.driver_history.specs.PortInvariants.{ReadySlotsInvariant, PortStateInvariant, DriverInvariantWith, IsReadyAt, mode_of_disk}
 use Rattle.host_boot.specs.TakeOver.{IsServed, wanted_of}
 use Rattle.identify.specs.declared.wanted.Wanted.TheVariants.{Any, Nothing}
-use Rattle.port_control.specs.Ports.{programmed}
+use Rattle.port_control.specs.Ports.{programmed_bases}
 pub use Rattle.witnesses.proofs.history.Client.{client, frame, granted, its_row, row, start, starts, two_rows}
 use Rattle.witnesses.specs.RunningAdapter.{running_device, port_or_empty, page_entry, queueing_cap, running_port, ports_with_disks}
 use Rattle.witnesses.proofs.history.Still.{all_still, first_lasting, still_bytes}
@@ -38,21 +38,21 @@ use Rattle.witnesses.proofs.history.Submitting.{second, sent}
 
 -- Two ports that run with disks, or did, in their own places; the machine has their disks, and no others.
 pub record AreDisks (m : Machine) (tape : List Entry) (p q : DevicePort) : Type 0 where
-  pub own_first : p.bases ≡ programmed 0
-  pub own_second : q.bases ≡ programmed 1
+  pub own_first : p.bases ≡ programmed_bases 0
+  pub own_second : q.bases ≡ programmed_bases 1
   pub disks : (p.disk ≡ first_disk) × (q.disk ≡ first_disk)
   pub present : (n : ℕ) → m.present (port_at n) ≡ (port_or_empty (p ∷ q ∷ []) n).present
   pub ids : m.disk_ids ≡ start.disk_ids
   pub sizes : m.sizes ≡ start.sizes
-  pub bytes : m.disks ≡ start.disks
+  pub bytes : m.disk_bytes ≡ start.disk_bytes
   -- nothing was put on them
   pub lasting : (p.lasting ≡ first_lasting) × (q.lasting ≡ first_lasting)
   pub still : all_still tape ≡ true
 
 module _ (m : Machine) (s : DriverSlots) (tape : List Entry) (memory : ℕ → ℕ) (p q : DevicePort) (are : AreDisks m tape p q) where
   received : (n : ℕ) → (port_or_empty (p ∷ q ∷ []) n).fre ≡ true → HasReceivedArea (port_or_empty (p ∷ q ∷ []) n) n
-  received zero f = record { below = omega arith; area = ap (λ (b : Bases). b.fb) are.own_first }
-  received (suc zero) f = record { below = omega arith; area = ap (λ (b : Bases). b.fb) are.own_second }
+  received zero f = record { port_is_below_4 = omega arith; area_is_in_place = ap (λ (b : Bases). b.fb) are.own_first }
+  received (suc zero) f = record { port_is_below_4 = omega arith; area_is_in_place = ap (λ (b : Bases). b.fb) are.own_second }
   received (suc (suc n)) f = absurd (true≢false (sym f))
 
   name_of : (n : ℕ) → start.disk_ids (port_at n) ≡ (port_or_empty (p ∷ q ∷ []) n).disk.name
@@ -60,9 +60,9 @@ module _ (m : Machine) (s : DriverSlots) (tape : List Entry) (memory : ℕ → �
   name_of (suc zero) = sym (ap (λ (d : Disk). d.name) are.disks.1)
   name_of (suc (suc n)) = refl
 
-  size_of : (n : ℕ) → start.sizes (port_at n) ≡ (port_or_empty (p ∷ q ∷ []) n).disk.size
-  size_of zero = sym (ap (λ (d : Disk). d.size) are.disks.0)
-  size_of (suc zero) = sym (ap (λ (d : Disk). d.size) are.disks.1)
+  size_of : (n : ℕ) → start.sizes (port_at n) ≡ (port_or_empty (p ∷ q ∷ []) n).disk.sector_count
+  size_of zero = sym (ap (λ (d : Disk). d.sector_count) are.disks.0)
+  size_of (suc zero) = sym (ap (λ (d : Disk). d.sector_count) are.disks.1)
   size_of (suc (suc n)) = refl
 
   sectors_of : (n : ℕ) → SameSectors start (port_or_empty (p ∷ q ∷ []) n).disk n
@@ -70,26 +70,26 @@ module _ (m : Machine) (s : DriverSlots) (tape : List Entry) (memory : ℕ → �
   sectors_of (suc zero) = record { told_sectors = first_disk_sector; disk_tells = ap (λ (d : Disk). d.sectors) are.disks.1; bytes_are_same = λ k b kl bl. tells k b bl }
   sectors_of (suc (suc n)) = record { told_sectors = λ k. []; disk_tells = refl; bytes_are_same = λ k b kl bl. absurd (omega (arith, kl)) }
 
-  lasts : (n : ℕ) → HasLasting m tape (port_or_empty (p ∷ q ∷ []) n) n
+  lasts : (n : ℕ) → HoldsReplugCandidates m tape (port_or_empty (p ∷ q ∷ []) n) n
   lasts zero k inside bytes w = inl (λ b bl. still_bytes tape (p.lasting) 0 k bytes are.lasting.0 are.still w b bl ∙ sym (ap (λ (f : Port → ℕ → ℕ → ℕ). f (port_at 0) k b) are.bytes))
   lasts (suc zero) k inside bytes w = inl (λ b bl. still_bytes tape (q.lasting) 1 k bytes are.lasting.1 are.still w b bl ∙ sym (ap (λ (f : Port → ℕ → ℕ → ℕ). f (port_at 1) k b) are.bytes))
   lasts (suc (suc n)) k inside bytes w = absurd (omega (arith, inside))
 
-  pub agreeing : ((n k : ℕ) → RelatesSlot m memory tape (port_or_empty (p ∷ q ∷ []) n) n k (s.uses n k)) → ServeApart s.uses → SameMemory m memory → ((n : ℕ) → HaveSlots s.uses m n (s.parked n))
-      → DriverRelation m (driver_state s (running_device tape memory (p ∷ q ∷ [])))
+  pub agreeing : ((n k : ℕ) → RelatesSlot m memory tape (port_or_empty (p ∷ q ∷ []) n) n k (s.slot_states n k)) → ServeDistinctRequests s.slot_states → SameClientFrames m memory → ((n : ℕ) → HaveSlotsUnlessParked s.slot_states m n (s.awaiting_disposition n))
+      → DriverRelation m (driver_state_of_slots s (running_device tape memory (p ∷ q ∷ [])))
   agreeing slots apart same have = record {
     state_relation = record {
       relates_slots = slots;
-      serve_apart = apart;
+      serve_distinct_requests = apart;
       received_areas_are_placed = received;
       disks_are_same = λ n. record {
         present = are.present n;
         id = ap (λ (f : Port → ℕ). f (port_at n)) are.ids ∙ name_of n;
-        size = ap (λ (f : Port → ℕ). f (port_at n)) are.sizes ∙ size_of n;
+        sector_count = ap (λ (f : Port → ℕ). f (port_at n)) are.sizes ∙ size_of n;
       };
-      memory_is_same = same;
+      client_frames_are_same = same;
       sectors_are_same = λ _ n. let d = sectors_of n in record { told_sectors = d.told_sectors; disk_tells = d.disk_tells; bytes_are_same = λ k b kl bl. d.bytes_are_same k b kl bl ∙ sym (ap (λ (f : Port → ℕ → ℕ → ℕ). f (port_at n) k b) are.bytes) };
-      has_lasting = λ _ n. lasts n;
+      holds_replug_candidates = λ _ n. lasts n;
     };
     have_slots = have;
   }
@@ -120,7 +120,7 @@ not_dead (suc (suc n)) is = let x : Absent ≡ Dead = is in cc
 
 pub fit_ready : (disk : Kind) → PortsWellFormed (two_ready disk)
 fit_ready disk = record {
-  few_are_served = λ port is. few_of port.0 is;
+  served_are_ports_0_to_3 = λ port is. few_of port.0 is;
   unserved_are_absent = λ port is. absent_of port.0 is;
   modes_are_valid = λ port is. disk.mode;
   causes_are_valid = λ port cause is. absurd (no_cause port.0 cause is);
@@ -170,7 +170,7 @@ but_commands p = record p {
   ci = λ _. false;
   sact = λ _. false;
   taken = λ _. None;
-  notes = record p.notes { last_ci = 0; last_sact = 0; command_count = 0 };
+  notes = record p.notes { last_ci = 0; last_sact = 0; slot0_issued_count = 0 };
 }
 
 pub record Stands (p : DevicePort) : Type 0 where
@@ -192,13 +192,13 @@ module _ (disk : Kind) (s : DriverSlots) (m : Machine) (more : List Entry) (memo
   instant_with = record { device = served_with; abstract = record { machine = m; ports = two_ready disk } }
 
   -- port 1 is ready as long as its disk is in
-  pub second_ready : All (λ e. IsMove 1 Identify e → ⊥) more → ((slot : ℕ) → s.uses 1 slot ≡ Free) → s.parked 1 ≡ [] → m.kept ≡ [] → IsReadyAt Any s instant_with (port_at 1)
+  pub second_ready : All (λ e. IsMove 1 Identify e → ⊥) more → ((slot : ℕ) → s.slot_states 1 slot ≡ Free) → s.awaiting_disposition 1 ≡ [] → m.kept ≡ [] → IsReadyAt Any s instant_with (port_at 1)
   second_ready unpaged free unparked unkept = record {
-    adapter_is_on = record { ae = refl; no_reset = refl };
+    adapter_is_on = record { ae_is_set = refl; no_reset = refl };
     engine_runs = runs_on 1 served_with refl refl refl refl refl (omega arith) refl refl refl;
     info = disk.info;
     has_fit_disk = fit_disk disk 1 served_with (page_entry disk.page 0 ∷ []) more refl refl refl refl unpaged;
-    shows_disk_info = record { serial = refl; sectors = refl; trims = refl; mode = refl };
+    shows_disk_info = record { serial = refl; sectors = refl; zeroes_after_trim_is = refl; mode = refl };
     slots_invariant = requests_none s instant_with (port_at 1) (mode_of_disk queueing_cap disk.info) free unparked;
     none_is_quarantined = λ e k. absurd (nowhere e (subst (λ (es : List Pending). Contains es e) unkept k));
   }
@@ -206,17 +206,17 @@ module _ (disk : Kind) (s : DriverSlots) (m : Machine) (more : List Entry) (memo
   -- What is in the slots, all of them port 0's, is in the machine's book.
   pub record Agreeing : Type 0 where
     pub stands : Stands p
-    pub disks : (m.present ≡ start.present) × (m.disk_ids ≡ start.disk_ids) × (m.sizes ≡ start.sizes) × (m.disks ≡ start.disks)
+    pub disks : (m.present ≡ start.present) × (m.disk_ids ≡ start.disk_ids) × (m.sizes ≡ start.sizes) × (m.disk_bytes ≡ start.disk_bytes)
     pub unkept : m.kept ≡ []
     pub unpaged : (port : ℕ) → All (λ e. IsMove port Identify e → ⊥) more
     pub still : all_still more ≡ true
     pub first_alone : (e : Pending) → Contains m.book e → e.request.port.0 ≡ 0
-    pub slots : (k : ℕ) → RelatesSlot m memory (sent disk.page ++ more) p 0 k (s.uses 0 k)
-    pub others : (n k : ℕ) → s.uses (suc n) k ≡ Free
-    pub unparked : (n : ℕ) → s.parked n ≡ []
-    pub apart : ServeApart s.uses
-    pub frames : SameMemory m memory
-    pub have : (e : Pending) → Contains m.book e → (slot : ℕ) × (s.uses 0 slot ≡ Serves e.request.id)
+    pub slots : (k : ℕ) → RelatesSlot m memory (sent disk.page ++ more) p 0 k (s.slot_states 0 k)
+    pub others : (n k : ℕ) → s.slot_states (suc n) k ≡ Free
+    pub unparked : (n : ℕ) → s.awaiting_disposition n ≡ []
+    pub apart : ServeDistinctRequests s.slot_states
+    pub frames : SameClientFrames m memory
+    pub have : (e : Pending) → Contains m.book e → (slot : ℕ) × (s.slot_states 0 slot ≡ Serves e.request.id)
     pub requests : ReadySlotsInvariant s instant_with (port_at 0) (mode_of_disk queueing_cap disk.info)
 
   module _ (a : Agreeing) where
@@ -242,30 +242,30 @@ module _ (disk : Kind) (s : DriverSlots) (m : Machine) (more : List Entry) (memo
         present (suc zero) = refl
         present (suc (suc n)) = refl
 
-    slot_of : (n k : ℕ) → RelatesSlot m memory (sent disk.page ++ more) (port_or_empty (p ∷ second ∷ []) n) n k (s.uses n k)
+    slot_of : (n k : ℕ) → RelatesSlot m memory (sent disk.page ++ more) (port_or_empty (p ∷ second ∷ []) n) n k (s.slot_states n k)
     slot_of zero k = a.slots k
     slot_of (suc n) k = subst (RelatesSlot m memory (sent disk.page ++ more) (port_or_empty (p ∷ second ∷ []) (suc n)) (suc n) k) (sym (a.others n k)) (free n)
       where
         free : (n : ℕ) → IsEmptySlot (port_or_empty (p ∷ second ∷ []) (suc n)) k
-        free zero = record { issued = refl; free = refl; unarmed = refl }
-        free (suc n) = record { issued = refl; free = refl; unarmed = refl }
+        free zero = record { is_not_issued = refl; is_not_taken = refl; unarmed = refl }
+        free (suc n) = record { is_not_issued = refl; is_not_taken = refl; unarmed = refl }
 
-    have_of : (n : ℕ) → HaveSlots s.uses m n (s.parked n)
+    have_of : (n : ℕ) → HaveSlotsUnlessParked s.slot_states m n (s.awaiting_disposition n)
     have_of n e may at_port = inr (⊎_elim
-        (λ here. let found = a.have e here.0 in (found.0, subst (λ (q : ℕ). s.uses q found.0 ≡ Serves e.request.id) (sym (a.first_alone e here.0) ∙ at_port) found.1))
+        (λ here. let found = a.have e here.0 in (found.0, subst (λ (q : ℕ). s.slot_states q found.0 ≡ Serves e.request.id) (sym (a.first_alone e here.0) ∙ at_port) found.1))
         (λ kept. absurd (nowhere e (subst (λ (es : List Pending). Contains es e) a.unkept kept))) may)
 
-    unkept : (n : ℕ) → NoneQuarantined m (port_at n)
+    unkept : (n : ℕ) → NoneKept m (port_at n)
     unkept n e kept = absurd (nowhere e (subst (λ (es : List Pending). Contains es e) a.unkept kept))
 
     first_ready : IsReadyAt Any s instant_with (port_at 0)
     first_ready = record {
-      adapter_is_on = record { ae = refl; no_reset = refl };
-      engine_runs = runs_on 0 served_with (was (λ q. q.st)) (was (λ q. q.cr)) (was (λ q. q.fre)) (was (λ q. q.bases)) (was (λ q. q.notes.link_count))
+      adapter_is_on = record { ae_is_set = refl; no_reset = refl };
+      engine_runs = runs_on 0 served_with (was (λ q. q.st)) (was (λ q. q.cr)) (was (λ q. q.fre)) (was (λ q. q.bases)) (was (λ q. q.notes.link_wait_count))
           (let set = was (λ q. q.notes.st_set_at) in omega (arith, set)) (was (λ q. q.link_due)) (a.stands.quiet 30 (omega arith)) (was (λ q. q.halt));
       info = disk.info;
       has_fit_disk = fit_disk disk 0 served_with [] (page_entry disk.page 1 ∷ more) refl (was (λ q. q.sctl_det)) (was (λ q. q.ie)) (was (λ q. q.notes.sctl_written_at)) (other_page disk.page more (a.unpaged 0));
-      shows_disk_info = record { serial = refl; sectors = refl; trims = refl; mode = refl };
+      shows_disk_info = record { serial = refl; sectors = refl; zeroes_after_trim_is = refl; mode = refl };
       slots_invariant = a.requests;
       none_is_quarantined = unkept 0;
     }
@@ -280,19 +280,19 @@ module _ (disk : Kind) (s : DriverSlots) (m : Machine) (more : List Entry) (memo
     pub holds : DriverInvariantWith (Any ∷ Any ∷ []) s instant_with
     holds = record {
       driver_relation = agreeing m s (sent disk.page ++ more) memory p second are_disks slot_of a.apart a.frames have_of;
-      served = λ port low. served_of (sent disk.page ++ more) memory (p ∷ second ∷ []) port.0;
-      adapter_is_on = inl (record { ae = refl; no_reset = refl });
+      served_iff_wanted_and_there = λ port low. served_of (sent disk.page ++ more) memory (p ∷ second ∷ []) port.0;
+      is_on_or_served_are_dead = inl (record { ae_is_set = refl; no_reset = refl });
       ports_hold = λ port low. port_of port.0;
     }
 
 -- ---- it begins
 
-pub free_apart : ServeApart no_slots.uses
+pub free_apart : ServeDistinctRequests no_slots.slot_states
 free_apart q k q' k' id u v = absurd (let z : Free ≡ Serves id = u in cc)
 
 -- no request is in the book, and none in a slot
-pub agrees_none : (disk : Kind) (m : Machine) (more : List Entry) (memory : ℕ → ℕ) (p : DevicePort) → Stands p → (m.present ≡ start.present) × (m.disk_ids ≡ start.disk_ids) × (m.sizes ≡ start.sizes) × (m.disks ≡ start.disks)
-    → m.book ≡ [] → m.kept ≡ [] → ((port : ℕ) → All (λ e. IsMove port Identify e → ⊥) more) → all_still more ≡ true → ((k : ℕ) → IsEmptySlot p k) → SameMemory m memory → Agreeing disk no_slots m more memory p
+pub agrees_none : (disk : Kind) (m : Machine) (more : List Entry) (memory : ℕ → ℕ) (p : DevicePort) → Stands p → (m.present ≡ start.present) × (m.disk_ids ≡ start.disk_ids) × (m.sizes ≡ start.sizes) × (m.disk_bytes ≡ start.disk_bytes)
+    → m.book ≡ [] → m.kept ≡ [] → ((port : ℕ) → All (λ e. IsMove port Identify e → ⊥) more) → all_still more ≡ true → ((k : ℕ) → IsEmptySlot p k) → SameClientFrames m memory → Agreeing disk no_slots m more memory p
 agrees_none disk m more memory p stands disks none unkept unpaged still free frames = record {
   stands = stands;
   disks = disks;
@@ -315,7 +315,7 @@ agrees_none disk m more memory p stands disks none unkept unpaged still free fra
 holds_first : (disk : Kind) → DriverInvariantWith (Any ∷ Any ∷ []) no_slots (instant_with disk no_slots start [] zeros (running_port 0))
 holds_first disk = holds disk no_slots start [] zeros (running_port 0)
     (agrees_none disk start [] zeros (running_port 0) (record { same = refl; quiet = λ place from. refl }) (refl, refl, refl, refl) refl refl no_page refl
-    (λ k. record { issued = refl; free = refl; unarmed = refl }) (λ f b from small. refl))
+    (λ k. record { is_not_issued = refl; is_not_taken = refl; unarmed = refl }) (λ f b from small. refl))
 
 pub begins : (disk : Kind) → IsFirstInstant (Any ∷ Any ∷ []) (instant_with disk no_slots start [] zeros (running_port 0))
-begins disk = ((no_slots, holds_first disk), (record { ae = refl; no_reset = refl }, refl))
+begins disk = ((no_slots, holds_first disk), (record { ae_is_set = refl; no_reset = refl }, refl))

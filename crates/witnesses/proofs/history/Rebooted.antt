@@ -18,14 +18,14 @@ use Rattle.adapter.specs.Access.Access.{Reading, Writing}
 use Rattle.adapter.specs.Device.{Device, DevicePort}
 use Rattle.adapter.specs.declared.access.DeviceStep.{DeviceStep}
 use Rattle.adapter.specs.declared.command.Operation.TheVariants.{Identify}
-use Rattle.refinement.specs.Acts.{driver_state}
+use Rattle.refinement.specs.Acts.{driver_state_of_slots}
 use Rattle.refinement.specs.Relation.{port_at}
-use Rattle.refinement.specs.Driver.{IsBacked, DriverRelation}
-use Rattle.refinement.specs.Links.{DoesNotWrite}
+use Rattle.refinement.specs.Driver.{TapeBacksSteps, DriverRelation}
+use Rattle.refinement.specs.PreservedParts.{DoesNotWrite}
 use Rattle.refinement.specs.Slots.{IsEmptySlot, IsMove, ServesRequest}
 use Rattle.refinement.specs.Tape.{NoneByDevice, PutsInDisks}
 use Rattle.refinement.specs.ReadWitness.{first_id}
-use Rattle.block_machine.specs.Events.{AbstractCall, CallResult, AnswersAllUnplugged}
+use Rattle.block_machine.specs.Events.{AbstractCall, AbstractCallResult, UnpluggedEmptiesPort}
 use Rattle.block_machine.specs.Histories.{JointState}
 use Rattle.block_machine.specs.Expected.{AllStepsFaithful, after}
 use Rattle.block_machine.specs.Ports.{PortsWellFormed, Evidence, MayBecome, Ports, SamePort}
@@ -59,7 +59,7 @@ one = ports_with_disks plain_disks.info (true ∷ true ∷ []) (Unfit 8 ∷ Read
 
 pub fit_one : PortsWellFormed one
 fit_one = record {
-  few_are_served = (fit_ready plain_disks).few_are_served;
+  served_are_ports_0_to_3 = (fit_ready plain_disks).served_are_ports_0_to_3;
   unserved_are_absent = λ port is. absent_of port.0 is;
   modes_are_valid = λ port is. plain_disks.mode;
   causes_are_valid = λ port cause is. cause_of port.0 cause is;
@@ -86,9 +86,9 @@ not_ready_then is = let x : Unfit 8 ≡ Ready = is in cc
 -- what a restart may make of them
 pub may_become : (failed : List Port) (n : ℕ) → MayBecome both (restart_evidence failed) one (port_at n)
 may_become failed n = record {
-  served_is_kept = refl;
+  served_is_unchanged = refl;
   dead_is_stuck = (λ is. absurd (not_dead_then n is), λ h. absurd (nowhere (port_at n) h));
-  disk_is_kept = λ is. (refl, refl);
+  disk_is_remembered = λ is. (refl, refl);
 }
 
 -- and the others are left as they are
@@ -114,16 +114,16 @@ module _ (c : Outset) where
   booted_at = record { device = booted; abstract = record { machine = answered; ports = one } }
 
   free : (n k : ℕ) → IsEmptySlot (port_or_empty (unfit c ∷ second ∷ []) n) k
-  free zero k = record { issued = refl; free = refl; unarmed = refl }
-  free (suc zero) k = record { issued = refl; free = refl; unarmed = refl }
-  free (suc (suc n)) k = record { issued = refl; free = refl; unarmed = refl }
+  free zero k = record { is_not_issued = refl; is_not_taken = refl; unarmed = refl }
+  free (suc zero) k = record { is_not_issued = refl; is_not_taken = refl; unarmed = refl }
+  free (suc (suc n)) k = record { is_not_issued = refl; is_not_taken = refl; unarmed = refl }
 
   present : (n : ℕ) → answered.present (port_at n) ≡ (port_or_empty (unfit c ∷ second ∷ []) n).present
   present zero = refl
   present (suc zero) = refl
   present (suc (suc n)) = refl
 
-  knows : DriverRelation answered (driver_state no_slots booted)
+  knows : DriverRelation answered (driver_state_of_slots no_slots booted)
   knows = agreeing answered no_slots (tape c) read_memory (unfit c) second
       (record { own_first = refl; own_second = refl; disks = (refl, refl); present = present; ids = refl; sizes = refl; bytes = refl; lasting = (refl, refl); still = c.still })
       free free_apart (λ f b from small. past_driver f b from) (λ n e may at_port. ⊎_elim (λ z. absurd (nowhere e z.0)) (λ z. absurd (nowhere e z)) may)
@@ -131,9 +131,9 @@ module _ (c : Outset) where
   -- its signature was read, and is no ATA disk's
   port_unfit : IsStoppedAt Any no_slots booted_at (port_at 0) (Unfit 8)
   port_unfit = record {
-    adapter_is_on = record { ae = refl; no_reset = refl };
+    adapter_is_on = record { ae_is_set = refl; no_reset = refl };
     backs_state = (
-      record { halted = record { st = refl; cr = refl; ci = λ k. refl; taken = λ k. refl }; sact = λ k. refl },
+      record { engine_is_stopped = record { st_is_clear = refl; cr_is_clear = refl; no_command_is_issued = λ k. refl; no_command_is_taken = λ k. refl }; sact_is_clear = λ k. refl },
       inr (inl (refl, (0xeb140101, ((refl, refl), refl, refl, λ (e : 0xeb140101 ≡ 0x101). omega (arith, e))))),
     );
     shows_disk_if_in = λ bad. inl refl;
@@ -146,11 +146,11 @@ module _ (c : Outset) where
   module _ (unpaged : All (λ e. IsMove 1 Identify e → ⊥) c.new_entries) where
     port_ready : IsReadyAt Any no_slots booted_at (port_at 1)
     port_ready = record {
-      adapter_is_on = record { ae = refl; no_reset = refl };
+      adapter_is_on = record { ae_is_set = refl; no_reset = refl };
       engine_runs = runs_on 1 booted refl refl refl refl refl (omega arith) refl refl refl;
       info = plain_disks.info;
       has_fit_disk = fit_disk plain_disks 1 booted (page_entry plain_disks.page 0 ∷ []) c.new_entries refl refl refl refl unpaged;
-      shows_disk_info = record { serial = refl; sectors = refl; trims = refl; mode = refl };
+      shows_disk_info = record { serial = refl; sectors = refl; zeroes_after_trim_is = refl; mode = refl };
       slots_invariant = requests_none no_slots booted_at (port_at 1) plain_disk_mode (λ slot. refl) refl;
       none_is_quarantined = λ e k. absurd (nowhere e k);
     }
@@ -163,8 +163,8 @@ module _ (c : Outset) where
     pub holds_booted : DriverInvariantWith (Any ∷ Any ∷ []) no_slots booted_at
     holds_booted = record {
       driver_relation = knows;
-      served = λ port low. served_of (tape c) read_memory (unfit c ∷ second ∷ []) port.0;
-      adapter_is_on = inl (record { ae = refl; no_reset = refl });
+      served_iff_wanted_and_there = λ port low. served_of (tape c) read_memory (unfit c ∷ second ∷ []) port.0;
+      is_on_or_served_are_dead = inl (record { ae_is_set = refl; no_reset = refl });
       ports_hold = λ port low. port_booted port.0;
     }
 
@@ -181,9 +181,9 @@ module _ (looked : List Access) where
   pub stops : Stops (port_at 0) (looked ++ restart_accesses)
   stops = record {
     before = looked ++ (mask_accesses ++ Reading (Px (port_at 0) Cmd) 0xc011 ∷ []);
-    cleared = 0xc010;
+    written_cmd = 0xc010;
     between = [];
-    fallen = 0x4010;
+    read_cmd = 0x4010;
     later = placing_accesses ++ comreset_accesses;
     accesses_are = sym (append_assoc looked (mask_accesses ++ Reading (Px (port_at 0) Cmd) 0xc011 ∷ []) _);
     start_is_cleared = refl;
@@ -196,8 +196,8 @@ module _ (looked : List Access) where
     before = looked ++ (mask_accesses ++ (stop_accesses ++ placing_accesses));
     between = [];
     later = rest;
-    sending = 1;
-    ending = 0;
+    comreset_value = 1;
+    end_of_comreset_value = 0;
     accesses_are_split = sym (append_assoc looked (mask_accesses ++ (stop_accesses ++ placing_accesses)) _);
     sends_comreset = refl;
     ends_comreset = refl;
@@ -222,7 +222,7 @@ of_served Such tended = (tended, (tended, (tended, ((λ is. cc, tended), (tended
 -- then, and the ports on which something had failed.
 pub record Restart : Type 0 where
   pub ask : AbstractCall DeviceStep
-  pub said : CallResult
+  pub said : AbstractCallResult
   pub steps : List Step
   pub machine : Machine
   pub port : DevicePort
@@ -257,7 +257,7 @@ module _ (c : Restart) where
     pub unfound : (e : Pending) (slot : ℕ) → ServesRequest c.machine read_memory c.port 0 slot e.request.id → bit 1 slot ≡ false → ⊥
     pub told : (e : Pending) (o : Outcome) → Contains c.steps (Answer e o) → o ≡ outcome.Unplugged
     pub own : NoneByDevice c.steps × AllStepsFaithful c.machine c.steps × ((n : ℕ) → PutsInDisks n [] c.steps)
-    pub plugged : issued.plugged ≡ c.port.plugged ++ []
+    pub plugged : issued.plug_history ≡ c.port.plug_history ++ []
 
   module _ (is : IsRestart) where
     pub there : (n : ℕ) → both.state (port_at n) ≡ Ready → ShowsLoss (port_at n) old_device after_it → ⊥
@@ -285,14 +285,14 @@ module _ (c : Restart) where
 
     pub evidenced : (n : ℕ) → IsEvidencedOf c.ask c.said accesses old one after_it evidence (port_at n)
     evidenced zero = record {
-      lost = λ h. inr (inr (inr (not_dead_then 0, λ ready. absurd (not_ready_then ready))));
+      lost_only = λ h. inr (inr (inr (not_dead_then 0, λ ready. absurd (not_ready_then ready))));
       link_changed_all = λ ready loss. absurd (there 0 ready loss);
       link_changed_only = λ h. absurd (nowhere (port_at 0) h);
-      failed_all = λ ready f. is.failed_all f;
-      failed_only = λ h. (refl, inl (inl (is.failed_only 0 h).1));
-      fatal_all = λ ready f. is.failed_all (inl f);
-      fatal_only = λ h. (refl, inl (is.failed_only 0 h).1);
-      stopped_all = inr (inl (named 0));
+      showing_error_all = λ ready f. is.failed_all f;
+      showing_error_only = λ h. (refl, inl (inl (is.failed_only 0 h).1));
+      showing_fatal_error_all = λ ready f. is.failed_all (inl f);
+      showing_fatal_error_only = λ h. (refl, inl (is.failed_only 0 h).1);
+      engine_is_left_or_stopped = inr (inl (named 0));
       stopped_only = λ h. inl (stops c.looked);
       stuck_only = λ h. absurd (nowhere (port_at 0) h);
     }
@@ -307,23 +307,23 @@ module _ (c : Restart) where
     none_ok e a = let same : outcome.Ok ≡ outcome.Unplugged = is.told a.0 outcome.Ok a.2 in cc
 
     -- and no request is left
-    pub unplugs : AnswersAllUnplugged c.steps answered
+    pub unplugs : UnpluggedEmptiesPort c.steps answered
     unplugs = record {
       none_is_left = λ e other here there. absurd (nowhere other there);
       none_is_told_dead = λ e other here there. absurd (let x : outcome.PortDead ≡ outcome.Unplugged = is.told other outcome.PortDead there in cc);
     }
 
-    pub backed : IsBacked old_device after_it c.machine c.steps
+    pub backed : TapeBacksSteps old_device after_it c.machine c.steps
     backed = record {
-      telling = refl;
+      telling_is_same = refl;
       new_entries = [];
       tape_is = sym (append-nil _);
       tells_device_steps = is.own.0;
       steps_are_faithful = λ _. is.own.1;
-      plugged = λ port. ([], plugs port, is.own.2 port);
+      plugged_disks_match_steps = λ port. ([], plugs port, is.own.2 port);
     }
       where
-        plugs : (n : ℕ) → (after_it.port n).plugged ≡ (old_device.port n).plugged ++ []
+        plugs : (n : ℕ) → (after_it.port n).plug_history ≡ (old_device.port n).plug_history ++ []
         plugs zero = is.plugged
         plugs (suc zero) = refl
         plugs (suc (suc n)) = refl
@@ -333,16 +333,16 @@ module _ (c : Restart) where
       ci = 1;
       sact = 0;
       reads = record { before = c.looked; later = stop_accesses ++ (placing_accesses ++ comreset_accesses); accesses_are_split = refl; cmd_is_unwritten_before = is.running };
-      exact = λ e slot on s. (λ ok. absurd (none_ok e ok), λ clear. absurd (is.unfound e slot s clear.0));
+      answered_iff_done = λ e slot on s. (λ ok. absurd (none_ok e ok), λ clear. absurd (is.unfound e slot s clear.0));
     }
 
     pub port_error : (n : ℕ) → LosesNoPortError evidence old one after_it (port_at n)
     port_error zero = record {
-      errors = λ ready why. inl (inl (named 0));
-      changes = λ tends why. inl (inl (named 0));
-      fault = λ ready g. absurd (not_ready_then ready);
-      fatal = λ ready g. absurd (not_ready_then ready);
-      disk = λ ready g. absurd (not_ready_then ready);
+      errors_are_handled_or_shown = λ ready why. inl (inl (named 0));
+      changes_are_handled_or_shown = λ tends why. inl (inl (named 0));
+      new_fault_is_shown = λ ready g. absurd (not_ready_then ready);
+      new_fatal_is_shown = λ ready g. absurd (not_ready_then ready);
+      new_plug_event_is_shown = λ ready g. absurd (not_ready_then ready);
     }
     port_error (suc n) = no_trouble evidence old one after_it (port_at (suc n)) [] (sym (append-nil _)) (All-nil (IsCalm (suc n))) (served_ready (suc n)) (λ ready. (there (suc n) ready, quiet n ready))
 

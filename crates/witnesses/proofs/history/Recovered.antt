@@ -20,14 +20,14 @@ use Rattle.adapter.specs.declared.access.DeviceStep.{DeviceStep}
 use Rattle.adapter.specs.declared.command.Operation.TheVariants.{Identify}
 use Rattle.adapter.specs.declared.tape.Entry.TheVariants as entry
 use Rattle.refinement.specs.Relation.{port_at}
-use Rattle.refinement.specs.Acts.{driver_state}
-use Rattle.refinement.specs.Driver.{IsBacked, DriverRelation}
-use Rattle.refinement.specs.Errors.{IsFatalOf}
+use Rattle.refinement.specs.Acts.{driver_state_of_slots}
+use Rattle.refinement.specs.Driver.{TapeBacksSteps, DriverRelation}
+use Rattle.refinement.specs.Errors.{IsFatalErrorOf}
 use Rattle.refinement.specs.PortFacts.{IsFaultOf, RunsWell}
-use Rattle.refinement.specs.Links.{IsPlugEvent}
+use Rattle.refinement.specs.PreservedParts.{IsPlugEvent}
 use Rattle.refinement.specs.Slots.{IsEmptySlot, IsMove}
 use Rattle.refinement.specs.ReadWitness.{first_id}
-use Rattle.block_machine.specs.Events.{Service, Served, Happens}
+use Rattle.block_machine.specs.Events.{Service, Replied, Happens}
 use Rattle.block_machine.specs.Histories.{JointEvent, JointState}
 use Rattle.block_machine.specs.Expected.{after}
 use Rattle.block_machine.specs.State.{Pending, Machine}
@@ -37,7 +37,7 @@ use Rattle.identify.specs.declared.wanted.Wanted.TheVariants.{Any}
 use Rattle.error_recovery.specs.Evidence.{GainsSinceStart}
 use Rattle.driver_history.specs.EvidenceHandling.{ServicesReadyPort}
 use Rattle.driver_history.specs.Evidence.{TapeGainsEntry, IsEvidencedOf, ShowsLoss, ShowsFailure}
-use Rattle.driver_history.specs.Histories.{CallCorresponds, PortCorresponds, FindsDone, IsAnsweredOk, IsIssuedOn, LosesNoPortError, RunsWellAnew, IsPortAlive}
+use Rattle.driver_history.specs.Histories.{CallCorresponds, PortCorresponds, FindsDone, IsAnsweredOk, IsIssuedOn, LosesNoPortError, RunsWellAnew, IsServedAndNotDead}
 use Rattle.driver_history.specs.PortInvariants.{PortStateInvariant, DriverInvariantWith, IsReadyAt}
 use Rattle.driver_history.specs.AccessTrace.{DoesNotWriteCmd}
 use Rattle.port_control.specs.Engines.{Stops}
@@ -67,16 +67,16 @@ abbrev recovered_at : JointState Device
 recovered_at = record { device = recovered; abstract = record { machine = answered; ports = both } }
 
 free : (n k : ℕ) → IsEmptySlot (port_or_empty (started ∷ second ∷ []) n) k
-free zero k = record { issued = refl; free = refl; unarmed = refl }
-free (suc zero) k = record { issued = refl; free = refl; unarmed = refl }
-free (suc (suc n)) k = record { issued = refl; free = refl; unarmed = refl }
+free zero k = record { is_not_issued = refl; is_not_taken = refl; unarmed = refl }
+free (suc zero) k = record { is_not_issued = refl; is_not_taken = refl; unarmed = refl }
+free (suc (suc n)) k = record { is_not_issued = refl; is_not_taken = refl; unarmed = refl }
 
 present : (n : ℕ) → answered.present (port_at n) ≡ (port_or_empty (started ∷ second ∷ []) n).present
 present zero = refl
 present (suc zero) = refl
 present (suc (suc n)) = refl
 
-knows : DriverRelation answered (driver_state no_slots recovered)
+knows : DriverRelation answered (driver_state_of_slots no_slots recovered)
 knows = agreeing answered no_slots tape_failed read_memory started second
     (record { own_first = refl; own_second = refl; disks = (refl, refl); present = present; ids = refl; sizes = refl; bytes = refl; lasting = (refl, refl); still = refl })
     free free_apart (λ f b from small. past_driver f b from) (λ n e may at_port. ⊎_elim (λ z. absurd (nowhere e z.0)) (λ z. absurd (nowhere e z)) may)
@@ -88,11 +88,11 @@ unpaged port = All-cons (λ e. IsMove port Identify e → ⊥) (entry.Fault faul
 ready : IsReadyAt Any no_slots recovered_at (port_at 0)
 unfolding changed
 ready = record {
-  adapter_is_on = record { ae = refl; no_reset = refl };
+  adapter_is_on = record { ae_is_set = refl; no_reset = refl };
   engine_runs = runs_on 0 recovered refl refl refl refl refl (omega arith) refl refl refl;
   info = plain_disks.info;
   has_fit_disk = fit_disk plain_disks 0 recovered [] (page_entry plain_disks.page 1 ∷ entry.Fault fault ∷ []) refl refl refl refl (other_page plain_disks.page (entry.Fault fault ∷ []) (unpaged 0));
-  shows_disk_info = record { serial = refl; sectors = refl; trims = refl; mode = refl };
+  shows_disk_info = record { serial = refl; sectors = refl; zeroes_after_trim_is = refl; mode = refl };
   slots_invariant = requests_none no_slots recovered_at (port_at 0) (both.mode (port_at 0)) (λ slot. refl) refl;
   none_is_quarantined = λ e k. absurd (nowhere e k);
 }
@@ -105,8 +105,8 @@ port_recovered (suc (suc n)) = unserved_at no_slots recovered_at (suc (suc n)) r
 holds_recovered : DriverInvariantWith (Any ∷ Any ∷ []) no_slots recovered_at
 holds_recovered = record {
   driver_relation = knows;
-  served = λ port low. served_of tape_failed read_memory (started ∷ second ∷ []) port.0;
-  adapter_is_on = inl (record { ae = refl; no_reset = refl });
+  served_iff_wanted_and_there = λ port low. served_of tape_failed read_memory (started ∷ second ∷ []) port.0;
+  is_on_or_served_are_dead = inl (record { ae_is_set = refl; no_reset = refl });
   ports_hold = λ port low. port_recovered port.0;
 }
 
@@ -117,16 +117,16 @@ replies = record { id = first_id; client = waiting.request.asked.client; outcome
 
 abbrev service : JointEvent Device DeviceStep
 service = record {
-  event = record { ask = Service; said = Served replies; evidence = fault_evidence; steps = answer ∷ []; ports = both };
+  event = record { call = Service; result = Replied replies; evidence = fault_evidence; steps = answer ∷ []; ports = both };
   device = recovered;
 }
 
 stops : Stops (port_at 0) recovery_accesses
 stops = record {
   before = until_stop ++ Reading (Px (port_at 0) Cmd) 0xc011 ∷ [];
-  cleared = 0xc010;
+  written_cmd = 0xc010;
   between = [];
-  fallen = 0x4010;
+  read_cmd = 0x4010;
   later = from_fall;
   accesses_are = refl;
   start_is_cleared = refl;
@@ -156,29 +156,29 @@ unnamed n = record {
   stuck = nowhere (port_at (suc n));
 }
 
-of_served : AreServing (IsPortAlive both) recovery_accesses
+of_served : AreServing (IsServedAndNotDead both) recovery_accesses
 of_served = (tended, (tended, (tended, (tended, ((λ is. cc, tended), (tended, ((λ is. cc, tended), ((λ is. cc, tended), (tended, (tended, ((λ is. cc, tended), tt)))))))))))
   where
-    tended : IsPortAlive both (port_at 0)
+    tended : IsServedAndNotDead both (port_at 0)
     tended = (refl, not_dead 0)
 
 quiet : (n : ℕ) → both.state (port_at n) ≡ Ready → (ShowsLoss (port_at n) submitted recovered → ⊥) × (ShowsFailure (submitted.port n) → ⊥)
 quiet = calm submitted.tape read_memory issued refl refl refl (λ place from. refl) recovered
 
-evidenced_of : (n : ℕ) → IsEvidencedOf Service (Served replies) recovery_accesses submitted_at both recovered fault_evidence (port_at n)
+evidenced_of : (n : ℕ) → IsEvidencedOf Service (Replied replies) recovery_accesses submitted_at both recovered fault_evidence (port_at n)
 evidenced_of zero = record {
-  lost = λ h. absurd (nowhere (port_at 0) h);
+  lost_only = λ h. absurd (nowhere (port_at 0) h);
   link_changed_all = λ is loss. absurd ((quiet 0 is).0 loss);
   link_changed_only = λ h. absurd (nowhere (port_at 0) h);
-  failed_all = λ is f. named 0;
-  failed_only = λ h. (refl, inr (inl gains));
-  fatal_all = λ is f. absurd ((quiet 0 is).1 (inl f));
-  fatal_only = λ h. absurd (nowhere (port_at 0) h);
-  stopped_all = inr (inl (named 0));
+  showing_error_all = λ is f. named 0;
+  showing_error_only = λ h. (refl, inr (inl gains));
+  showing_fatal_error_all = λ is f. absurd ((quiet 0 is).1 (inl f));
+  showing_fatal_error_only = λ h. absurd (nowhere (port_at 0) h);
+  engine_is_left_or_stopped = inr (inl (named 0));
   stopped_only = λ h. inl stops;
   stuck_only = λ h. absurd (nowhere (port_at 0) h);
 }
-evidenced_of (suc n) = unnamed_evidenced Service (Served replies) recovery_accesses submitted_at both recovered fault_evidence (port_at (suc n)) (unnamed n) (quiet (suc n))
+evidenced_of (suc n) = unnamed_evidenced Service (Replied replies) recovery_accesses submitted_at both recovered fault_evidence (port_at (suc n)) (unnamed n) (quiet (suc n))
     (leaves (IsOf (port_at 0)) (port_at (suc n)) (λ is. apart (ap (λ (p : Port). p.0) is)) (λ is. apart (ap (λ (p : Port). p.0) is)) recovery_accesses of_first)
   where
     apart : suc n ≡ 0 → ⊥
@@ -193,7 +193,7 @@ finds = record {
   ci = 1;
   sact = 0;
   reads = record { before = []; later = Reading (Px (port_at 0) Tfd) 0x4041 ∷ from_stop; accesses_are_split = refl; cmd_is_unwritten_before = All-nil (DoesNotWriteCmd (port_at 0)) };
-  exact = λ e slot on s. (λ ok. absurd (none_ok e ok), λ clear. absurd (bits_set 0 issued refl (λ k. refl) (λ k. refl) e slot s clear.0));
+  answered_iff_done = λ e slot on s. (λ ok. absurd (none_ok e ok), λ clear. absurd (bits_set 0 issued refl (λ k. refl) (λ k. refl) e slot s clear.0));
 }
 
 service_finds : (n : ℕ) (e : Pending) → IsIssuedOn (port_at n) issuing e → FindsDone (port_at n) recovery_accesses submitted_at (answer ∷ [])
@@ -203,10 +203,10 @@ service_finds (suc n) e on = absurd (none_there 0 n e on)
 heeds : (n : ℕ) → both.state (port_at n) ≡ Ready → ServicesReadyPort submitted_at.abstract fault_evidence (answer ∷ []) recovered_at.abstract (port_at n)
 heeds zero is = record {
   answers_ended = λ e here at_port ended. absurd (not_ended 0 e here ended);
-  none_is_left = λ g. absurd (nowhere (port_at 0) g);
-  others_are_told_alike = λ g. absurd (nowhere (port_at 0) g);
-  is_interrupted = λ why. inl (named 0);
-  none_stays_issued = λ why e here. absurd (nowhere e here);
+  link_change_leaves_none = λ g. absurd (nowhere (port_at 0) g);
+  link_change_tells_alike = λ g. absurd (nowhere (port_at 0) g);
+  trouble_interrupts = λ why. inl (named 0);
+  trouble_leaves_none_issued = λ why e here. absurd (nowhere e here);
   one_fault_at_most = omega arith;
   fatal_tells_no_fault = λ h. absurd (nowhere (port_at 0) h);
   shown_disk_was_in_or_came = λ shows. inl refl;
@@ -222,7 +222,7 @@ fault_alone n ne = All-cons (IsCalm n) (entry.Fault fault) [] (λ (is : 0 ≡ n)
 -- it came before ST was set again
 too_early : GainsSinceStart (IsFaultOf 0) 0 submitted recovered → ⊥
 too_early g =
-    let same : g.before ++ (g.entry ∷ g.later) ≡ entry.Fault fault ∷ [] = append_cancel_left pages (g.before ++ (g.entry ∷ g.later)) (entry.Fault fault ∷ []) (sym g.tape) in
+    let same : g.before ++ (g.entry ∷ g.later) ≡ entry.Fault fault ∷ [] = append_cancel_left pages (g.before ++ (g.entry ∷ g.later)) (entry.Fault fault ∷ []) (sym g.tape_grows) in
     let long : length (g.before ++ (g.entry ∷ g.later)) ≡ 1 = ap (λ (es : List Entry). length es) same in
     let parts = length-append g.before (g.entry ∷ g.later) in
     let since = g.came_since_start in
@@ -230,11 +230,11 @@ too_early g =
 
 port_error : (n : ℕ) → LosesNoPortError fault_evidence submitted_at both recovered (port_at n)
 port_error zero = record {
-  errors = λ ready why. inl (inl (named 0));
-  changes = λ tends why. inl (inl (named 0));
-  fault = λ ready g. absurd (too_early g);
-  fatal = λ ready g. absurd (ran_none (IsFatalOf 0) 0 submitted recovered (gained_none (IsFatalOf 0) submitted recovered (entry.Fault fault ∷ []) refl (All-cons (λ e. IsFatalOf 0 e → ⊥) (entry.Fault fault) [] (λ x. x) (All-nil (λ e. IsFatalOf 0 e → ⊥)))) g);
-  disk = λ ready g. absurd (ran_none (IsPlugEvent 0) 0 submitted recovered (gained_none (IsPlugEvent 0) submitted recovered (entry.Fault fault ∷ []) refl (All-cons (λ e. IsPlugEvent 0 e → ⊥) (entry.Fault fault) [] (λ x. x) (All-nil (λ e. IsPlugEvent 0 e → ⊥)))) g);
+  errors_are_handled_or_shown = λ ready why. inl (inl (named 0));
+  changes_are_handled_or_shown = λ tends why. inl (inl (named 0));
+  new_fault_is_shown = λ ready g. absurd (too_early g);
+  new_fatal_is_shown = λ ready g. absurd (ran_none (IsFatalErrorOf 0) 0 submitted recovered (gained_none (IsFatalErrorOf 0) submitted recovered (entry.Fault fault ∷ []) refl (All-cons (λ e. IsFatalErrorOf 0 e → ⊥) (entry.Fault fault) [] (λ x. x) (All-nil (λ e. IsFatalErrorOf 0 e → ⊥)))) g);
+  new_plug_event_is_shown = λ ready g. absurd (ran_none (IsPlugEvent 0) 0 submitted recovered (gained_none (IsPlugEvent 0) submitted recovered (entry.Fault fault ∷ []) refl (All-cons (λ e. IsPlugEvent 0 e → ⊥) (entry.Fault fault) [] (λ x. x) (All-nil (λ e. IsPlugEvent 0 e → ⊥)))) g);
 }
 port_error (suc n) = no_trouble fault_evidence submitted_at both recovered (port_at (suc n)) (entry.Fault fault ∷ []) refl (fault_alone (suc n) (omega arith)) (served_ready (suc n)) (quiet (suc n))
 
@@ -248,15 +248,15 @@ quiet_again place = ⊎_elim
 
 runs_well : RunsWell started
 runs_well = record {
-  st = refl;
-  cr = refl;
-  det = refl;
+  st_is_set = refl;
+  cr_is_set = refl;
+  det_is_3 = refl;
   present = refl;
   fresh = refl;
   no_link_is_due = refl;
   is_not_halted = refl;
   is_not_broken = refl;
-  shows_no_trouble = record { serr_n = refl; serr_x = refl; no_error_bit_is_set = λ place from to. quiet_again place };
+  shows_no_trouble = record { serr_n_is_clear = refl; serr_x_is_clear = refl; no_error_bit_is_set = λ place from to. quiet_again place };
 }
 
 -- its fault came before ST was set again: port 0 runs well; and no other port was stopped
@@ -275,17 +275,17 @@ part_of n = record {
   handles_evidence = heeds n;
 }
 
-backed : IsBacked submitted recovered issuing (answer ∷ [])
+backed : TapeBacksSteps submitted recovered issuing (answer ∷ [])
 backed = record {
-  telling = refl;
+  telling_is_same = refl;
   new_entries = entry.Fault fault ∷ [];
   tape_is = refl;
   tells_device_steps = ([], [], answer ∷ [], tt, refl, (tt, λ d. d), refl);
   steps_are_faithful = λ _. (tt, tt);
-  plugged = λ port. ([], plugs port, refl);
+  plugged_disks_match_steps = λ port. ([], plugs port, refl);
 }
   where
-    plugs : (n : ℕ) → (recovered.port n).plugged ≡ (submitted.port n).plugged ++ []
+    plugs : (n : ℕ) → (recovered.port n).plug_history ≡ (submitted.port n).plug_history ++ []
     plugs zero = refl
     plugs (suc zero) = refl
     plugs (suc (suc n)) = refl
@@ -297,7 +297,7 @@ happens : Happens submitted_at.abstract service.event
 happens = record {
   steps_are_enabled = (tt, ((0, omega arith, refl), tt));
   steps_are_of_call = (tt, inr tt);
-  issues_are_last = (tt, λ id is none. absurd (true≢false (sym none)));
+  issue_is_last_of_request = (tt, λ id is none. absurd (true≢false (sym none)));
   answers_are_lawful = (
     tt,
     (
@@ -309,10 +309,10 @@ happens = record {
   );
   ports_are_well_formed = fit_ready plain_disks;
   unanswered_keep_disk = λ e o here. absurd (nowhere e here);
-  is_answered = record {
-    replies_match = record { answers = (waiting, outcome.DeviceError 0x41 0x40) ∷ []; is_permutation = IsPermutation-refl _; ordered = λ i j d less low. absurd (omega (arith, less, low)); replies_are = refl };
-    tells_dead = λ e o here is. absurd (not_dead e.request.port.0 is);
-    answers_all_unplugged = record { none_is_left = λ e other here. absurd (unplugged_not e here); none_is_told_dead = λ e other here. absurd (unplugged_not e here) };
+  result_matches_steps = record {
+    replies_match = record { answers = (waiting, outcome.DeviceError 0x41 0x40) ∷ []; is_permutation = IsPermutation-refl _; ordered = λ i j d less low. absurd (omega (arith, less, low)); replies_are_of_answers = refl };
+    dead_ports_tell_only_port_dead = λ e o here is. absurd (not_dead e.request.port.0 is);
+    unplugged_empties_port = record { none_is_left = λ e other here. absurd (unplugged_not e here); none_is_told_dead = λ e other here. absurd (unplugged_not e here) };
     none_is_due = λ port is r at_port due. absurd (nowhere r due.is_in_book);
     empty_unless_ready = λ port other e here. absurd (nowhere e here);
     answers_ended = λ port is e here at_port done. absurd (not_ended 0 e here done);
@@ -324,11 +324,11 @@ happens = record {
 ties : CallCorresponds (Any ∷ Any ∷ []) submitted_at service
 ties = record {
   accesses = recovery_accesses;
-  accesses_are_explained = (does, serving (IsPortAlive both) recovery_accesses of_served);
+  accesses_are_explained = (does, serving (IsServedAndNotDead both) recovery_accesses of_served);
   is_backed = backed;
   is_evidenced = record {
-    faults = λ f here. told f (only told_fault f here);
-    port = λ port. evidenced_of port.0;
+    faults_are_told = λ f here. told f (only told_fault f here);
+    each_port_is_evidenced = λ port. evidenced_of port.0;
   };
   only_failed_requeue = (tt, named 0);
   issues_all_due = λ port is r here. absurd (nowhere r here);
@@ -342,18 +342,18 @@ recovery_ties = record {
   initial_state = first;
   submit = submit;
   asked = asked;
-  reads = refl;
+  asked_is_read = refl;
   submits = (refl, refl);
   ready = refl;
   service = service;
   asks_for_service = (refl, refl);
   evidence = refl;
-  still = refl;
+  port_0_stays_ready = refl;
   port_runs_well = runs_well;
-  does = does;
-  allowed = allowed;
+  service_makes_accesses = does;
+  accesses_are_allowed = allowed;
   history = ((((starts, fit_ready plain_disks), begins plain_disks), submit_happens, submit_ties), happens, ties);
   accesses = refl;
-  submit_parts = submit_parts;
-  service_parts = λ port. part_of port.0;
+  submit_corresponds = submit_parts;
+  service_corresponds = λ port. part_of port.0;
 }

@@ -6,7 +6,7 @@ use Rattle.std.proofs.lemmas.List.Elements.{All-nil, All-cons}
 use Rattle.hba_regs.specs.declared.reg.Reg.TheVariants.{Px}
 use Rattle.hba_regs.specs.declared.reg.PortReg.{PortReg}
 use Rattle.hba_regs.specs.declared.reg.PortReg.TheVariants.{Is, Cmd, Tfd, Serr, Sact, Ci}
-use Rattle.adapter.specs.Access.{Access, DoesAll, PortShows, Reads, Writes, note, port_after_write}
+use Rattle.adapter.specs.Access.{Access, DoesAll, PortShows, Reads, Writes, notes_after_reading, port_after_write}
 use Rattle.adapter.specs.Access.Access.{Reading, Writing}
 use Rattle.adapter.specs.Device.{DevicePort, Device}
 use Rattle.adapter.specs.Memory.{changed}
@@ -44,22 +44,22 @@ abbrev failed : DevicePort
 failed = port_after_fault taken false 0x40 0
 
 abbrev seen_ci : DevicePort
-seen_ci = record failed { notes = note Ci 1 failed }
+seen_ci = record failed { notes = notes_after_reading Ci 1 failed }
 
 abbrev seen_masks : DevicePort
-seen_masks = record seen_ci { notes = note Sact 0 seen_ci }
+seen_masks = record seen_ci { notes = notes_after_reading Sact 0 seen_ci }
 
 abbrev looked : DevicePort
-looked = record seen_masks { notes = note Tfd 0x4041 seen_masks }
+looked = record seen_masks { notes = notes_after_reading Tfd 0x4041 seen_masks }
 
 abbrev commanded : DevicePort
-commanded = record looked { notes = note Cmd 0xc011 looked }
+commanded = record looked { notes = notes_after_reading Cmd 0xc011 looked }
 
 abbrev stopping : DevicePort
 stopping = port_after_write Cmd 0xc010 3 commanded
 
 abbrev stopped : DevicePort
-stopped = record (fall stopping) { notes = note Cmd 0x4010 (fall stopping) }
+stopped = record (fall stopping) { notes = notes_after_reading Cmd 0x4010 (fall stopping) }
 
 abbrev unchanged_link : DevicePort
 unchanged_link = port_after_write Serr 0xffffffff 3 stopped
@@ -68,10 +68,10 @@ abbrev cleared : DevicePort
 cleared = port_after_write Is 0xffffffff 3 unchanged_link
 
 abbrev checked : DevicePort
-checked = record cleared { notes = note Tfd 0x4041 cleared }
+checked = record cleared { notes = notes_after_reading Tfd 0x4041 cleared }
 
 abbrev asked_again : DevicePort
-asked_again = record checked { notes = note Cmd 0x4010 checked }
+asked_again = record checked { notes = notes_after_reading Cmd 0x4010 checked }
 
 abbrev pub started : DevicePort
 started = port_after_write Cmd 0x4011 3 asked_again
@@ -81,22 +81,22 @@ unfolding changed
 fails = record {
   steps = FaultStep 0 0 0x40 0 command ∷ [];
   lead = (
-    record { taken = refl; running = refl; is_byte = omega arith; kept_bits_are_allowed = refl },
+    record { taken = refl; cr_is_set = refl; is_byte = omega arith; kept_bits_are_allowed = refl },
     put_device tape_failed read_memory 0 (taken ∷ second ∷ []) (failed ∷ second ∷ []) failed refl (but_first taken failed (second ∷ [])),
   );
 }
 
 reads_masks : Reads (Px (port_at 0) Ci) 1 submitted (dev seen_ci)
 reads_masks = record {
-  mid = dev failed;
+  at_access = dev failed;
   steps = fetches (dev failed) fails;
   shows = λ k low. refl;
   effect = put_device tape_failed read_memory 0 (failed ∷ second ∷ []) (seen_ci ∷ second ∷ []) seen_ci refl (but_first failed seen_ci (second ∷ []));
 }
 
 -- an access of port 0
-reads_here : (r : PortReg) (v : ℕ) (p : DevicePort) → PortShows r v p → Reads (Px (port_at 0) r) v (dev p) (dev (record p { notes = note r v p }))
-reads_here r v p shows = reads tape_failed read_memory 0 (p ∷ second ∷ []) (record p { notes = note r v p } ∷ second ∷ []) (but_first p (record p { notes = note r v p }) (second ∷ [])) r v shows refl
+reads_here : (r : PortReg) (v : ℕ) (p : DevicePort) → PortShows r v p → Reads (Px (port_at 0) r) v (dev p) (dev (record p { notes = notes_after_reading r v p }))
+reads_here r v p shows = reads tape_failed read_memory 0 (p ∷ second ∷ []) (record p { notes = notes_after_reading r v p } ∷ second ∷ []) (but_first p (record p { notes = notes_after_reading r v p }) (second ∷ [])) r v shows refl
 
 writes_here : (r : PortReg) (v : ℕ) (p : DevicePort) → Writes (Px (port_at 0) r) v (dev p) (dev (port_after_write r v 3 p))
 writes_here r v p = writes tape_failed read_memory 0 (p ∷ second ∷ []) (port_after_write r v 3 p ∷ second ∷ []) (but_first p (port_after_write r v 3 p) (second ∷ [])) r v refl
@@ -169,31 +169,31 @@ recovered = dev started
 pub allowed : AreAllowed recovery_accesses submitted recovered does
 unfolding changed does looks reads_masks rest falls starts reads_here writes_here reads writes falls_reads
 allowed = (
-  (record { ae = refl; no_reset = refl }, (omega arith, refl)),
+  (record { ae_is_set = refl; no_reset = refl }, (omega arith, refl)),
   (
-    (record { ae = refl; no_reset = refl }, (omega arith, refl)),
+    (record { ae_is_set = refl; no_reset = refl }, (omega arith, refl)),
     (
-      (record { ae = refl; no_reset = refl }, (omega arith, refl)),
+      (record { ae_is_set = refl; no_reset = refl }, (omega arith, refl)),
       (
-        (record { ae = refl; no_reset = refl }, (omega arith, refl)),
+        (record { ae_is_set = refl; no_reset = refl }, (omega arith, refl)),
         (
-          (record { ae = refl; no_reset = refl }, (omega arith, refl), may_stop commanded 0xc010 0xc011 refl refl refl refl refl),
+          (record { ae_is_set = refl; no_reset = refl }, (omega arith, refl), may_stop commanded 0xc010 0xc011 refl refl refl refl refl),
           (
-            (record { ae = refl; no_reset = refl }, (omega arith, refl)),
+            (record { ae_is_set = refl; no_reset = refl }, (omega arith, refl)),
             (
-              (record { ae = refl; no_reset = refl }, (omega arith, refl), tt),
+              (record { ae_is_set = refl; no_reset = refl }, (omega arith, refl), tt),
               (
-                (record { ae = refl; no_reset = refl }, (omega arith, refl), tt),
+                (record { ae_is_set = refl; no_reset = refl }, (omega arith, refl), tt),
                 (
-                  (record { ae = refl; no_reset = refl }, (omega arith, refl)),
+                  (record { ae_is_set = refl; no_reset = refl }, (omega arith, refl)),
                   (
-                    (record { ae = refl; no_reset = refl }, (omega arith, refl)),
+                    (record { ae_is_set = refl; no_reset = refl }, (omega arith, refl)),
                     (
                       (
-                        record { ae = refl; no_reset = refl },
+                        record { ae_is_set = refl; no_reset = refl },
                         (omega arith, refl),
                         may_start asked_again 0x4011 0x4010 refl refl refl refl
-                            (record { cr_is_clear = refl; receives = refl; programmed = record { clb = refl; clbu = refl; fb = refl; fbu = refl }; link_was_seen = refl; not_busy = refl }),
+                            (record { cr_is_clear = refl; receives = refl; programmed = record { clb_is_written = refl; clbu_is_written = refl; fb_is_written = refl; fbu_is_written = refl }; link_was_seen = refl; not_busy = refl }),
                       ),
                       tt,
                     ),
@@ -239,7 +239,7 @@ told t is = subst (IsFaultTold submitted_at recovered recovery_accesses) (sym is
   id_is = refl;
   slot = 0;
   serves = serves;
-  plain = λ _. record {
+  backs_plain_fault = λ _. record {
     is_only_issued = λ other here at is. ap (λ (e : Pending). e.request.id) (in_book 0 other here);
     fault = fault;
     failed = has_failed;
@@ -247,5 +247,5 @@ told t is = subst (IsFaultTold submitted_at recovered recovery_accesses) (sym is
     status_is = refl;
     error_is = refl;
   };
-  queued = λ q. absurd (true≢false (sym q ∙ serves_plain));
+  backs_queued_fault = λ q. absurd (true≢false (sym q ∙ serves_plain));
 })

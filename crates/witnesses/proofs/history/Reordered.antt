@@ -13,17 +13,17 @@ use Rattle.adapter.specs.Device.{DevicePort}
 use Rattle.adapter.specs.Memory.{bytes_at, patched}
 use Rattle.adapter.specs.declared.command.Operation.{Operation}
 use Rattle.adapter.specs.declared.command.Operation.TheVariants as operation
-use Rattle.refinement.specs.Relation.{SameMemory, port_at}
+use Rattle.refinement.specs.Relation.{SameClientFrames, port_at}
 use Rattle.refinement.specs.PortFacts.{IsDisturbance, RunsWell}
-use Rattle.refinement.specs.MemoryLayout.{table_of}
-use Rattle.refinement.specs.TwoReads.{second_id}
-use Rattle.refinement.specs.Slots.{IsMove, ServesRequest, op_of}
+use Rattle.refinement.specs.MemoryLayout.{command_table_address}
+use Rattle.refinement.specs.TwoReadsWitness.{second_id}
+use Rattle.refinement.specs.Slots.{IsMove, ServesRequest, client_operation_of}
 use Rattle.refinement.specs.ReadWitness.{first_id}
 use Rattle.block_machine.specs.State.{Accepted, Pending, unanswered}
 use Rattle.block_machine.specs.declared.due.Unanswered.{Unanswered}
 use Rattle.driver_history.specs.Evidence.{StaysHealthy}
 use Rattle.driver_history.specs.Histories.{IsAnsweredOk, IsIssuedOn}
-use Rattle.witnesses.specs.QueuedReads.{ReadsEndInAnyOrder}
+use Rattle.witnesses.specs.QueuedReads.{QueuedReadsEndOutOfOrder}
 use Rattle.witnesses.specs.RunningAdapter.{queued_disk_mode, running_port}
 use Rattle.witnesses.proofs.history.Command.{queued_read, told_queued}
 use Rattle.witnesses.proofs.history.Devices.{no_bit, other_bit}
@@ -35,7 +35,7 @@ use Rattle.witnesses.proofs.history.Issuing.{IsIssued, Submission, accepted_as, 
 use Rattle.witnesses.proofs.history.Members.{nowhere, only}
 use Rattle.witnesses.proofs.history.Memory.{moved_alike}
 use Rattle.witnesses.proofs.history.Pages.{queueing_disks}
-use Rattle.witnesses.proofs.history.Queueing.{neither, one_memory, two_issued, two_memory, two_zeros}
+use Rattle.witnesses.proofs.history.Queueing.{neither, one_memory, two_issued, two_reads_memory, two_zeros}
 use Rattle.witnesses.proofs.history.Ready.{Agreeing, Stands, agrees_none, begins, but_commands, fit_ready, starts}
 use Rattle.witnesses.proofs.history.Serving.{HasOne, agrees_one, none_due, serves_none}
 use Rattle.witnesses.proofs.history.Together.{first, submission_one, two_slots, submission_two, both_issuing, held, held_too, outstanding_first, outstanding_second, issued_first, in_book, each_has, not_second, two_agree, issued_second}
@@ -49,7 +49,7 @@ discovery_two = record {
   slots = two_slots;
   slots_then = first_slots;
   more = [];
-  memory = two_memory;
+  memory = two_reads_memory;
   port = two_issued;
   port_then = found;
   id = second_id;
@@ -84,10 +84,10 @@ discovery_one = record {
 
 -- the sector that the FIS of a slot of port 0 names
 abbrev named_sector : (ℕ → ℕ) → ℕ → ℕ
-named_sector memory slot = little_from 4 3 (bytes_at memory (table_of 0 slot) 20) + 2 ^ 24 * little_from 8 3 (bytes_at memory (table_of 0 slot) 20)
+named_sector memory slot = little_from 4 3 (bytes_at memory (command_table_address 0 slot) 20) + 2 ^ 24 * little_from 8 3 (bytes_at memory (command_table_address 0 slot) 20)
 
 -- a read names its sectors
-names : (o : Operation) (slot first count : ℕ) → op_of o ≡ Some Read → ((command_of o slot first count).lba ≡ first) × (is_ranged o ≡ true)
+names : (o : Operation) (slot first count : ℕ) → client_operation_of o ≡ Some Read → ((command_of o slot first count).lba ≡ first) × (is_ranged o ≡ true)
 names operation.Read slot first count is = (refl, refl)
 names operation.ReadQueued slot first count is = (refl, refl)
 names operation.Write slot first count is = absurd (let x : Some Write ≡ Some Read = is in cc)
@@ -98,19 +98,19 @@ names operation.Identify slot first count is = absurd (let x : None ≡ Some Rea
 names operation.ReadLog slot first count is = absurd (let x : None ≡ Some Read = is in cc)
 
 -- the slot's FIS names the first sector of the request that it serves
-its_sector : (slot : ℕ) (id : RequestId) (s : ServesRequest both_issuing two_memory two_issued 0 slot id) → s.pending.request.asked.op ≡ Read → named_sector two_memory slot ≡ s.pending.request.asked.first.0
+its_sector : (slot : ℕ) (id : RequestId) (s : ServesRequest both_issuing two_reads_memory two_issued 0 slot id) → s.pending.request.asked.op ≡ Read → named_sector two_reads_memory slot ≡ s.pending.request.asked.first.0
 its_sector slot id s reads =
     let read = names s.command.operation slot s.command.first s.command.count (s.means.op_is ∙ ap Some reads) in
-    ap (λ (table : ℕ). little_from 4 3 (bytes_at two_memory table 20) + 2 ^ 24 * little_from 8 3 (bytes_at two_memory table 20)) (sym s.slot_decodes_to.table_is)
+    ap (λ (table : ℕ). little_from 4 3 (bytes_at two_reads_memory table 20) + 2 ^ 24 * little_from 8 3 (bytes_at two_reads_memory table 20)) (sym s.slot_decodes_to.table_is)
     ∙ s.slot_decodes_to.decodes_to.fis.lba ∙ read.0 ∙ s.means.first_sector_is read.1
 
 -- no slot but 0 and 1 serves a request
-no_third : (slot : ℕ) (id : RequestId) → ServesRequest both_issuing two_memory two_issued 0 (suc (suc slot)) id → ⊥
-no_third slot id s = serves_none both_issuing two_memory two_issued (suc (suc slot)) id s refl (neither slot) refl
+no_third : (slot : ℕ) (id : RequestId) → ServesRequest both_issuing two_reads_memory two_issued 0 (suc (suc slot)) id → ⊥
+no_third slot id s = serves_none both_issuing two_reads_memory two_issued (suc (suc slot)) id s refl (neither slot) refl
     (⊎_elim (λ here. each_has (λ x. x.ended ≡ false) refl refl s.pending here.0) (λ kept. absurd (nowhere s.pending kept)) s.may_still_move)
 
 -- and the request that one serves under the id of one of the book is that
-served_is : (e : Pending) (slot : ℕ) → Contains both_issuing.book e → (s : ServesRequest both_issuing two_memory two_issued 0 slot e.request.id) → s.pending ≡ e
+served_is : (e : Pending) (slot : ℕ) → Contains both_issuing.book e → (s : ServesRequest both_issuing two_reads_memory two_issued 0 slot e.request.id) → s.pending ≡ e
 served_is e slot here s = ⊎_elim (λ found. same s.pending e found.0 here s.id_is) (λ kept. absurd (nowhere s.pending kept)) s.may_still_move
   where
     same : (a b : Pending) → Contains both_issuing.book a → Contains both_issuing.book b → a.request.id ≡ b.request.id → a ≡ b
@@ -126,16 +126,16 @@ served_is e slot here s = ⊎_elim (λ found. same s.pending e found.0 here s.id
         (in_book a here)
 
 -- the slot that serves a request of the book names its first sector
-sector_is : (e : Pending) (slot : ℕ) → Contains both_issuing.book e → ServesRequest both_issuing two_memory two_issued 0 slot e.request.id → named_sector two_memory slot ≡ e.request.asked.first.0
+sector_is : (e : Pending) (slot : ℕ) → Contains both_issuing.book e → ServesRequest both_issuing two_reads_memory two_issued 0 slot e.request.id → named_sector two_reads_memory slot ≡ e.request.asked.first.0
 sector_is e slot here s =
     let same = served_is e slot here s in
     its_sector slot e.request.id s (ap (λ (x : Pending). x.request.asked.op) same ∙ each_has (λ x. x.request.asked.op ≡ Read) refl refl e here)
     ∙ ap (λ (x : Pending). x.request.asked.first.0) same
 
 -- slot 0 serves the first alone, and slot 1 the second
-in_slot : (e : Pending) (slot : ℕ) → Contains both_issuing.book e → ServesRequest both_issuing two_memory two_issued 0 slot e.request.id
+in_slot : (e : Pending) (slot : ℕ) → Contains both_issuing.book e → ServesRequest both_issuing two_reads_memory two_issued 0 slot e.request.id
     → ((e ≡ outstanding_first) × (slot ≡ 0)) ⊎ ((e ≡ outstanding_second) × (slot ≡ 1))
-unfolding two_memory one_memory patched bytes_at
+unfolding two_reads_memory one_memory patched bytes_at
 in_slot e zero here s = ⊎_elim
     (λ (is : e ≡ outstanding_first). inl (is, refl))
     (λ (is : e ≡ outstanding_second). absurd (let other : 100 ≡ 101 = sector_is e 0 here s ∙ ap (λ (x : Pending). x.request.asked.first.0) is in omega (arith, other)))
@@ -148,8 +148,8 @@ in_slot e (suc (suc slot)) here s = absurd (no_third slot e.request.id s)
 
 -- ---- the second ends
 
-swapped_frames : SameMemory (found_on.answered discovery_two) swapped_memory
-swapped_frames = moved_alike two_memory both_issuing.memory 101 101 (λ f b from small. two_zeros f b from)
+swapped_frames : SameClientFrames (found_on.answered discovery_two) swapped_memory
+swapped_frames = moved_alike two_reads_memory both_issuing.memory 101 101 (λ f b from small. two_zeros f b from)
 
 -- no page came after those of the two ports
 unpaged : (slot k n port : ℕ) → All (λ e. IsMove port operation.Identify e → ⊥) (ends slot k n)
@@ -157,7 +157,7 @@ unpaged slot k n port = All-from_recursion (λ e. IsMove port operation.Identify
 
 -- the first is taken still
 has_left : HasOne queueing_disks (found_on.answered discovery_two) (ends 1 101 101) swapped_memory found (queued_read 100) 100 100 held 0
-unfolding two_memory one_memory patched bytes_at
+unfolding two_reads_memory one_memory patched bytes_at
 has_left = record {
   stands = found_stands;
   disks = (refl, refl, refl, refl);
@@ -175,12 +175,12 @@ has_left = record {
     meaning = refl;
     places_are = refl;
     running = refl;
-    issued = found_waits 0;
+    ci_is_set_while_plain = found_waits 0;
     sact = one_active 0;
     progress = λ i. sym (le-ltb i 0 (omega arith));
     unended = refl;
   }));
-  others = λ slot. record { issued = found_waits (suc slot); free = found_free slot; unarmed = one_active (suc slot) ∙ other_bit (suc slot) (omega arith) };
+  others = λ slot. record { is_not_issued = found_waits (suc slot); is_not_taken = found_free slot; unarmed = one_active (suc slot) ∙ other_bit (suc slot) (omega arith) };
   frames = swapped_frames;
 }
 
@@ -188,7 +188,7 @@ left_agrees : Agreeing queueing_disks first_slots (found_on.answered discovery_t
 left_agrees = agrees_one queueing_disks (found_on.answered discovery_two) (ends 1 101 101) swapped_memory found (queued_read 100) 100 100 held 0 has_left
 
 -- exactly the second is answered
-exact_two : (e : Pending) (slot : ℕ) → IsIssuedOn (port_at 0) both_issuing e → ServesRequest both_issuing two_memory two_issued 0 slot e.request.id
+exact_two : (e : Pending) (slot : ℕ) → IsIssuedOn (port_at 0) both_issuing e → ServesRequest both_issuing two_reads_memory two_issued 0 slot e.request.id
     → IsAnsweredOk e (found_on.steps discovery_two) ↔ ((bit 0 slot ≡ false) × (bit 1 slot ≡ false))
 exact_two e slot on s = ⊎_elim
     (λ (x : (e ≡ outstanding_first) × (slot ≡ 0)). right e slot outstanding_first 0 x.0 x.1 (λ a. absurd (not_answered a), λ clear. absurd (true≢false clear.1)))
@@ -228,7 +228,7 @@ none_left : Agreeing queueing_disks no_slots (found_on.answered discovery_one) (
 none_left = agrees_none queueing_disks (found_on.answered discovery_one) (ends 1 101 101 ++ ends 0 100 100) (found_on.memory_then discovery_one) found_again
     again_stands (refl, refl, refl, refl) refl refl
     (λ port. All-append (λ e. IsMove port operation.Identify e → ⊥) (ends 1 101 101) (ends 0 100 100) (unpaged 1 101 101 port) (unpaged 0 100 100 port)) refl
-    (λ slot. record { issued = found_waits slot; free = again_free slot; unarmed = none_active slot })
+    (λ slot. record { is_not_issued = found_waits slot; is_not_taken = again_free slot; unarmed = none_active slot })
     (moved_alike swapped_memory (found_on.answered discovery_two).memory 100 100 swapped_frames)
 
 found_one : IsFound discovery_one
@@ -255,15 +255,15 @@ found_one = record {
 -- a port that stands so, with its commands as they are, runs well
 runs_well : (p : DevicePort) → Stands p → RunsWell p
 runs_well p stands = record {
-  st = was (λ q. q.st);
-  cr = was (λ q. q.cr);
-  det = was (λ q. q.ssts_det);
+  st_is_set = was (λ q. q.st);
+  cr_is_set = was (λ q. q.cr);
+  det_is_3 = was (λ q. q.ssts_det);
   present = was (λ q. q.present);
   fresh = was (λ q. q.fresh);
   no_link_is_due = was (λ q. q.link_due);
   is_not_halted = was (λ q. q.halt);
   is_not_broken = was (λ q. q.broken);
-  shows_no_trouble = record { serr_n = was (λ q. q.serr_n); serr_x = was (λ q. q.serr_x); no_error_bit_is_set = λ place from to. stands.quiet place from };
+  shows_no_trouble = record { serr_n_is_clear = was (λ q. q.serr_n); serr_x_is_clear = was (λ q. q.serr_x); no_error_bit_is_set = λ place from to. stands.quiet place from };
 }
   where
     was : {A : Type 0} (part : DevicePort → A) → part (but_commands p) ≡ part (but_commands (running_port 0))
@@ -276,7 +276,7 @@ stays_healthy c is = record {
   undisturbed = record { new_entries = found_on.gained c; tape_is = refl; no_disturbance = All-from_recursion (λ e. IsDisturbance 0 e → ⊥) (found_on.gained c) (λ x. x, (λ x. x, tt)) };
 }
 
-pub order_is_free : ReadsEndInAnyOrder
+pub order_is_free : QueuedReadsEndOutOfOrder
 unfolding issued_on.submit_ties found_on.service_ties
 order_is_free = record {
   initial_state = first;
@@ -287,20 +287,20 @@ order_is_free = record {
   submit_second = issued_on.submit submission_two;
   asked_second = reading 101 101;
   submits_second = (refl, refl);
-  read = (refl, refl);
+  both_are_reads = (refl, refl);
   issued = (refl, refl);
   both_active = (refl, refl);
   service_second = found_on.service discovery_two;
   answers_second = (refl, refl);
   one_active = (one_active 0, one_active 1);
-  left = λ e here. let is = only outstanding_first e here in (ap (λ (x : Pending). x.request.id) is, ap (λ (x : Pending). x.issued) is);
+  only_first_is_left = λ e here. let is = only outstanding_first e here in (ap (λ (x : Pending). x.request.id) is, ap (λ (x : Pending). x.issued) is);
   service_first = found_on.service discovery_one;
   answers_first_only = (refl, refl);
   ready = (refl, refl, refl, refl, refl);
   healthy = (stays_healthy discovery_two found_two, stays_healthy discovery_one found_one);
   port_runs_well = runs_well found_again again_stands;
-  finds_second = finds_second.0;
-  finds_first = finds_first.0;
+  service_second_reads_masks = finds_second.0;
+  service_first_reads_masks = finds_first.0;
   allowed = (finds_second.1, finds_first.1);
   history = (
     (
@@ -316,8 +316,8 @@ order_is_free = record {
     found_on.service_ties discovery_one found_one,
   );
   accesses = (refl, refl);
-  submit_first_parts = λ port. issued_on.submit_part submission_one issued_first port.0;
-  submit_second_parts = λ port. issued_on.submit_part submission_two issued_second port.0;
-  serve_second_parts = λ port. found_on.service_part discovery_two found_two port.0;
-  serve_first_parts = λ port. found_on.service_part discovery_one found_one port.0;
+  submit_first_corresponds = λ port. issued_on.submit_part submission_one issued_first port.0;
+  submit_second_corresponds = λ port. issued_on.submit_part submission_two issued_second port.0;
+  service_second_corresponds = λ port. found_on.service_part discovery_two found_two port.0;
+  service_first_corresponds = λ port. found_on.service_part discovery_one found_one port.0;
 }

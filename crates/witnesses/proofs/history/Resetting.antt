@@ -18,11 +18,11 @@ use Rattle.adapter.specs.Access.{Access}
 use Rattle.adapter.specs.Access.Access.{Reading, Writing}
 use Rattle.adapter.specs.Device.{Device}
 use Rattle.adapter.specs.declared.access.DeviceStep.{DeviceStep}
-use Rattle.refinement.specs.Acts.{driver_state}
+use Rattle.refinement.specs.Acts.{driver_state_of_slots}
 use Rattle.refinement.specs.Relation.{port_at}
-use Rattle.refinement.specs.Driver.{IsBacked, DriverRelation}
-use Rattle.refinement.specs.Links.{DoesNotWrite}
-use Rattle.refinement.specs.MemoryLayout.{list_of, received_of}
+use Rattle.refinement.specs.Driver.{TapeBacksSteps, DriverRelation}
+use Rattle.refinement.specs.PreservedParts.{DoesNotWrite}
+use Rattle.refinement.specs.MemoryLayout.{command_list_address, received_fis_address}
 use Rattle.refinement.specs.Slots.{IsEmptySlot}
 use Rattle.refinement.specs.ReadWitness.{first_id}
 use Rattle.block_machine.specs.Events.{AnswersReset, Happens, Reset, ShowsDisk, WasReset}
@@ -36,8 +36,8 @@ use Rattle.identify.specs.declared.wanted.Wanted.TheVariants.{Any}
 use Rattle.driver_history.specs.Evidence.{IsEvidencedOf}
 use Rattle.driver_history.specs.Histories.{IsPortServed, CallCorresponds, PortCorresponds}
 use Rattle.driver_history.specs.PortInvariants.{PortStateInvariant}
-use Rattle.driver_history.specs.AccessTrace.{IsDriversOwn, IsOfPorts, LeavesEngine, ResetsLink}
-use Rattle.witnesses.specs.Reset.{ResetIsAHistory, adapter_reset, boot_accesses, reset_and_boot_accesses}
+use Rattle.driver_history.specs.AccessTrace.{StaysInDriverFrames, UsesPortRegistersOf, LeavesEngine, ResetsLink}
+use Rattle.witnesses.specs.Reset.{ResetIsAHistory, ended_reset_accesses, boot_accesses, reset_and_boot_accesses}
 use Rattle.witnesses.specs.RunningAdapter.{port_or_empty, ports_with_disks}
 use Rattle.witnesses.proofs.history.Accepting.{asked, both, first, issuing, submit, submit_happens, submit_parts, submit_ties, submitted_at, waiting}
 use Rattle.witnesses.proofs.history.Booting.{allowed, does, rebooted, unfit}
@@ -57,7 +57,7 @@ unfit_ports = ports_with_disks plain_disks.info (true ∷ true ∷ []) (Unfit 8 
 
 -- both ports were stopped, and port 0 has lost its disk
 abbrev evidence : Evidence
-evidence = record { faults = []; lost = port_at 0 ∷ []; link_changed = []; failed = []; fatal = []; stopped = port_at 0 ∷ port_at 1 ∷ []; stuck = [] }
+evidence = record { faults = []; lost = port_at 0 ∷ []; link_changed = []; showing_error = []; showing_fatal_error = []; stopped = port_at 0 ∷ port_at 1 ∷ []; stuck = [] }
 
 abbrev answer : Step
 answer = Answer waiting outcome.Unplugged
@@ -70,7 +70,7 @@ replies = record { id = first_id; client = asked.client; outcome = outcome.Unplu
 
 abbrev pub reset : JointEvent Device DeviceStep
 reset = record {
-  event = record { ask = Reset; said = WasReset (Some replies); evidence = evidence; steps = steps; ports = unfit_ports };
+  event = record { call = Reset; result = WasReset (Some replies); evidence = evidence; steps = steps; ports = unfit_ports };
   device = rebooted;
 }
 
@@ -94,7 +94,7 @@ not_dead (suc (suc n)) is = let x : Absent ≡ Dead = is in cc
 
 pub fit : PortsWellFormed unfit_ports
 fit = record {
-  few_are_served = (fit_ready plain_disks).few_are_served;
+  served_are_ports_0_to_3 = (fit_ready plain_disks).served_are_ports_0_to_3;
   unserved_are_absent = λ port is. absent_of port.0 is;
   modes_are_valid = λ port is. absurd (not_ready port.0 is);
   causes_are_valid = λ port cause is. cause_of port.0 cause is;
@@ -126,9 +126,9 @@ served_stopped (suc (suc n)) h = absurd (⊎_elim
 
 becomes : (n : ℕ) → MayBecome both evidence unfit_ports (port_at n)
 becomes n = record {
-  served_is_kept = refl;
+  served_is_unchanged = refl;
   dead_is_stuck = (λ is. absurd (not_dead n is), λ h. absurd (nowhere (port_at n) h));
-  disk_is_kept = λ is. (refl, refl);
+  disk_is_remembered = λ is. (refl, refl);
 }
 
 -- ---- the machine
@@ -148,9 +148,9 @@ had (suc (suc n)) shows = absurd shows
 
 answers : AnswersReset submitted_at.abstract evidence steps replies rebooted_at.abstract
 answers = record {
-  replies_match = record { answers = (waiting, outcome.Unplugged) ∷ []; is_permutation = IsPermutation-refl _; ordered = λ i j d less low. absurd (omega (arith, less, low)); replies_are = refl };
-  releases_once = record { later = answer ∷ []; earlier = []; split = refl; before = tt; once = refl };
-  answers_all_unplugged = record {
+  replies_match = record { answers = (waiting, outcome.Unplugged) ∷ []; is_permutation = IsPermutation-refl _; ordered = λ i j d less low. absurd (omega (arith, less, low)); replies_are_of_answers = refl };
+  releases_once = record { later = answer ∷ []; earlier = []; release_splits_steps = refl; earlier_are_by_device = tt; no_other_release = refl };
+  unplugged_empties_port = record {
     none_is_left = λ e other here there. absurd (nowhere other there);
     none_is_told_dead = λ e other here there. absurd (let x : outcome.PortDead ≡ outcome.Unplugged = (the_answer other outcome.PortDead there).1 in cc);
   };
@@ -167,20 +167,20 @@ pub happens : Happens submitted_at.abstract reset.event
 happens = record {
   steps_are_enabled = ((tt, tt), ((0, omega arith, refl), tt));
   steps_are_of_call = ((tt, inr tt), inr tt);
-  issues_are_last = ((tt, λ id handled issued_in. absurd (true≢false (sym handled))), λ id handled issued_in. absurd (true≢false (sym issued_in)));
+  issue_is_last_of_request = ((tt, λ id handled issued_in. absurd (true≢false (sym handled))), λ id handled issued_in. absurd (true≢false (sym issued_in)));
   answers_are_lawful = (tt, (named 0, (0, omega arith, refl)));
   ports_are_well_formed = fit;
   unanswered_keep_disk = λ e o here. absurd (nowhere e here);
-  is_answered = answers;
+  result_matches_steps = answers;
 }
 
 -- ---- the accesses
 
-own : All IsDriversOwn reset_and_boot_accesses
-own = All-from_recursion IsDriversOwn reset_and_boot_accesses (tt, (tt, (tt, (tt, (tt, (tt, (tt, (tt, (tt, (tt, (tt, (tt, (tt, (tt, (tt, (tt, (tt, (tt, (tt, (tt, (tt, (tt, (tt, (tt, (tt, (tt, (tt, (tt, (tt, (tt, (tt, tt)))))))))))))))))))))))))))))))
+own : All StaysInDriverFrames reset_and_boot_accesses
+own = All-from_recursion StaysInDriverFrames reset_and_boot_accesses (tt, (tt, (tt, (tt, (tt, (tt, (tt, (tt, (tt, (tt, (tt, (tt, (tt, (tt, (tt, (tt, (tt, (tt, (tt, (tt, (tt, (tt, (tt, (tt, (tt, (tt, (tt, (tt, (tt, (tt, (tt, tt)))))))))))))))))))))))))))))))
 
-of_ports : All (IsOfPorts (IsPortServed both)) reset_and_boot_accesses
-of_ports = All-from_recursion (IsOfPorts (IsPortServed both)) reset_and_boot_accesses (tt, (tt, (tt, (refl, (refl, (refl, (refl, (refl, (refl, (refl, (refl, (refl, (refl, (refl, (refl, (refl, (refl, (refl, (refl, (refl, (refl, (refl, (refl, (refl, (refl, (refl, (refl, (refl, (refl, (refl, (refl, tt)))))))))))))))))))))))))))))))
+of_ports : All (UsesPortRegistersOf (IsPortServed both)) reset_and_boot_accesses
+of_ports = All-from_recursion (UsesPortRegistersOf (IsPortServed both)) reset_and_boot_accesses (tt, (tt, (tt, (refl, (refl, (refl, (refl, (refl, (refl, (refl, (refl, (refl, (refl, (refl, (refl, (refl, (refl, (refl, (refl, (refl, (refl, (refl, (refl, (refl, (refl, (refl, (refl, (refl, (refl, (refl, (refl, tt)))))))))))))))))))))))))))))))
 
 -- what follows COMRESET
 abbrev after_link : ℕ → List Access
@@ -191,8 +191,8 @@ after_link port =
 -- what comes before
 abbrev before_link : ℕ → List Access
 before_link port =
-    Reading (Px (port_at port) Cmd) 0 ∷ Writing (Px (port_at port) Clb) (list_of port) ∷ Writing (Px (port_at port) Clbu) 0
-    ∷ Writing (Px (port_at port) Fb) (received_of port) ∷ Writing (Px (port_at port) Fbu) 0 ∷ Reading (Px (port_at port) Cmd) 0
+    Reading (Px (port_at port) Cmd) 0 ∷ Writing (Px (port_at port) Clb) (command_list_address port) ∷ Writing (Px (port_at port) Clbu) 0
+    ∷ Writing (Px (port_at port) Fb) (received_fis_address port) ∷ Writing (Px (port_at port) Fbu) 0 ∷ Reading (Px (port_at port) Cmd) 0
     ∷ Writing (Px (port_at port) Cmd) 0x10 ∷ []
 
 -- the number of the port that a register is of
@@ -205,11 +205,11 @@ other_port r is = let same : 1 ≡ 0 = ap number is in omega (arith, same)
 
 links : (n : ℕ) → both.served (port_at n) ≡ true → ResetsLink (port_at n) reset_and_boot_accesses
 links zero is = record {
-  before = adapter_reset ++ before_link 0;
+  before = ended_reset_accesses ++ before_link 0;
   between = [];
   later = after_link 0 ++ boot_accesses 1;
-  sending = 1;
-  ending = 0;
+  comreset_value = 1;
+  end_of_comreset_value = 0;
   accesses_are_split = refl;
   sends_comreset = refl;
   ends_comreset = refl;
@@ -218,11 +218,11 @@ links zero is = record {
       (tt, (λ is. cc, (λ is. cc, (tt, (tt, (tt, (other_port Clb, (other_port Clbu, (other_port Fb, (other_port Fbu, (tt, (other_port Cmd, (other_port Sctl, (other_port Sctl, (tt, (other_port Serr, (other_port Is, (tt, (tt, tt)))))))))))))))))));
 }
 links (suc zero) is = record {
-  before = adapter_reset ++ (boot_accesses 0 ++ before_link 1);
+  before = ended_reset_accesses ++ (boot_accesses 0 ++ before_link 1);
   between = [];
   later = after_link 1;
-  sending = 1;
-  ending = 0;
+  comreset_value = 1;
+  end_of_comreset_value = 0;
   accesses_are_split = refl;
   sends_comreset = refl;
   ends_comreset = refl;
@@ -241,14 +241,14 @@ evidenced : (n : ℕ) → IsEvidencedOf Reset (WasReset (Some replies)) reset_an
 evidenced n =
     let quiet = calm submitted.tape read_memory issued refl refl refl (λ place from. refl) rebooted n in
     record {
-      lost = λ h. inr (inr (inr (not_dead n, λ ready. absurd (not_ready n ready))));
+      lost_only = λ h. inr (inr (inr (not_dead n, λ ready. absurd (not_ready n ready))));
       link_changed_all = λ is loss. absurd ((quiet is).0 loss);
       link_changed_only = λ h. absurd (nowhere (port_at n) h);
-      failed_all = λ is f. absurd ((quiet is).1 f);
-      failed_only = λ h. absurd (nowhere (port_at n) h);
-      fatal_all = λ is f. absurd ((quiet is).1 (inl f));
-      fatal_only = λ h. absurd (nowhere (port_at n) h);
-      stopped_all = engines n;
+      showing_error_all = λ is f. absurd ((quiet is).1 f);
+      showing_error_only = λ h. absurd (nowhere (port_at n) h);
+      showing_fatal_error_all = λ is f. absurd ((quiet is).1 (inl f));
+      showing_fatal_error_only = λ h. absurd (nowhere (port_at n) h);
+      engine_is_left_or_stopped = engines n;
       stopped_only = λ h. inr (tt, served_stopped n h);
       stuck_only = λ h. absurd (nowhere (port_at n) h);
     }
@@ -271,11 +271,11 @@ part_of n = record {
   probes_disk = tt;
   boots_anew = λ served. inr (links n served);
   loses_no_error = record {
-    errors = λ ready why. inl (inl (stopped_served n (was_served n ready)));
-    changes = λ tends why. inl (inl (stopped_served n tends.0));
-    fault = λ ready g. absurd (not_ready n ready);
-    fatal = λ ready g. absurd (not_ready n ready);
-    disk = λ ready g. absurd (not_ready n ready);
+    errors_are_handled_or_shown = λ ready why. inl (inl (stopped_served n (was_served n ready)));
+    changes_are_handled_or_shown = λ tends why. inl (inl (stopped_served n tends.0));
+    new_fault_is_shown = λ ready g. absurd (not_ready n ready);
+    new_fatal_is_shown = λ ready g. absurd (not_ready n ready);
+    new_plug_event_is_shown = λ ready g. absurd (not_ready n ready);
   };
   runs_well_anew = λ why ready. absurd (not_ready n ready);
   handles_evidence = tt;
@@ -286,17 +286,17 @@ part_of n = record {
     was_served (suc zero) is = refl
     was_served (suc (suc n)) is = absurd (let x : Absent ≡ Ready = is in cc)
 
-backed : IsBacked submitted rebooted issuing steps
+backed : TapeBacksSteps submitted rebooted issuing steps
 backed = record {
-  telling = refl;
+  telling_is_same = refl;
   new_entries = [];
   tape_is = sym (append-nil _);
   tells_device_steps = ((tt, λ d. d), λ d. d);
   steps_are_faithful = λ _. ((tt, tt), tt);
-  plugged = λ port. ([], plugs port, refl);
+  plugged_disks_match_steps = λ port. ([], plugs port, refl);
 }
   where
-    plugs : (n : ℕ) → (rebooted.port n).plugged ≡ (submitted.port n).plugged ++ []
+    plugs : (n : ℕ) → (rebooted.port n).plug_history ≡ (submitted.port n).plug_history ++ []
     plugs zero = refl
     plugs (suc zero) = refl
     plugs (suc (suc n)) = refl
@@ -304,11 +304,11 @@ backed = record {
 -- ---- what holds after it
 
 free : (n k : ℕ) → IsEmptySlot (port_or_empty (unfit 0 ∷ unfit 1 ∷ []) n) k
-free zero k = record { issued = refl; free = refl; unarmed = refl }
-free (suc zero) k = record { issued = refl; free = refl; unarmed = refl }
-free (suc (suc n)) k = record { issued = refl; free = refl; unarmed = refl }
+free zero k = record { is_not_issued = refl; is_not_taken = refl; unarmed = refl }
+free (suc zero) k = record { is_not_issued = refl; is_not_taken = refl; unarmed = refl }
+free (suc (suc n)) k = record { is_not_issued = refl; is_not_taken = refl; unarmed = refl }
 
-knows : DriverRelation answered (driver_state no_slots rebooted)
+knows : DriverRelation answered (driver_state_of_slots no_slots rebooted)
 knows = agreeing answered no_slots pages read_memory (unfit 0) (unfit 1)
     (record { own_first = refl; own_second = refl; disks = (refl, refl); present = present; ids = refl; sizes = refl; bytes = refl; lasting = (refl, refl); still = refl })
     free free_apart (λ f b from small. past_driver f b from) (λ n e may at_port. ⊎_elim (λ z. absurd (nowhere e z.0)) (λ z. absurd (nowhere e z)) may)
@@ -320,9 +320,9 @@ knows = agreeing answered no_slots pages read_memory (unfit 0) (unfit 1)
 
 pub holds_of : (n : ℕ) → PortStateInvariant (wanted_of (Any ∷ Any ∷ []) n) no_slots rebooted_at (port_at n) (unfit_ports.served (port_at n)) (unfit_ports.state (port_at n))
 holds_of zero = record {
-  adapter_is_on = record { ae = refl; no_reset = refl };
+  adapter_is_on = record { ae_is_set = refl; no_reset = refl };
   backs_state = (
-    record { halted = record { st = refl; cr = refl; ci = λ k. refl; taken = λ k. refl }; sact = λ k. refl },
+    record { engine_is_stopped = record { st_is_clear = refl; cr_is_clear = refl; no_command_is_issued = λ k. refl; no_command_is_taken = λ k. refl }; sact_is_clear = λ k. refl },
     inr (inl (refl, (0xeb140101, ((refl, refl), refl, refl, λ (e : 0xeb140101 ≡ 0x101). omega (arith, e))))),
   );
   shows_disk_if_in = λ bad. inl refl;
@@ -331,9 +331,9 @@ holds_of zero = record {
   none_is_quarantined = λ e k. absurd (nowhere e k);
 }
 holds_of (suc zero) = record {
-  adapter_is_on = record { ae = refl; no_reset = refl };
+  adapter_is_on = record { ae_is_set = refl; no_reset = refl };
   backs_state = (
-    record { halted = record { st = refl; cr = refl; ci = λ k. refl; taken = λ k. refl }; sact = λ k. refl },
+    record { engine_is_stopped = record { st_is_clear = refl; cr_is_clear = refl; no_command_is_issued = λ k. refl; no_command_is_taken = λ k. refl }; sact_is_clear = λ k. refl },
     inr (inl (refl, (0xeb140101, ((refl, refl), refl, refl, λ (e : 0xeb140101 ≡ 0x101). omega (arith, e))))),
   );
   shows_disk_if_in = λ bad. inl refl;
@@ -346,9 +346,9 @@ holds_of (suc (suc n)) = unserved_at no_slots rebooted_at (suc (suc n)) refl ref
 pub ties : CallCorresponds (Any ∷ Any ∷ []) submitted_at reset
 ties = record {
   accesses = reset_and_boot_accesses;
-  accesses_are_explained = (does, own, of_ports, record { rest = Reading Ghc 0 ∷ Writing Ghc 0x80000002 ∷ (boot_accesses 0 ++ boot_accesses 1); accesses_are = refl }, (record { ae = refl; no_reset = refl }, refl));
+  accesses_are_explained = (does, own, of_ports, record { rest = Reading Ghc 0 ∷ Writing Ghc 0x80000002 ∷ (boot_accesses 0 ++ boot_accesses 1); accesses_are = refl }, (record { ae_is_set = refl; no_reset = refl }, refl));
   is_backed = backed;
-  is_evidenced = record { faults = λ f here. absurd (nowhere f here); port = λ port. evidenced port.0 };
+  is_evidenced = record { faults_are_told = λ f here. absurd (nowhere f here); each_port_is_evidenced = λ port. evidenced port.0 };
   only_failed_requeue = tt;
   issues_all_due = λ port is. absurd (not_ready port.0 is);
   ports_correspond = λ port. part_of port.0;
@@ -356,8 +356,8 @@ ties = record {
     no_slots,
     record {
       driver_relation = knows;
-      served = λ port low. served_of pages read_memory (unfit 0 ∷ unfit 1 ∷ []) port.0;
-      adapter_is_on = inl (record { ae = refl; no_reset = refl });
+      served_iff_wanted_and_there = λ port low. served_of pages read_memory (unfit 0 ∷ unfit 1 ∷ []) port.0;
+      is_on_or_served_are_dead = inl (record { ae_is_set = refl; no_reset = refl });
       ports_hold = λ port low. holds_of port.0;
     },
   );
@@ -380,12 +380,12 @@ reset_is_a_history = record {
   lent = refl;
   reset = reset;
   resets = (refl, refl);
-  unfit = (refl, refl);
-  freed = refl;
-  does = does;
-  allowed = allowed;
+  both_become_unfit = (refl, refl);
+  frame_is_given_back = refl;
+  reset_makes_accesses = does;
+  accesses_are_allowed = allowed;
   history = ((((starts, fit_ready plain_disks), begins plain_disks), submit_happens, submit_ties), happens, ties);
   accesses = refl;
-  submit_parts = submit_parts;
-  reset_parts = λ port. part_of port.0;
+  submit_corresponds = submit_parts;
+  reset_corresponds = λ port. part_of port.0;
 }

@@ -4,7 +4,7 @@ use Rattle.std.proofs.lemmas.Bool.{false≢true, true≢false}
 use Rattle.hba_regs.specs.declared.reg.Reg.TheVariants.{Px}
 use Rattle.hba_regs.specs.declared.reg.PortReg.{PortReg}
 use Rattle.hba_regs.specs.declared.reg.PortReg.TheVariants.{Clb, Clbu, Fb, Fbu, Is, Cmd, Tfd, Sig, Ssts, Sctl, Serr, Sact, Ci}
-use Rattle.adapter.specs.Access.{DoesAll, PortShows, Reads, Writes, note, port_after_write}
+use Rattle.adapter.specs.Access.{DoesAll, PortShows, Reads, Writes, notes_after_reading, port_after_write}
 use Rattle.adapter.specs.Device.{Notes, DevicePort, Device}
 use Rattle.adapter.specs.Memory.{changed}
 use Rattle.adapter.specs.Rules.{MayWriteCmd}
@@ -29,15 +29,15 @@ module _ (tape : List Entry) where
   alike : (p q : DevicePort) → dev q ≡ record (dev p) { port = changed (port_or_empty (p ∷ second ∷ [])) 0 q }
   alike p q = put_device tape read_memory 0 (p ∷ second ∷ []) (q ∷ second ∷ []) q refl (but_first p q (second ∷ []))
 
-  unfoldable pub reads_here : (r : PortReg) (v : ℕ) (p : DevicePort) → PortShows r v p → Reads (Px (port_at 0) r) v (dev p) (dev (record p { notes = note r v p }))
-  reads_here r v p shows = reads tape read_memory 0 (p ∷ second ∷ []) (record p { notes = note r v p } ∷ second ∷ []) (but_first p (record p { notes = note r v p }) (second ∷ [])) r v shows refl
+  unfoldable pub reads_here : (r : PortReg) (v : ℕ) (p : DevicePort) → PortShows r v p → Reads (Px (port_at 0) r) v (dev p) (dev (record p { notes = notes_after_reading r v p }))
+  reads_here r v p shows = reads tape read_memory 0 (p ∷ second ∷ []) (record p { notes = notes_after_reading r v p } ∷ second ∷ []) (but_first p (record p { notes = notes_after_reading r v p }) (second ∷ [])) r v shows refl
 
   unfoldable pub writes_here : (r : PortReg) (v : ℕ) (p : DevicePort) → Writes (Px (port_at 0) r) v (dev p) (dev (port_after_write r v (length tape) p))
   writes_here r v p = writes tape read_memory 0 (p ∷ second ∷ []) (port_after_write r v (length tape) p ∷ second ∷ []) (but_first p (port_after_write r v (length tape) p) (second ∷ [])) r v refl
 
   -- a register is read when the device has just made a step
-  reads_after : (step : DeviceTransition) (p q : DevicePort) (r : PortReg) (v : ℕ) → Can step (dev p) → dev q ≡ device_after step (dev p) → PortShows r v q → Reads (Px (port_at 0) r) v (dev p) (dev (record q { notes = note r v q }))
-  reads_after step p q r v can is shows = record { mid = dev q; steps = record { steps = step ∷ []; lead = (can, is) }; shows = shows; effect = alike q (record q { notes = note r v q }) }
+  reads_after : (step : DeviceTransition) (p q : DevicePort) (r : PortReg) (v : ℕ) → Can step (dev p) → dev q ≡ device_after step (dev p) → PortShows r v q → Reads (Px (port_at 0) r) v (dev p) (dev (record q { notes = notes_after_reading r v q }))
+  reads_after step p q r v can is shows = record { at_access = dev q; steps = record { steps = step ∷ []; lead = (can, is) }; shows = shows; effect = alike q (record q { notes = notes_after_reading r v q }) }
 
 -- ---- the way
 
@@ -66,28 +66,28 @@ module _ (c : Outset) where
   outset = record issued { is = c.flags; broken = c.broken; notes = c.notes }
 
   abbrev seen_ci : DevicePort
-  seen_ci = record outset { notes = note Ci 1 outset }
+  seen_ci = record outset { notes = notes_after_reading Ci 1 outset }
 
   abbrev seen_masks : DevicePort
-  seen_masks = record seen_ci { notes = note Sact 0 seen_ci }
+  seen_masks = record seen_ci { notes = notes_after_reading Sact 0 seen_ci }
 
   abbrev commanded : DevicePort
-  commanded = record seen_masks { notes = note Cmd 0xc011 seen_masks }
+  commanded = record seen_masks { notes = notes_after_reading Cmd 0xc011 seen_masks }
 
   abbrev stopping_port : DevicePort
   stopping_port = port_after_write Cmd 0xc010 (length tape) commanded
 
   abbrev stopped : DevicePort
-  stopped = record (fall stopping_port) { notes = note Cmd 0x4010 (fall stopping_port) }
+  stopped = record (fall stopping_port) { notes = notes_after_reading Cmd 0x4010 (fall stopping_port) }
 
   abbrev commanded_again : DevicePort
-  commanded_again = record stopped { notes = note Cmd 0x4010 stopped }
+  commanded_again = record stopped { notes = notes_after_reading Cmd 0x4010 stopped }
 
   abbrev closing : DevicePort
   closing = port_after_write Cmd 0x4000 (length tape) commanded_again
 
   abbrev closed : DevicePort
-  closed = record (unheard closing) { notes = note Cmd 0 (unheard closing) }
+  closed = record (unheard closing) { notes = notes_after_reading Cmd 0 (unheard closing) }
 
   abbrev with_list : DevicePort
   with_list = port_after_write Clb 0 (length tape) closed
@@ -102,7 +102,7 @@ module _ (c : Outset) where
   placed = port_after_write Fbu 0 (length tape) with_area
 
   abbrev asked_again : DevicePort
-  asked_again = record placed { notes = note Cmd 0 placed }
+  asked_again = record placed { notes = notes_after_reading Cmd 0 placed }
 
   abbrev hearing : DevicePort
   hearing = port_after_write Cmd 0x10 (length tape) asked_again
@@ -114,7 +114,7 @@ module _ (c : Outset) where
   awaiting = port_after_write Sctl 0 (length tape) sending
 
   abbrev shown : DevicePort
-  shown = record (up awaiting) { notes = note Ssts 3 (up awaiting) }
+  shown = record (up awaiting) { notes = notes_after_reading Ssts 3 (up awaiting) }
 
   abbrev unchanged : DevicePort
   unchanged = port_after_write Serr 0xffffffff (length tape) shown
@@ -123,10 +123,10 @@ module _ (c : Outset) where
   quieted = port_after_write Is 0xffffffff (length tape) unchanged
 
   abbrev idle : DevicePort
-  idle = record quieted { notes = note Tfd 0x77 quieted }
+  idle = record quieted { notes = notes_after_reading Tfd 0x77 quieted }
 
   abbrev pub unfit : DevicePort
-  unfit = record idle { notes = note Sig 0xeb140101 idle }
+  unfit = record idle { notes = notes_after_reading Sig 0xeb140101 idle }
 
   -- ---- accesses, one after another
 
@@ -159,17 +159,17 @@ module _ (c : Outset) where
     start = λ set. absurd (false≢true set);
     receive = λ set. absurd (false≢true set);
     stop_receiving = λ clear. inr (record { st_is_clear = refl; cr_is_clear = refl }, refl);
-    others = λ place low start receive. same_beside 0x4000 0x4010 refl refl refl refl place start receive;
+    other_bits_are_kept = λ place low start receive. same_beside 0x4000 0x4010 refl refl refl refl place start receive;
   }
 
   may_hear : MayWriteCmd asked_again 0x10
   may_hear = record {
     start = λ set. absurd (false≢true set);
-    receive = λ set. inr (record { fr_is_clear = refl; fb = refl; fbu = refl });
+    receive = λ set. inr (record { fr_is_clear = refl; fb_is_written = refl; fbu_is_written = refl });
     stop_receiving = λ clear. absurd (true≢false clear);
-    others = λ place low start receive. same_beside 0x10 0 refl refl refl refl place start receive;
+    other_bits_are_kept = λ place low start receive. same_beside 0x10 0 refl refl refl refl place start receive;
   }
 
   pub restart_allowed : AreAllowed restart_accesses (dev tape outset) (dev tape unfit) restarts
   unfolding restarts stops places resets falls reads_after closes comes_up reads_here writes_here reads writes falls_reads
-  restart_allowed = ((record { ae = refl; no_reset = refl }, (omega arith, refl)), ((record { ae = refl; no_reset = refl }, (omega arith, refl)), ((record { ae = refl; no_reset = refl }, (omega arith, refl)), ((record { ae = refl; no_reset = refl }, (omega arith, refl), may_stop commanded 0xc010 0xc011 refl refl refl refl refl), ((record { ae = refl; no_reset = refl }, (omega arith, refl)), ((record { ae = refl; no_reset = refl }, (omega arith, refl)), ((record { ae = refl; no_reset = refl }, (omega arith, refl), may_close), ((record { ae = refl; no_reset = refl }, (omega arith, refl)), ((record { ae = refl; no_reset = refl }, (omega arith, refl), (refl, refl, refl, omega arith)), ((record { ae = refl; no_reset = refl }, (omega arith, refl), (refl, refl, refl)), ((record { ae = refl; no_reset = refl }, (omega arith, refl), (refl, refl, refl, omega arith)), ((record { ae = refl; no_reset = refl }, (omega arith, refl), (refl, refl, refl)), ((record { ae = refl; no_reset = refl }, (omega arith, refl)), ((record { ae = refl; no_reset = refl }, (omega arith, refl), may_hear), ((record { ae = refl; no_reset = refl }, (omega arith, refl), (refl, inr refl)), ((record { ae = refl; no_reset = refl }, (omega arith, refl), (refl, inl refl)), ((record { ae = refl; no_reset = refl }, (omega arith, refl)), ((record { ae = refl; no_reset = refl }, (omega arith, refl), tt), ((record { ae = refl; no_reset = refl }, (omega arith, refl), tt), ((record { ae = refl; no_reset = refl }, (omega arith, refl)), ((record { ae = refl; no_reset = refl }, (omega arith, refl)), tt)))))))))))))))))))))
+  restart_allowed = ((record { ae_is_set = refl; no_reset = refl }, (omega arith, refl)), ((record { ae_is_set = refl; no_reset = refl }, (omega arith, refl)), ((record { ae_is_set = refl; no_reset = refl }, (omega arith, refl)), ((record { ae_is_set = refl; no_reset = refl }, (omega arith, refl), may_stop commanded 0xc010 0xc011 refl refl refl refl refl), ((record { ae_is_set = refl; no_reset = refl }, (omega arith, refl)), ((record { ae_is_set = refl; no_reset = refl }, (omega arith, refl)), ((record { ae_is_set = refl; no_reset = refl }, (omega arith, refl), may_close), ((record { ae_is_set = refl; no_reset = refl }, (omega arith, refl)), ((record { ae_is_set = refl; no_reset = refl }, (omega arith, refl), (refl, refl, refl, omega arith)), ((record { ae_is_set = refl; no_reset = refl }, (omega arith, refl), (refl, refl, refl)), ((record { ae_is_set = refl; no_reset = refl }, (omega arith, refl), (refl, refl, refl, omega arith)), ((record { ae_is_set = refl; no_reset = refl }, (omega arith, refl), (refl, refl, refl)), ((record { ae_is_set = refl; no_reset = refl }, (omega arith, refl)), ((record { ae_is_set = refl; no_reset = refl }, (omega arith, refl), may_hear), ((record { ae_is_set = refl; no_reset = refl }, (omega arith, refl), (refl, inr refl)), ((record { ae_is_set = refl; no_reset = refl }, (omega arith, refl), (refl, inl refl)), ((record { ae_is_set = refl; no_reset = refl }, (omega arith, refl)), ((record { ae_is_set = refl; no_reset = refl }, (omega arith, refl), tt), ((record { ae_is_set = refl; no_reset = refl }, (omega arith, refl), tt), ((record { ae_is_set = refl; no_reset = refl }, (omega arith, refl)), ((record { ae_is_set = refl; no_reset = refl }, (omega arith, refl)), tt)))))))))))))))))))))

@@ -45,7 +45,7 @@ steps = Revoke client 0 ∷ []
 
 abbrev revoke : JointEvent Device DeviceStep
 revoke = record {
-  event = record { ask = RevokeOf client 0; said = WasRevoked (Some []); evidence = nothing; steps = steps; ports = both };
+  event = record { call = RevokeOf client 0; result = WasRevoked (Some []); evidence = nothing; steps = steps; ports = both };
   device = submitted;
 }
 
@@ -57,14 +57,14 @@ happens : Happens (issued_at 0).abstract revoke.event
 happens = record {
   steps_are_enabled = (tt, granted);
   steps_are_of_call = (tt, inr (refl, refl));
-  issues_are_last = (tt, λ id handled issued_in. absurd (true≢false (sym handled)));
+  issue_is_last_of_request = (tt, λ id handled issued_in. absurd (true≢false (sym handled)));
   answers_are_lawful = tt;
   ports_are_well_formed = fit_ready plain_disks;
   unanswered_keep_disk = λ e o here there same. (refl, refl);
-  is_answered = record {
+  result_matches_steps = record {
     has_row = granted;
-    rows = refl;
-    replies_match = record { answers = []; is_permutation = IsPermutation-refl _; ordered = λ i j d less low. absurd (omega (arith, less, low)); replies_are = refl };
+    row_is_removed = refl;
+    replies_match = record { answers = []; is_permutation = IsPermutation-refl _; ordered = λ i j d less low. absurd (omega (arith, less, low)); replies_are_of_answers = refl };
     waiting_are_revoked = λ e. (
       λ here. absurd (unanswered_then e outcome.Revoked here),
       λ of. absurd (true≢false (sym (ap (λ (x : Pending). x.issued) (in_book 0 e of.0)) ∙ of.1)),
@@ -90,16 +90,16 @@ ties = record {
   accesses = [];
   accesses_are_explained = (refl, ((row 0, (0, omega arith, refl), (refl, refl)), All-nil (IsIssuingAccess (port_at 0)), λ ready. refl));
   is_backed = record {
-    telling = refl;
+    telling_is_same = refl;
     new_entries = [];
     tape_is = refl;
     tells_device_steps = (tt, λ d. d);
     steps_are_faithful = λ _. (tt, tt);
-    plugged = λ port. ([], sym (append-nil (submitted.port port).plugged), refl);
+    plugged_disks_match_steps = λ port. ([], sym (append-nil (submitted.port port).plug_history), refl);
   };
   is_evidenced = record {
-    faults = λ f here. absurd (nowhere f here);
-    port = λ port. unnamed_evidenced (RevokeOf client 0) (WasRevoked (Some [])) [] (issued_at 0) both submitted nothing (port_at port.0) (none_named (port_at port.0)) (quiet port.0) (All-nil (LeavesEngine (port_at port.0)));
+    faults_are_told = λ f here. absurd (nowhere f here);
+    each_port_is_evidenced = λ port. unnamed_evidenced (RevokeOf client 0) (WasRevoked (Some [])) [] (issued_at 0) both submitted nothing (port_at port.0) (none_named (port_at port.0)) (quiet port.0) (All-nil (LeavesEngine (port_at port.0)));
   };
   only_failed_requeue = tt;
   issues_all_due = λ port is r here at_port. (λ f. absurd (true≢false (sym f)), λ due. absurd (not_due 0 port r at_port due));
@@ -118,10 +118,10 @@ revocation_is_a_history = record {
   revokes = (refl, refl);
   issued = waiting_for 0;
   book = refl;
-  goes_on = (refl, refl);
-  gone = not_left;
+  read_stays_issued = (refl, refl);
+  grant_is_gone = not_left;
   history = ((((starts, fit_ready plain_disks), begins plain_disks), submit_happens, submit_ties), happens, ties);
   accesses = refl;
-  submit_parts = submit_parts;
-  revoke_parts = λ port. part port.0;
+  submit_corresponds = submit_parts;
+  revoke_corresponds = λ port. part port.0;
 }

@@ -10,9 +10,9 @@ use Rattle.adapter.specs.Device.{DevicePort}
 use Rattle.adapter.specs.Decoding.{piece_addresses}
 use Rattle.adapter.specs.declared.command.Operation.TheVariants.{Identify}
 use Rattle.adapter.specs.declared.tape.Entry.{Entry}
-use Rattle.refinement.specs.Relation.{ServeApart, SameMemory}
-use Rattle.refinement.specs.MemoryLayout.{place_in}
-use Rattle.refinement.specs.Slots.{IsDropped, IsEnded, IsEmptySlot, IsMove, RelatesSlot, Serves, IsTakenFor, ServesRequest, IsInSomeStage, SlotDecodesTo, AwaitsFetch, op_of}
+use Rattle.refinement.specs.Relation.{ServeDistinctRequests, SameClientFrames}
+use Rattle.refinement.specs.MemoryLayout.{sector_address}
+use Rattle.refinement.specs.Slots.{IsDropped, IsEnded, IsEmptySlot, IsMove, RelatesSlot, Serves, IsTakenFor, ServesRequest, IsInSomeStage, SlotDecodesTo, AwaitsFetch, client_operation_of}
 use Rattle.refinement.specs.ReadWitness.{first_id}
 use Rattle.block_machine.specs.DueRequests.{NoneDue, waits_for, is_unblocked, is_plain}
 use Rattle.block_machine.specs.State.{Block, Machine, Pending}
@@ -38,7 +38,7 @@ abbrev pub aged : ℕ → Pending → Pending
 aged age e = record e { age = age }
 
 unfoldable pub serves_one : (m : Machine) (memory : ℕ → ℕ) (p : DevicePort) (slot : ℕ) (c : Meaning) (id : RequestId) (k n : ℕ) (held : ℕ → Block) (age : ℕ) → p.bases.clb ≡ 0 → slot < 32
-    → Contains m.book (aged age (outstanding_as id k n held)) → op_of c.operation ≡ Some Read → c.first ≡ k → SlotDecodesTo memory 0 0 slot c (piece_addresses (4096 * n) 1)
+    → Contains m.book (aged age (outstanding_as id k n held)) → client_operation_of c.operation ≡ Some Read → c.first ≡ k → SlotDecodesTo memory 0 0 slot c (piece_addresses (4096 * n) 1)
     → IsInSomeStage memory p 0 slot (aged age (outstanding_as id k n held)) c (piece_addresses (4096 * n) 1) → ServesRequest m memory p 0 slot id
 serves_one m memory p slot c id k n held age list below here op first told stage =
     record {
@@ -54,7 +54,7 @@ serves_one m memory p slot c id k n held age list below here op first told stage
       stage = stage;
     }
   where
-    places : (i : ℕ) → i < 1 → slice_index (piece_addresses (4096 * n) 1) i ≡ place_in (frame n ∷ []) i
+    places : (i : ℕ) → i < 1 → slice_index (piece_addresses (4096 * n) 1) i ≡ sector_address (frame n ∷ []) i
     places zero low = omega arith
     places (suc i) low = absurd (omega (arith, low))
 
@@ -67,12 +67,12 @@ serves_none m memory p slot id s started with_issue_undone free unended = ⊎_el
     (λ (w : IsTakenFor memory p 0 slot s.pending s.command s.places). let x : None ≡ Some w.command = sym free ∙ w.taken in cc)
     (λ r. ⊎_elim
     (λ (w : IsEnded p slot s.pending). true≢false (sym w.ended ∙ unended))
-    (λ (w : IsDropped p slot s.pending). true≢false (sym started ∙ w.stopped)) r) r)
+    (λ (w : IsDropped p slot s.pending). true≢false (sym started ∙ w.st_is_clear)) r) r)
     s.stage
 
 -- ---- slot 0 alone is in use
 
-first_apart : ServeApart first_slots.uses
+first_apart : ServeDistinctRequests first_slots.slot_states
 first_apart q k q' k' id u v = let one = answers_first_only q k id u in let other = answers_first_only q' k' id v in (one.0 ∙ sym other.0, one.1 ∙ sym other.1)
 
 module _ (disk : Kind) (m : Machine) (more : List Entry) (memory : ℕ → ℕ) (p : DevicePort) (c : Meaning) (k n : ℕ) (held : ℕ → Block) (age : ℕ) where
@@ -85,18 +85,18 @@ module _ (disk : Kind) (m : Machine) (more : List Entry) (memory : ℕ → ℕ) 
   -- Request 1, a read by this command, is the one of the book; it is in slot 0 of port 0, and no other slot is in use.
   pub record HasOne : Type 0 where
     pub stands : Stands p
-    pub disks : (m.present ≡ start.present) × (m.disk_ids ≡ start.disk_ids) × (m.sizes ≡ start.sizes) × (m.disks ≡ start.disks)
+    pub disks : (m.present ≡ start.present) × (m.disk_ids ≡ start.disk_ids) × (m.sizes ≡ start.sizes) × (m.disk_bytes ≡ start.disk_bytes)
     pub book : m.book ≡ aged age (outstanding_as first_id k n held) ∷ []
     pub unkept : m.kept ≡ []
     pub unpaged : (port : ℕ) → All (λ e. IsMove port Identify e → ⊥) more
     pub still : all_still more ≡ true
-    pub op : op_of c.operation ≡ Some Read
+    pub op : client_operation_of c.operation ≡ Some Read
     pub first : c.first ≡ k
     pub kind : is_queued c.operation ≡ not (is_plain (mode_of_disk queueing_cap disk.info) Read)
     pub told : SlotDecodesTo memory 0 0 0 c (piece_addresses (4096 * n) 1)
     pub stage : IsInSomeStage memory p 0 0 (aged age (outstanding_as first_id k n held)) c (piece_addresses (4096 * n) 1)
     pub others : (slot : ℕ) → IsEmptySlot p (suc slot)
-    pub frames : SameMemory m memory
+    pub frames : SameClientFrames m memory
 
   module _ (has : HasOne) where
     pub the_one : (e : Pending) → Contains m.book e → e ≡ the_request
@@ -111,7 +111,7 @@ module _ (disk : Kind) (m : Machine) (more : List Entry) (memory : ℕ → ℕ) 
       command = c;
       places = piece_addresses (4096 * n) 1;
       slot_decodes_to = subst (λ (at : ℕ). SlotDecodesTo memory at 0 0 c (piece_addresses (4096 * n) 1)) (sym (ap (λ (q : DevicePort). q.bases.clb) has.stands.same)) has.told;
-      kind = has.kind;
+      is_queued_if_not_plain = has.kind;
     })
 
     pub agrees_one : Agreeing disk first_slots m more memory p

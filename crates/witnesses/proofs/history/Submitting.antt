@@ -9,7 +9,7 @@ use Rattle.adapter.specs.FirstRead.{header_bytes}
 use Rattle.adapter.specs.Memory.{changed, patched}
 use Rattle.adapter.specs.ReadDone.{read_of}
 use Rattle.adapter.specs.Decoding.{piece_addresses}
-use Rattle.adapter.specs.Steps.{Steps, begun, port_after_fetch}
+use Rattle.adapter.specs.Steps.{Steps, newly_fetched, port_after_fetch}
 use Rattle.adapter.specs.Steps.DeviceTransition.{Fetch}
 use Rattle.adapter.specs.declared.tape.Entry.{Entry}
 use Rattle.refinement.specs.Relation.{port_at}
@@ -64,7 +64,7 @@ others_clear k = other_bit (suc k) (omega arith)
 -- ---- and taken by the device
 
 abbrev pub command : FetchedCommand
-command = begun (read_of 100 1) (piece_addresses 0x64000 1)
+command = newly_fetched (read_of 100 1) (piece_addresses 0x64000 1)
 
 abbrev pub taken : DevicePort
 taken = port_after_fetch issued 0 (read_of 100 1) (piece_addresses 0x64000 1)
@@ -74,8 +74,8 @@ pub fetches : (new : Device) → Steps (running_device pages read_memory (taken 
 unfolding changed
 fetches new = step_first (Fetch 0 0 (read_of 100 1) (piece_addresses 0x64000 1)) submitted (running_device pages read_memory (taken ∷ second ∷ [])) new
     (record {
-      fetchable = record { st = refl; issued = refl; free = refl };
-      working = record { running = refl; present = refl; fresh = refl; admitted = refl; whole = refl };
+      fetchable = record { st_is_set = refl; issued = refl; free = refl };
+      working = record { cr_is_set = refl; present = refl; fresh = refl; admitted = refl; is_not_broken = refl };
       is_unmixed = λ slot t is. absurd (let x : None ≡ Some t = is in cc);
       says = told.decodes_to;
     })

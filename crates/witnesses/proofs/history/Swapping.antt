@@ -4,14 +4,14 @@ use Rattle.std.proofs.lemmas.Bool.{cond-false, ne_eqb}
 use Rattle.hba_regs.specs.Bits.{bit}
 use Rattle.hba_regs.specs.declared.reg.Reg.TheVariants.{Px}
 use Rattle.hba_regs.specs.declared.reg.PortReg.TheVariants.{Sact, Ci}
-use Rattle.adapter.specs.Access.{Access, DoesAll, PortShows, note}
+use Rattle.adapter.specs.Access.{Access, DoesAll, PortShows, notes_after_reading}
 use Rattle.adapter.specs.Access.Access.{Reading}
 use Rattle.adapter.specs.Commands.{is_queued}
 use Rattle.adapter.specs.Device.{Disk, DevicePort, FetchedCommand, Device}
 use Rattle.adapter.specs.FirstRead.{first_disk_sector}
 use Rattle.adapter.specs.Memory.{changed, patched}
 use Rattle.adapter.specs.Decoding.{DecodesTo, piece_addresses}
-use Rattle.adapter.specs.Steps.{admits, MayBring, IsUnmixed, IsWorking, Steps, begun, done_entry, move_of, port_after_done, port_after_fetch, port_after_move}
+use Rattle.adapter.specs.Steps.{admits, MayBring, IsUnmixed, IsWorking, Steps, newly_fetched, done_entry, move_of, port_after_done, port_after_fetch, port_after_move}
 use Rattle.adapter.specs.Steps.DeviceTransition.{Fetch, Move, Done}
 use Rattle.adapter.specs.declared.command.Operation.TheVariants.{ReadQueued, Trim}
 use Rattle.adapter.specs.declared.tape.Entry.{Entry}
@@ -24,14 +24,14 @@ use Rattle.witnesses.specs.RunningAdapter.{running_device, queueing_page}
 use Rattle.witnesses.proofs.history.Command.{queued_read}
 use Rattle.witnesses.proofs.history.Devices.{but_first, changed_here, no_bit, other_bit, past_first, past_second, put_device, reads, step_first}
 use Rattle.witnesses.proofs.history.Losing.{is_sector}
-use Rattle.witnesses.proofs.history.Queueing.{first_told, neither, second_told, two_issued, two_memory}
+use Rattle.witnesses.proofs.history.Queueing.{first_told, neither, second_told, two_issued, two_reads_memory}
 use Rattle.witnesses.proofs.history.Ready.{Stands}
 use Rattle.witnesses.proofs.history.Submitting.{second, sent}
 
 -- ---- steps on port 0
 
 abbrev pub reads_into : ℕ → ℕ → FetchedCommand
-reads_into k n = begun (queued_read k) (piece_addresses (4096 * n) 1)
+reads_into k n = newly_fetched (queued_read k) (piece_addresses (4096 * n) 1)
 
 -- the sector is moved, and the command ends with a Set Device Bits FIS
 abbrev pub finished : ℕ → ℕ → ℕ → DevicePort → DevicePort
@@ -39,11 +39,11 @@ finished slot k n p = port_after_done (port_after_move p slot (reads_into k n) (
 
 works : (p : DevicePort) → Stands p → IsWorking p ReadQueued
 works p stands = record {
-  running = ap (λ (q : DevicePort). q.cr) stands.same;
+  cr_is_set = ap (λ (q : DevicePort). q.cr) stands.same;
   present = ap (λ (q : DevicePort). q.present) stands.same;
   fresh = ap (λ (q : DevicePort). q.fresh) stands.same;
   admitted = ap (λ (q : DevicePort). admits q.halt ReadQueued) stands.same;
-  whole = ap (λ (q : DevicePort). q.broken) stands.same;
+  is_not_broken = ap (λ (q : DevicePort). q.broken) stands.same;
 }
 
 module _ (tape : List Entry) (memory : ℕ → ℕ) (p : DevicePort) (stands : Stands p) (slot k n : ℕ) where
@@ -52,7 +52,7 @@ module _ (tape : List Entry) (memory : ℕ → ℕ) (p : DevicePort) (stands : S
       → Steps (running_device tape memory (port_after_fetch p slot (queued_read k) (piece_addresses (4096 * n) 1) ∷ second ∷ [])) new → Steps (running_device tape memory (p ∷ second ∷ [])) new
   fetches issued free alone told new = step_first (Fetch 0 slot (queued_read k) (piece_addresses (4096 * n) 1)) (running_device tape memory (p ∷ second ∷ [])) (running_device tape memory (taken ∷ second ∷ [])) new
       (record {
-        fetchable = record { st = ap (λ (q : DevicePort). q.st) stands.same; issued = issued; free = free };
+        fetchable = record { st_is_set = ap (λ (q : DevicePort). q.st) stands.same; issued = issued; free = free };
         working = works p stands;
         is_unmixed = alone;
         says = subst (λ (list : ℕ). DecodesTo memory list slot (queued_read k) (piece_addresses (4096 * n) 1)) (sym (ap (λ (q : DevicePort). q.bases.clb) stands.same)) told.decodes_to;
@@ -96,7 +96,7 @@ module _ (tape : List Entry) (memory : ℕ → ℕ) (p : DevicePort) (stands : S
       memory_moved = patched memory (4096 * n) (first_disk_sector k)
 
       works_moved : IsWorking moved ReadQueued
-      works_moved = let w = works p stands in record { running = w.running; present = w.present; fresh = w.fresh; admitted = w.admitted; whole = w.whole }
+      works_moved = let w = works p stands in record { cr_is_set = w.cr_is_set; present = w.present; fresh = w.fresh; admitted = w.admitted; is_not_broken = w.is_not_broken }
 
       moved_taken : moved.taken slot ≡ Some (record (reads_into k n) { moved = 1 })
       moved_taken = changed_here p.taken slot (Some (record (reads_into k n) { moved = 1 }))
@@ -104,20 +104,20 @@ module _ (tape : List Entry) (memory : ℕ → ℕ) (p : DevicePort) (stands : S
 -- ---- the masks are read
 
 abbrev pub seen : ℕ → ℕ → DevicePort → DevicePort
-seen ci sact p = record p { notes = note Sact sact (record p { notes = note Ci ci p }) }
+seen ci sact p = record p { notes = notes_after_reading Sact sact (record p { notes = notes_after_reading Ci ci p }) }
 
 module _ (old : Device) (tape : List Entry) (memory : ℕ → ℕ) (p : DevicePort) (ci sact : ℕ) (steps : Steps old (running_device tape memory (p ∷ second ∷ []))) (waits : PortShows Ci ci p) (active : PortShows Sact sact p) where
   abbrev masks : List Access
   masks = Reading (Px (port_at 0) Ci) ci ∷ Reading (Px (port_at 0) Sact) sact ∷ []
 
   abbrev with_ci : DevicePort
-  with_ci = record p { notes = note Ci ci p }
+  with_ci = record p { notes = notes_after_reading Ci ci p }
 
   unfoldable reads_masks : DoesAll masks old (running_device tape memory (seen ci sact p ∷ second ∷ []))
   reads_masks = (
     running_device tape memory (with_ci ∷ second ∷ []),
     record {
-      mid = running_device tape memory (p ∷ second ∷ []);
+      at_access = running_device tape memory (p ∷ second ∷ []);
       steps = steps;
       shows = waits;
       effect = put_device tape memory 0 (p ∷ second ∷ []) (with_ci ∷ second ∷ []) with_ci refl (but_first p with_ci (second ∷ []));
@@ -132,7 +132,7 @@ module _ (old : Device) (tape : List Entry) (memory : ℕ → ℕ) (p : DevicePo
   -- and that keeps to the rules
   pub finds : (does : DoesAll masks old (running_device tape memory (seen ci sact p ∷ second ∷ []))) × AreAllowed masks old (running_device tape memory (seen ci sact p ∷ second ∷ [])) does
   unfolding reads_masks reads
-  finds = (reads_masks, ((record { ae = refl; no_reset = refl }, (omega arith, refl)), ((record { ae = refl; no_reset = refl }, (omega arith, refl)), tt)))
+  finds = (reads_masks, ((record { ae_is_set = refl; no_reset = refl }, (omega arith, refl)), ((record { ae_is_set = refl; no_reset = refl }, (omega arith, refl)), tt)))
 
 -- ---- both are taken
 
@@ -226,7 +226,7 @@ abbrev pub pages : List Entry
 pages = sent queueing_page
 
 abbrev pub swapped_memory : ℕ → ℕ
-swapped_memory = patched two_memory (4096 * 101) (first_disk_sector 101)
+swapped_memory = patched two_reads_memory (4096 * 101) (first_disk_sector 101)
 
 abbrev pub swapped : Device
 swapped = running_device (pages ++ ends 1 101 101) swapped_memory (found ∷ second ∷ [])
@@ -235,7 +235,7 @@ abbrev pub ended : Device
 ended = running_device (pages ++ (ends 1 101 101 ++ ends 0 100 100)) (patched swapped_memory (4096 * 100) (first_disk_sector 100)) (found_again ∷ second ∷ [])
 
 abbrev issued_device : Device
-issued_device = running_device pages two_memory (two_issued ∷ second ∷ [])
+issued_device = running_device pages two_reads_memory (two_issued ∷ second ∷ [])
 
 abbrev second_ended : Device
 second_ended = running_device (pages ++ ends 1 101 101) swapped_memory (second_done ∷ second ∷ [])
@@ -248,11 +248,11 @@ stays d = record { steps = []; lead = refl }
 
 second_ends : Steps issued_device second_ended
 second_ends =
-    fetches pages two_memory two_issued (record { same = refl; quiet = λ place from. refl }) 0 100 100
+    fetches pages two_reads_memory two_issued (record { same = refl; quiet = λ place from. refl }) 0 100 100
     refl refl (λ slot t is. absurd (let x : None ≡ Some t = is in cc)) first_told second_ended
-    (fetches pages two_memory first_taken (record { same = refl; quiet = λ place from. refl }) 1 101 101
+    (fetches pages two_reads_memory first_taken (record { same = refl; quiet = λ place from. refl }) 1 101 101
     (past_first two_issued.ci false 0) (past_first two_issued.taken (Some (reads_into 100 100)) 0) beside second_told second_ended
-    (finishes pages two_memory both_taken (record { same = refl; quiet = λ place from. refl }) 1 101 101
+    (finishes pages two_reads_memory both_taken (record { same = refl; quiet = λ place from. refl }) 1 101 101
     (changed_here first_taken.taken 1 (Some (reads_into 101 101))) (omega arith) second_ended (stays second_ended)))
 
 first_ends : Steps swapped first_ended

@@ -7,8 +7,8 @@ use Rattle.ata_types.specs.declared.request.RequestId.{RequestId}
 use Rattle.adapter.specs.Device.{Device}
 use Rattle.adapter.specs.Decoding.{piece_addresses}
 use Rattle.refinement.specs.Acts.{DriverSlots}
-use Rattle.refinement.specs.Relation.{ServeApart, port_at}
-use Rattle.refinement.specs.TwoReads.{second_id}
+use Rattle.refinement.specs.Relation.{ServeDistinctRequests, port_at}
+use Rattle.refinement.specs.TwoReadsWitness.{second_id}
 use Rattle.refinement.specs.Slots.{Free, RelatesSlot, Serves, IsInSomeStage, SlotStates}
 use Rattle.refinement.specs.ReadWitness.{first_id}
 use Rattle.block_machine.specs.DueRequests.{IsDue, is_plain}
@@ -28,7 +28,7 @@ use Rattle.witnesses.proofs.history.Issuing as issued_on
 use Rattle.witnesses.proofs.history.Issuing.{IsIssued, Submission, accepted_as, reading}
 use Rattle.witnesses.proofs.history.Members.{either, nowhere, only}
 use Rattle.witnesses.proofs.history.Pages.{queueing_disks}
-use Rattle.witnesses.proofs.history.Queueing.{first_told, neither, one_issued, one_memory, one_submits, one_told, one_zeros, queue_accesses, queues, second_told, two_issued, two_memory, two_submits, two_zeros}
+use Rattle.witnesses.proofs.history.Queueing.{first_told, neither, one_issued, one_memory, one_submits, one_told, one_zeros, queue_accesses, queues, second_told, two_issued, two_reads_memory, two_submits, two_zeros}
 use Rattle.witnesses.proofs.history.Ready.{Agreeing, Stands, granted, instant_with, no_page, start}
 use Rattle.witnesses.proofs.history.Serving.{HasOne, agrees_one, none_due, serves_one, outstanding_as}
 use Rattle.witnesses.proofs.history.Swapping.{pages}
@@ -65,7 +65,7 @@ two_uses zero (suc (suc slot)) = Free
 two_uses (suc port) slot = Free
 
 abbrev pub two_slots : DriverSlots
-two_slots = record { uses = two_uses; parked = λ port. [] }
+two_slots = record { slot_states = two_uses; awaiting_disposition = λ port. [] }
 
 abbrev pub submission_two : Submission
 submission_two = record {
@@ -74,7 +74,7 @@ submission_two = record {
   slots = first_slots;
   slots_then = two_slots;
   memory = one_memory;
-  memory_then = two_memory;
+  memory_then = two_reads_memory;
   port = one_issued;
   port_then = two_issued;
   id = second_id;
@@ -87,10 +87,10 @@ abbrev pub both_issuing : Machine
 both_issuing = issued_on.issuing submission_two
 
 abbrev pub held : ℕ → Block
-held = (issued_on.accepted submission_one).held_blocks
+held = (issued_on.accepted submission_one).blocks_at_acceptance
 
 abbrev pub held_too : ℕ → Block
-held_too = (issued_on.accepted submission_two).held_blocks
+held_too = (issued_on.accepted submission_two).blocks_at_acceptance
 
 abbrev pub outstanding_first : Pending
 outstanding_first = outstanding_as first_id 100 100 held
@@ -115,8 +115,8 @@ has_one = record {
   first = refl;
   kind = refl;
   told = one_told;
-  stage = inl (record { started = refl; issued = refl; free = refl; sact = refl; block = tt; untouched = λ i. sym (le-ltb i 0 (omega arith)); unended = refl });
-  others = λ slot. record { issued = other_bit (suc slot) (omega arith); free = refl; unarmed = other_bit (suc slot) (omega arith) };
+  stage = inl (record { started = refl; issued = refl; is_not_taken = refl; sact = refl; has_block_if_trim = tt; untouched = λ i. sym (le-ltb i 0 (omega arith)); unended = refl });
+  others = λ slot. record { is_not_issued = other_bit (suc slot) (omega arith); is_not_taken = refl; unarmed = other_bit (suc slot) (omega arith) };
   frames = λ f b from small. one_zeros f b from;
 }
 
@@ -151,19 +151,19 @@ in_book e here = either outstanding_first outstanding_second e here
 pub each_has : (P : Pending → Type 0) → P outstanding_first → P outstanding_second → (e : Pending) → Contains both_issuing.book e → P e
 each_has P a b e here = ⊎_elim (λ (is : e ≡ outstanding_first). subst P (sym is) a) (λ (is : e ≡ outstanding_second). subst P (sym is) b) (in_book e here)
 
-waits_in : (k n slot : ℕ) (id : RequestId) (block : ℕ → Block) → two_issued.ci slot ≡ true → two_issued.sact slot ≡ true → IsInSomeStage two_memory two_issued 0 slot (outstanding_as id k n block) (queued_read k) (piece_addresses (4096 * n) 1)
-waits_in k n slot id block issued active = inl (record { started = refl; issued = issued; free = refl; sact = active; block = tt; untouched = λ i. sym (le-ltb i 0 (omega arith)); unended = refl })
+waits_in : (k n slot : ℕ) (id : RequestId) (block : ℕ → Block) → two_issued.ci slot ≡ true → two_issued.sact slot ≡ true → IsInSomeStage two_reads_memory two_issued 0 slot (outstanding_as id k n block) (queued_read k) (piece_addresses (4096 * n) 1)
+waits_in k n slot id block issued active = inl (record { started = refl; issued = issued; is_not_taken = refl; sact = active; has_block_if_trim = tt; untouched = λ i. sym (le-ltb i 0 (omega arith)); unended = refl })
 
-two_serve : (slot : ℕ) → RelatesSlot both_issuing two_memory pages two_issued 0 slot (two_uses 0 slot)
-two_serve zero = serves_one both_issuing two_memory two_issued 0 (queued_read 100) first_id 100 100 held 0 refl (omega arith) (0, omega arith, refl) refl refl first_told (waits_in 100 100 0 first_id held refl refl)
-two_serve (suc zero) = serves_one both_issuing two_memory two_issued 1 (queued_read 101) second_id 101 101 held_too 0 refl (omega arith) (1, omega arith, refl) refl refl second_told (waits_in 101 101 1 second_id held_too refl refl)
-two_serve (suc (suc slot)) = record { issued = neither slot; free = refl; unarmed = neither slot }
+two_serve : (slot : ℕ) → RelatesSlot both_issuing two_reads_memory pages two_issued 0 slot (two_uses 0 slot)
+two_serve zero = serves_one both_issuing two_reads_memory two_issued 0 (queued_read 100) first_id 100 100 held 0 refl (omega arith) (0, omega arith, refl) refl refl first_told (waits_in 100 100 0 first_id held refl refl)
+two_serve (suc zero) = serves_one both_issuing two_reads_memory two_issued 1 (queued_read 101) second_id 101 101 held_too 0 refl (omega arith) (1, omega arith, refl) refl refl second_told (waits_in 101 101 1 second_id held_too refl refl)
+two_serve (suc (suc slot)) = record { is_not_issued = neither slot; is_not_taken = refl; unarmed = neither slot }
 
 pub not_second : first_id ≡ second_id → ⊥
 not_second same = let n : 1 ≡ 2 = ap (λ (id : RequestId). id.0) same in omega (arith, n)
 
 -- no two slots serve the same
-two_apart : ServeApart two_uses
+two_apart : ServeDistinctRequests two_uses
 two_apart zero zero zero zero id u v = (refl, refl)
 two_apart zero (suc zero) zero (suc zero) id u v = (refl, refl)
 two_apart zero zero zero (suc zero) id u v = absurd (let x : Serves first_id ≡ Serves second_id = u ∙ sym v in not_second cc)
@@ -197,11 +197,11 @@ two_requests = record {
     kind_of = each_has (λ x. true ≡ not (is_plain queued_disk_mode x.request.asked.op)) refl refl
 
     kinds : (slot : ℕ) (e : Pending) → Contains both_issuing.book e → two_uses 0 slot ≡ Serves e.request.id → IsQueuedAsAsked queued_disk_mode (issued_on.submitted_at submission_two).device 0 slot e
-    kinds zero e here u = record { command = queued_read 100; places = piece_addresses 0x64000 1; slot_decodes_to = first_told; kind = kind_of e here }
-    kinds (suc zero) e here u = record { command = queued_read 101; places = piece_addresses 0x65000 1; slot_decodes_to = second_told; kind = kind_of e here }
+    kinds zero e here u = record { command = queued_read 100; places = piece_addresses 0x64000 1; slot_decodes_to = first_told; is_queued_if_not_plain = kind_of e here }
+    kinds (suc zero) e here u = record { command = queued_read 101; places = piece_addresses 0x65000 1; slot_decodes_to = second_told; is_queued_if_not_plain = kind_of e here }
     kinds (suc (suc slot)) e here u = absurd (let x : Free ≡ Serves e.request.id = u in cc)
 
-pub two_agree : Agreeing queueing_disks two_slots both_issuing [] two_memory two_issued
+pub two_agree : Agreeing queueing_disks two_slots both_issuing [] two_reads_memory two_issued
 two_agree = record {
   stands = two_stands;
   disks = (refl, refl, refl, refl);
@@ -234,7 +234,7 @@ due_second port r here at_port = ⊎_elim
     Right x = IsIssuedIn x.id (issued_on.submit_steps submission_two) ↔ IsDue queued_disk_mode (unanswered outstanding_first ∷ unanswered waits_second ∷ []) x
 
 pub issued_second : IsIssued submission_two
-unfolding two_memory
+unfolding two_reads_memory
 issued_second = record {
   stands = one_stands;
   agreeing = two_agree;

@@ -4,7 +4,7 @@ use ata_types::{
     ClientId, Frame, FrameFault, GrantRow, MemFault, Op, Port, PortState, Refusal, Request,
     RequestId, Rights, Rule, Sector,
 };
-use machine_rules::{PortShown, ReferenceSituation};
+use machine_rules::{ReferenceSituation, ShownPort};
 use std::process::Abort;
 
 fn request(
@@ -47,11 +47,11 @@ fn row(client: u8, first: u64, count: u64, all: bool) -> GrantRow {
 }
 
 /// Port 0 alone, as it is told.
-fn port(rt: &impl Abort, state: PortState, sectors: u64, trims: bool) -> ArrayVec<PortShown, 4> {
-    let shown = PortShown {
+fn port(rt: &impl Abort, state: PortState, sectors: u64, trims: bool) -> ArrayVec<ShownPort, 4> {
+    let shown = ShownPort {
         state,
         sectors,
-        trims,
+        zeroes_after_trim: trims,
     };
     let mut ports = ArrayVec::new();
     assert!(rt; ports.try_push(shown).is_ok());
@@ -82,8 +82,8 @@ fn tables(rt: &impl Abort) -> ReferenceSituation {
         owners,
         lent,
         ports: port(rt, PortState::Ready, 70_000, true),
-        unanswered: ArrayVec::new(),
-        last: 0,
+        unanswered_clients: ArrayVec::new(),
+        last_id: 0,
     }
 }
 
@@ -119,10 +119,10 @@ fn set(rt: &impl Abort, setting: Setting) -> ReferenceSituation {
         Setting::Lent => lend(rt, &mut tables, 77, 1),
         Setting::Unanswered(count) => {
             for _ in 0..count {
-                assert!(rt; tables.unanswered.try_push(ClientId(1)).is_ok());
+                assert!(rt; tables.unanswered_clients.try_push(ClientId(1)).is_ok());
             }
         }
-        Setting::Last(id) => tables.last = id,
+        Setting::Last(id) => tables.last_id = id,
         Setting::Shown(state, sectors, trims) => tables.ports = port(rt, state, sectors, trims),
         Setting::NoPort => tables.ports = ArrayVec::new(),
         Setting::Granted(sectors) => {

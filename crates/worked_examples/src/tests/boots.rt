@@ -263,7 +263,7 @@ fn tell<A: Stepped>(adapter: &mut A, step: &DeviceStep)
 /// Takes an adapter over: what port 0 is found to be, and what the register shows then, one of CAP, PI and VS.
 fn taken_over<A: Adapter>(adapter: &mut A, r: Reg) -> (ProbeResult, u32)
     requires idle { IsIdle (A.device adapter.old) }
-    requires room { DRIVER_BYTES ≤ (A.device adapter.old).size }
+    requires room { DRIVER_BYTES ≤ (A.device adapter.old).memory_size }
 {
     let host = take_over(adapter, &IMAGE_DISK);
     let shown = match r {
@@ -278,7 +278,7 @@ fn taken_over<A: Adapter>(adapter: &mut A, r: Reg) -> (ProbeResult, u32)
 fn model(alloc: Global, pi: u8) -> Result<Model<MemStore>, Fail>
     requires { (1 ≤ pi) × (pi ≤ 15) }
     ensures idle { IfOk result (λ m. IsIdle (⟦<Model<MemStore> as Adapter>⟧.device m)) }
-    ensures room { IfOk result (λ m. DRIVER_BYTES ≤ (⟦<Model<MemStore> as Adapter>⟧.device m).size) }
+    ensures room { IfOk result (λ m. DRIVER_BYTES ≤ (⟦<Model<MemStore> as Adapter>⟧.device m).memory_size) }
 {
     let config = ModelConfig {
         frames: FEWEST_FRAMES,

@@ -171,7 +171,7 @@ fn due_requests_are_told(rt: HostRuntime) {
     for (name, queued, usable, book, want) in DUE {
         let mode = QueueMode {
             queued: *queued,
-            usable: *usable,
+            usable_slots: *usable,
         };
         assert_eq!(rt; due_ids(&rt, mode, book).as_slice(), *want, "{name}");
     }

@@ -30,7 +30,7 @@ fn request(id: u64) -> PendingRequest
             count: 8,
         },
         issued: false,
-        issues: 0,
+        issue_count: 0,
         age: 0,
         revoked: false,
     }
@@ -60,7 +60,7 @@ fn is_due(turn: usize, usable: usize) -> bool
 fn due_as_wanted(book: &Book, usable: u8) -> bool {
     let mode = QueueMode {
         queued: true,
-        usable: usable.min(32),
+        usable_slots: usable.min(32),
     };
     for port in 0..4u8 {
         let mut due = DueIds::new();

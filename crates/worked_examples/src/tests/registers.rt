@@ -9,7 +9,7 @@ use hba_regs::{
 fn bits_of_the_adapter(rt: HostRuntime) {
     let control = GlobalControl(0x8000_0001);
     assert_eq!(rt;
-        (control.is_resetting(), control.is_enabled()),
+        (control.is_resetting(), control.is_ahci_enabled()),
         (true, true)
     );
     let capabilities = Capabilities(0x4000_1f03);
@@ -74,7 +74,7 @@ fn interrupt_causes(rt: HostRuntime) {
     assert!(rt;
         causes.has_interface_fatal_error()
             && causes.has_phy_ready_change()
-            && causes.has_port_change()
+            && causes.has_port_connect_change()
     );
 }
 

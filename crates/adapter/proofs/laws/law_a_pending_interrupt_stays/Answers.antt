@@ -7,8 +7,8 @@ returns-clause-steps c = steps_pend
 pub returns-clause-accesses : goal.returns-clause-accesses
 returns-clause-accesses c = accesses_pend
 
-pub returns-clause-shown : goal.returns-clause-shown
-returns-clause-shown c = pending_shown
+pub returns-clause-is_reading_shows_pending : goal.returns-clause-is_reading_shows_pending
+returns-clause-is_reading_shows_pending c = pending_shown
 
-pub returns-clause-cleared : goal.returns-clause-cleared
-returns-clause-cleared c = pending_cleared
+pub returns-clause-is_write_leaves_raised : goal.returns-clause-is_write_leaves_raised
+returns-clause-is_write_leaves_raised c = pending_cleared

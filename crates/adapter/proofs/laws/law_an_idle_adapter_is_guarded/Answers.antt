@@ -4,5 +4,5 @@ use Rattle.adapter.proofs.laws.law_an_idle_adapter_is_guarded.Goals as goal
 pub returns-clause-guarded : goal.returns-clause-guarded
 returns-clause-guarded c = idle_guarded
 
-pub returns-clause-free : goal.returns-clause-free
-returns-clause-free c = idle_free
+pub returns-clause-bytes_are_unowned : goal.returns-clause-bytes_are_unowned
+returns-clause-bytes_are_unowned c = idle_free

@@ -14,7 +14,7 @@ returns-clause-causes_are_enabled c = (refl, named_enabled)
 pub returns-clause-flush_may_end : goal.returns-clause-flush_may_end
 unfolding changed
 returns-clause-flush_may_end c = record {
-  works = record { taken = refl; working = record { running = refl; present = refl; fresh = refl; admitted = refl; whole = refl } };
+  works = record { taken = refl; working = record { cr_is_set = refl; present = refl; fresh = refl; admitted = refl; is_not_broken = refl } };
   finished = record { all_is_moved = refl; all_is_cleared = λ e. refl };
   cause_is_allowed = inl refl;
 }

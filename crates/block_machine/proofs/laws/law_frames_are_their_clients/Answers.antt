@@ -12,5 +12,5 @@ returns-clause-acceptable c = λ s r acceptable i d small.
     owned (s.owner (get_or r.frames.items i d)) r.client
     (λ other. acceptable (Rule (Frames (ForeignOf i))) (get_or r.frames.items i d, slice_get-get_or r.frames.items i d small, other))
 
-pub returns-clause-open : goal.returns-clause-open
-returns-clause-open c = λ owner lent client frame offset count opens. owned (owner frame) client (opens FrameForeign)
+pub returns-clause-accessible : goal.returns-clause-accessible
+returns-clause-accessible c = λ owner lent client frame offset count opens. owned (owner frame) client (opens FrameForeign)

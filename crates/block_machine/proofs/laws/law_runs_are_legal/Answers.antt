@@ -1,7 +1,7 @@
 use Rattle.block_machine.specs.Steps.{Touch, Issue}
 use Rattle.block_machine.proofs.Accepts.{law_touch_is_confined}
 use Rattle.block_machine.proofs.EventLemmas.{run_starts, run_legal, moment_is, step_of_run}
-use Rattle.block_machine.proofs.Ruled.{law_issues_keep_the_rules}
+use Rattle.block_machine.proofs.Ruled.{law_issues_keep_rules_but_frames}
 use Rattle.block_machine.proofs.laws.law_runs_are_legal.Goals as goal
 
 pub returns-clause-legal : goal.returns-clause-legal
@@ -15,4 +15,4 @@ returns-clause-touches g c first run late early e i block r split =
 pub returns-clause-issues : goal.returns-clause-issues
 returns-clause-issues g c first run late early mode e r split =
     let s = step_of_run first run late (Issue mode e) early r split in
-    law_issues_keep_the_rules first.machine early mode e (run_starts first run r) s.0 s.1
+    law_issues_keep_rules_but_frames first.machine early mode e (run_starts first run r) s.0 s.1

@@ -4,8 +4,8 @@ use Rattle.block_machine.proofs.laws.law_steps_change_what_is_due.Goals as goal
 pub returns-clause-issue : goal.returns-clause-issue
 returns-clause-issue c m mode e = asks_issued m.book e.request.id
 
-pub returns-clause-again : goal.returns-clause-again
-returns-clause-again c m e = asks_waiting m.book e.request.id
+pub returns-clause-wait_again : goal.returns-clause-wait_again
+returns-clause-wait_again c m e = asks_waiting m.book e.request.id
 
 pub returns-clause-answer : goal.returns-clause-answer
 returns-clause-answer c m e outcome = asks_gone m.book e.request.id

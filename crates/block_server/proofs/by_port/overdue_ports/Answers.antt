@@ -1,16 +1,16 @@
 use Rattle.std.proofs.Common.{ℕ, ◌≡◌, ◌↔◌, List, Bool, false, IsTrue, sym, ◌∙◌}
 use Rattle.std.proofs.lemmas.Bool.{false≢true}
 use Rattle.refinement.specs.Relation.{port_at}
-use Rattle.request_queue.specs.BookEntries.{BookEntry, IsAnyOverdue, IsOverdue}
+use Rattle.request_queue.specs.BookEntries.{BookEntry, HasAnyOverdue, HasOverdueOn}
 use Rattle.block_server.proofs.Four.{of_four}
 use Rattle.block_server.proofs.by_port.overdue_ports.Goals as goal
 
 -- it is told of a port whether a request of it is overdue
 abbrev IsTold : List BookEntry → ℕ → Bool → Type 0
-IsTold book number overdue = IsTrue overdue ↔ IsOverdue (port_at number) book
+IsTold book number overdue = IsTrue overdue ↔ HasOverdueOn (port_at number) book
 
 -- where none is overdue, none of a port is
-none : (book : List BookEntry) (any_overdue : Bool) → any_overdue ≡ false → IsTrue any_overdue ↔ IsAnyOverdue book → (number : ℕ) → IsTrue false ↔ IsOverdue (port_at number) book
+none : (book : List BookEntry) (any_overdue : Bool) → any_overdue ≡ false → IsTrue any_overdue ↔ HasAnyOverdue book → (number : ℕ) → IsTrue false ↔ HasOverdueOn (port_at number) book
 none book any_overdue is tells number = ((λ yes. absurd (false≢true yes)), (λ one. absurd (false≢true (sym is ∙ tells.1 (port_at number, one)))))
 
 pub returns-then-not-any_overdue : goal.returns-then-not-any_overdue

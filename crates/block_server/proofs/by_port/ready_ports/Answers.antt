@@ -8,17 +8,17 @@ use Rattle.port_driver.specs.declared.served_port.ServedPort.{ServedPort}
 use Rattle.block_server.proofs.by_port.ready_ports.Goals as goal
 
 -- what is told of each of four ports is told by port: of another it is that it isn't ready
-four : (ports : List ServedPort) (a b c d : Bool) → length ports ≡ 4 → a ≡ is_ready (port_in ports 0).found → b ≡ is_ready (port_in ports 1).found → c ≡ is_ready (port_in ports 2).found
-    → d ≡ is_ready (port_in ports 3).found → (number : ℕ) → get_or (a ∷ b ∷ c ∷ d ∷ []) number false ≡ is_ready (port_in ports number).found
+four : (ports : List ServedPort) (a b c d : Bool) → length ports ≡ 4 → a ≡ is_ready (port_in ports 0).probe_result → b ≡ is_ready (port_in ports 1).probe_result → c ≡ is_ready (port_in ports 2).probe_result
+    → d ≡ is_ready (port_in ports 3).probe_result → (number : ℕ) → get_or (a ∷ b ∷ c ∷ d ∷ []) number false ≡ is_ready (port_in ports number).probe_result
 four ports a b c d long first second third fourth zero = first
 four ports a b c d long first second third fourth (suc zero) = second
 four ports a b c d long first second third fourth (suc (suc zero)) = third
 four ports a b c d long first second third fourth (suc (suc (suc zero))) = fourth
-four ports a b c d long first second third fourth (suc (suc (suc (suc more)))) = sym (ap (λ (p : ServedPort). is_ready p.found) (get_or-eq_default ports no_port (omega (arith, long))))
+four ports a b c d long first second third fourth (suc (suc (suc (suc more)))) = sym (ap (λ (p : ServedPort). is_ready p.probe_result) (get_or-eq_default ports no_port (omega (arith, long))))
 
 -- the port at this place
-at : (ports : List ServedPort) (number : ℕ) (default : ServedPort) → number < length ports → is_ready (get_or ports number default).found ≡ is_ready (port_in ports number).found
-at ports number default low = ap (λ (p : ServedPort). is_ready p.found) (get_or_default ports number default no_port low)
+at : (ports : List ServedPort) (number : ℕ) (default : ServedPort) → number < length ports → is_ready (get_or ports number default).probe_result ≡ is_ready (port_in ports number).probe_result
+at ports number default low = ap (λ (p : ServedPort). is_ready p.probe_result) (get_or_default ports number default no_port low)
 
 pub returns : goal.returns
 returns c = λ port.

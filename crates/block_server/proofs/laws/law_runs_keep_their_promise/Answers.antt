@@ -9,7 +9,7 @@ returns g c =
       rest = c.law_answers_justified.ensures;
       moves = c.law_moves_keep_to_their_places.ensures;
       run = c.law_histories_are_runs.ensures;
-      reads = c.law_reads_hold.ensures;
+      reads = c.law_reads_hold_if_disks_tell.ensures;
       lasts = c.law_replugs_keep_flushed_writes.ensures;
     } in
     record { no_calls = no_call laws g.A.Adapter.device; one_call = one_call laws g.A.Adapter.device; calls_join = more_calls laws g.A.Adapter.device }

@@ -4,7 +4,7 @@ use Rattle.std.proofs.Math.ListN.{get_or-map}
 use Rattle.std.proofs.lemmas.List.{drop_all, get_or_default, length-map, map-set, take_all}
 use Rattle.std.proofs.lemmas.List.Edits.{map_over_more}
 use Rattle.dma_frames.specs.Loan.{Lending}
-use Rattle.server_history.specs.KeptLoans.{TakesBack}
+use Rattle.server_history.specs.KeptLoans.{GivesBackLoans}
 use Rattle.server_history.specs.ServerState.{DifferInRequest, IsLentOut, quarantined_at}
 use Rattle.block_server.specs.FourPorts.{by_port, without_loans}
 use Rattle.port_driver.specs.PortAndShared.{no_port}
@@ -30,8 +30,8 @@ give_back-requires-clause-lent c =
     subst (All (IsLentOut c.loop-number.table)) (kept_there ports number _ (let long = four ports so_far.four in let low = c.loop-number-test.true in omega (arith, long, low)))
     (next_out c.law_loans_end_in_turn.ensures (by_port (λ p. p.kept) c.args.ports.now) (by_port (λ p. p.kept) ports) c.args.table.now c.loop-number.table number c.requires so_far.back (so_far.left number (omega arith)))
 
-pub give_back-requires-clause-apart : goal.give_back-requires-clause-apart
-give_back-requires-clause-apart c =
+pub give_back-requires-clause-loans_differ_in_request : goal.give_back-requires-clause-loans_differ_in_request
+give_back-requires-clause-loans_differ_in_request c =
     let so_far = c.loop-number.invariant.back in
     let ports = c.loop-number.ports in
     let number = c.loop-number.number in
@@ -61,7 +61,7 @@ loop-number-preserved c =
       back = subst B (sym (map-set (λ (p : ServedPort). p.kept) ports number (record (get_or ports number c.index-ports-number.result) { kept = c.give_back.new.self })
           ∙ ap (set (by_port (λ p. p.kept) ports) number) c.give_back.ensures.empty))
           (next_so_far c.law_loans_end_in_turn.ensures first (by_port (λ p. p.kept) ports) c.args.table.now c.loop-number.table c.give_back.new.table number c.requires so_far low
-          (subst (λ (loans : List Lending). TakesBack c.loop-number.table c.give_back.new.table (Contains loans)) here c.give_back.ensures.back));
+          (subst (λ (loans : List Lending). GivesBackLoans c.loop-number.table c.give_back.new.table (Contains loans)) here c.give_back.ensures.takes_loans_back));
       ports = next c.args.ports.now ports number c.index-ports-number.result c.give_back.new.self (omega (arith, told, low)) small c.give_back.ensures.empty c.loop-number.invariant.ports;
     }
 
@@ -75,7 +75,7 @@ returns-clause-ports c =
     ∙ (λ i. map without_loans (take_all number old (omega (arith, past, told)) i) ++ drop_all number old (omega (arith, past, told)) i)
     ∙ append-nil (map without_loans old)
 
-pub returns-clause-back : goal.returns-clause-back
-returns-clause-back c =
+pub returns-clause-takes_kept_loans_back : goal.returns-clause-takes_kept_loans_back
+returns-clause-takes_kept_loans_back c =
     all_taken (by_port (λ p. p.kept) c.args.ports.now) (by_port (λ p. p.kept) c.loop-number.ports) c.args.table.now c.loop-number.table c.loop-number.number c.loop-number.invariant.back
     (length-map c.args.ports.now (λ (p : ServedPort). p.kept) ∙ c.told-ports) (let past = c.loop-number-test.false in omega (arith, past))

@@ -7,7 +7,7 @@ use Rattle.block_server.proofs.Becoming.{all_become, none_yet, one_more}
 use Rattle.block_server.proofs.resetting.note_stuck_reset.Goals as goal
 
 abbrev GetsStuck : ServedPort → ServedPort → Type 0
-GetsStuck old new = NotesProbeResult (found_after_stuck_reset old.found) plain_mode old new
+GetsStuck old new = NotesProbeResult (found_after_stuck_reset old.probe_result) plain_mode old new
 
 pub loop-number-init : goal.loop-number-init
 loop-number-init c = none_yet (λ number old new. GetsStuck old new) c.args.ports.now c.told-ports

@@ -4,7 +4,7 @@ use Rattle.std.proofs.Math.Seq.{map-set_same}
 use Rattle.ata_types.specs.declared.request.Reply.{Reply}
 use Rattle.refinement.specs.Relation.{port_at}
 use Rattle.block_server.specs.FourPorts.{by_port}
-use Rattle.block_server.specs.FieldView.{with_ports}
+use Rattle.block_server.specs.ServerFieldsView.{with_ports}
 use Rattle.port_driver.specs.declared.served_port.ServedPort.{ServedPort}
 use Rattle.server_history.specs.Resets.{MayResolve, ResolvesPort}
 use Rattle.server_history.specs.ServerState.{ServerState}
@@ -22,13 +22,13 @@ loop-number-init c = record {
   room = c.requires.room;
 }
 
-pub resolve_after_reset-requires-clause-settle : goal.resolve_after_reset-requires-clause-settle
-resolve_after_reset-requires-clause-settle c =
+pub resolve_after_reset-requires-clause-may_resolve : goal.resolve_after_reset-requires-clause-may_resolve
+resolve_after_reset-requires-clause-may_resolve c =
     let so_far = c.loop-number.invariant in
-    let s = c.requires.settle.0 in
+    let s = c.requires.may_resolve.0 in
     let low : c.loop-number.number < length c.loop-number.ports = let four = so_far.four in let small = c.loop-number-test.true in omega (arith, four, small) in (
       with_ports s s.device c.loop-number.shared c.loop-number.ports,
-      so_far.settle s c.requires.settle.1,
+      so_far.settle s c.requires.may_resolve.1,
       placing.has_parts s s.device c.loop-number.shared c.loop-number.ports c.loop-number.number c.index-ports-number.result low,
     )
 
@@ -45,7 +45,7 @@ module _ (c : After-resolve_after_reset) (s : ServerState) (may : MayResolve (wi
 
   settled : (its : List Reply) × (c.resolve_after_reset.new.replies.items ≡ c.loop-number.replies.items ++ its) × ResolvesPort (port_at c.loop-number.number) its now after
   settled =
-      let one = c.resolve_after_reset.ensures.settles now may (placing.has_parts s s.device c.loop-number.shared c.loop-number.ports c.loop-number.number c.index-ports-number.result low) in (
+      let one = c.resolve_after_reset.ensures.resolves_port now may (placing.has_parts s s.device c.loop-number.shared c.loop-number.ports c.loop-number.number c.index-ports-number.result low) in (
         one.0,
         one.1,
         subst (ResolvesPort (port_at c.loop-number.number) one.0 now)
@@ -60,13 +60,13 @@ loop-number-preserved c =
     let four = so_far.four in
     let small = c.loop-number-test.true in
     let low : number < length ports = omega (arith, four, small) in
-    let found = by_port (λ p. p.found) c.args.ports.now in
+    let found = by_port (λ p. p.probe_result) c.args.ports.now in
     let told = c.told-ports in
-    let long = length-map c.args.ports.now (λ (p : ServedPort). p.found) in
+    let long = length-map c.args.ports.now (λ (p : ServedPort). p.probe_result) in
     let at = (goal.at.loop-number-preserved c).After-resolve_after_reset in
     record {
       four = length-set ports number c.resolve_after_reset.new.self ∙ four;
-      found = map-set_same (λ (p : ServedPort). p.found) ports number c.resolve_after_reset.new.self c.index-ports-number.result (ap (λ (p : ServedPort). p.found) c.resolve_after_reset.ensures.rest) ∙ so_far.found;
+      found = map-set_same (λ (p : ServedPort). p.probe_result) ports number c.resolve_after_reset.new.self c.index-ports-number.result (ap (λ (p : ServedPort). p.probe_result) c.resolve_after_reset.ensures.only_quarantine_changes) ∙ so_far.found;
       settle = λ s may.
           let one = settled at s (so_far.settle s may) low in
           c.law_may_resolve_persists.ensures (now at s (so_far.settle s may) low) (after at s (so_far.settle s may) low) (port_at number) one.0 small (so_far.settle s may) one.2;
@@ -78,13 +78,13 @@ loop-number-preserved c =
       room = c.resolve_after_reset.ensures.room;
     }
 
-pub returns-clause-settles : goal.returns-clause-settles
-returns-clause-settles c = λ s may.
+pub returns-clause-resolves_ports : goal.returns-clause-resolves_ports
+returns-clause-resolves_ports c = λ s may.
     let now = with_ports s s.device c.loop-number.shared c.loop-number.ports in
-    let long = length-map c.args.ports.now (λ (p : ServedPort). p.found) in
+    let long = length-map c.args.ports.now (λ (p : ServedPort). p.probe_result) in
     let four = c.told-ports in
     let large = c.loop-number-test.false in
-    let all = c.loop-number.invariant.rest s may [] now (reviving.none_to_settle (by_port (λ p. p.found) c.args.ports.now) c.loop-number.number (omega (arith, long, four, large)) now) in
+    let all = c.loop-number.invariant.rest s may [] now (reviving.none_to_settle (by_port (λ p. p.probe_result) c.args.ports.now) c.loop-number.number (omega (arith, long, four, large)) now) in
     (all.0, sym (append-nil c.loop-number.replies.items) ∙ all.1, all.2)
 
 pub returns-clause-found : goal.returns-clause-found

@@ -6,6 +6,6 @@ returns g c = record {
   model = c.play-finished.result.model;
   printed = g.W.Write.contents c.play-finished.new.out;
   ends = c.play-finished.ensures;
-  keeps = c.flush_output.ensures.keeps;
-  tells = c.flush_output.ensures.tells;
+  output_is_kept = c.flush_output.ensures.keeps;
+  tells_end = c.flush_output.ensures.tells;
 }

@@ -14,7 +14,7 @@ write-requires g c =
     let q = c.requires in
     let table = c.write_table.ensures in
     (c.law_writing_issues.ensures c.args.port false (batch_of_one 0 (flush_task nowhere) []) _ _ _
-    (armed_flush c.args.port nowhere [] _ _ _ q.may.adapter_is_on q.may.has_port q.may.machine_is_related q.may.list_runs c.bit_of-own.ensures table.followed (table.says flush [] (flush_table _ c.flush_command.ensures)))).0
+    (armed_flush c.args.port nowhere [] _ _ _ q.may.adapter_is_on q.may.has_port q.may.machine_is_related q.may.list_runs c.bit_of-own.ensures table.followed (table.slot_decodes flush [] (flush_table _ c.flush_command.ensures)))).0
 
 pub returns : goal.returns
 returns g c =
@@ -23,7 +23,7 @@ returns g c =
     record {
       issued = λ range frames.
           (c.law_writing_issues.ensures c.args.port false (batch_of_one 0 (flush_task range) frames) _ _ _
-          (armed_flush c.args.port range frames _ _ _ q.may.adapter_is_on q.may.has_port q.may.machine_is_related q.may.list_runs c.bit_of-own.ensures table.followed (table.says flush [] (flush_table _ c.flush_command.ensures)))).1 _
+          (armed_flush c.args.port range frames _ _ _ q.may.adapter_is_on q.may.has_port q.may.machine_is_related q.may.list_runs c.bit_of-own.ensures table.followed (table.slot_decodes flush [] (flush_table _ c.flush_command.ensures)))).1 _
           c.write.ensures.does;
       cost = omega arith;
     }

@@ -5,17 +5,17 @@ use borrow.Rule.Slice.PartMut.{put_mid, same_len_mid}
 use Rattle.ata_types.specs.declared.range.Range.{Range}
 use Rattle.byteorder.specs.Endian.{little_from}
 use Rattle.byteorder.specs.Numbers.{little_from-take}
-use Rattle.commands.specs.TrimBlocks.{entry_first, entry_length, entry_first_for, entry_length_for}
+use Rattle.commands.specs.TrimBlocks.{entry_first, entry_length, wanted_entry_first, wanted_entry_length}
 use Rattle.commands.proofs.Cut.{cut_means, from_drop}
 use Rattle.commands.proofs.flush_trim.trim_block.Goals as goal
 
 pub loop-place-preserved : goal.loop-place-preserved
 loop-place-preserved c = record {
   size = same_len_mid at width c.loop-place.block part c.copy_from_slice.ensures.len ∙ size;
-  firsts = λ i small. below_more (λ (j : ℕ). entry_first new j ≡ entry_first_for range.first.0 range.count j) c.loop-place.place
+  firsts = λ i small. below_more (λ (j : ℕ). entry_first new j ≡ wanted_entry_first range.first.0 range.count j) c.loop-place.place
       (λ j less. stays 6 (8 * j) (omega (arith, less)) ∙ c.loop-place.invariant.firsts j less)
       (ap (λ (j : ℕ). little_from j 6 new) same_place ∙ here 6 0 (omega arith) ∙ c.entry_of.ensures.first) i small;
-  lengths = λ i small. below_more (λ (j : ℕ). entry_length new j ≡ entry_length_for range.count j) c.loop-place.place
+  lengths = λ i small. below_more (λ (j : ℕ). entry_length new j ≡ wanted_entry_length range.count j) c.loop-place.place
       (λ j less. stays 2 (8 * j + 6) (omega (arith, less)) ∙ c.loop-place.invariant.lengths j less)
       (here 2 6 (omega arith) ∙ c.entry_of.ensures.length) i small;
 }

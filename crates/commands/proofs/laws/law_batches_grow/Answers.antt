@@ -8,12 +8,12 @@ pub returns-clause-one_more_task : goal.returns-clause-one_more_task
 returns-clause-one_more_task c =
     let laws : Laws = record {
       leaving = record {
-        left = c.law_other_ports_are_left.ensures.left;
-        on = c.law_other_ports_are_left.ensures.adapter_stays_on;
-        adapter = c.law_other_ports_are_left.ensures.adapter;
+        left = c.law_other_ports_are_untouched.ensures.other_port_is_untouched;
+        on = c.law_other_ports_are_untouched.ensures.adapter_stays_on;
+        adapter = c.law_other_ports_are_untouched.ensures.adapter_is_same;
       };
       acts = record {
-        goes = c.law_acts_advance_driver.ensures.goes;
+        goes = c.law_acts_advance_driver.ensures.driver_advances;
         reached = c.law_advances_compose.ensures.reached;
         more = c.law_acts_compose.ensures.acts_join;
         accesses = c.law_acts_compose.ensures.accesses;
@@ -22,8 +22,8 @@ returns-clause-one_more_task c =
       };
       stays = c.law_stored_stays_over_acts.ensures;
       misses = c.law_stored_commands_stay.ensures.misses;
-      put_here = c.law_putting_is_of_one_slot.ensures.here;
-      put_others = c.law_putting_is_of_one_slot.ensures.others;
+      put_here = c.law_setting_changes_one_slot.ensures.slot_has_new_state;
+      put_others = c.law_setting_changes_one_slot.ensures.others;
     } in
     λ port tasks t start mid b agreed apart small usable fit queued. (
       may_prepare laws port tasks t start mid b agreed apart small usable fit queued,

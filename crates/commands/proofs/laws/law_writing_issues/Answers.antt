@@ -4,27 +4,27 @@ use Rattle.commands.proofs.laws.law_writing_issues.Goals as goal
 pub returns : goal.returns
 returns c = leads (record {
   leaving = record {
-    left = c.law_other_ports_are_left.ensures.left;
-    on = c.law_other_ports_are_left.ensures.adapter_stays_on;
-    adapter = c.law_other_ports_are_left.ensures.adapter;
+    left = c.law_other_ports_are_untouched.ensures.other_port_is_untouched;
+    on = c.law_other_ports_are_untouched.ensures.adapter_stays_on;
+    adapter = c.law_other_ports_are_untouched.ensures.adapter_is_same;
   };
   acts = record {
-    goes = c.law_acts_advance_driver.ensures.goes;
+    goes = c.law_acts_advance_driver.ensures.driver_advances;
     reached = c.law_advances_compose.ensures.reached;
     more = c.law_acts_compose.ensures.acts_join;
     accesses = c.law_acts_compose.ensures.accesses;
     steps = c.law_acts_compose.ensures.steps;
     device = c.law_histories_compose.ensures.device_steps_join;
   };
-  same = c.law_adapter_stays.ensures.same;
+  same = c.law_adapter_stays.ensures.access_keeps_adapter;
   on = c.law_adapter_stays.ensures.stays_on;
   controls = c.law_controls_stay.ensures;
-  ends = c.law_accesses_and_decisions_are_acts.ensures.ends;
+  ends = c.law_accesses_and_decisions_are_acts.ensures.access_with_own_steps;
   part = c.law_device_steps_are_parts.ensures;
   access = c.law_advances_compose.ensures.access;
   none = c.law_advances_compose.ensures.reflexive;
   compose = c.law_advances_compose.ensures.transitive;
-  due = c.law_due_stays.ensures;
+  due = c.law_enabled_issues_stay.ensures;
   after = c.law_histories_compose.ensures.machine_after_joins;
   arms = c.law_bits_are_followed_in_turn.ensures.arms;
   issues = c.law_bits_are_followed_in_turn.ensures.issues;
@@ -33,9 +33,9 @@ returns c = leads (record {
   permitted = c.law_readied_is_issued.ensures.permitted;
   prepared = c.law_readied_is_issued.ensures.prepared;
   follows = c.law_device_is_followed.ensures;
-  leaves = c.law_free_slots_are_left.ensures.writes;
-  leaves_steps = c.law_free_slots_are_left.ensures.steps;
+  leaves = c.law_free_slots_are_untouched.ensures.writes;
+  leaves_steps = c.law_free_slots_are_untouched.ensures.steps;
   block = c.law_stored_commands_stay.ensures.block;
-  put_here = c.law_putting_is_of_one_slot.ensures.here;
-  put_others = c.law_putting_is_of_one_slot.ensures.others;
+  put_here = c.law_setting_changes_one_slot.ensures.slot_has_new_state;
+  put_others = c.law_setting_changes_one_slot.ensures.others;
 })

@@ -16,4 +16,4 @@ alone slot place v same fits set others = subst (λ (p : ℕ). IsSoleBit p v) sa
     ]
 
 pub returns : goal.returns
-returns c = alone c.args.slot.0 _ _ c.from.ensures c.with_bit.type_inv c.with_bit.ensures.set c.with_bit.ensures.others
+returns c = alone c.args.slot.0 _ _ c.from.ensures c.with_bit.type_inv c.with_bit.ensures.set c.with_bit.ensures.others_are_kept

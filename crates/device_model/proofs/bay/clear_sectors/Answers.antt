@@ -36,7 +36,7 @@ loop-place-preserved g c =
       fine = put.writes.no_call_fails (inl c.if-not-put_sector.false) ∙ c.loop-place.invariant.fine;
       lasting = λ noted. put.lasting noted ∙ c.loop-place.invariant.lasting noted;
       cached = put.is_on ∙ c.loop-place.invariant.cached;
-      old_room = λ n room. put.left n (c.loop-place.invariant.old_room (n + 1) (less_room c.args.cache.now (c.loop-place.place + 1 + n) (c.loop-place.place + (n + 1)) (omega arith) room));
+      old_room = λ n room. put.room_is_left n (c.loop-place.invariant.old_room (n + 1) (less_room c.args.cache.now (c.loop-place.place + 1 + n) (c.loop-place.place + (n + 1)) (omega arith) room));
     }
 
 pub returns-then-not-put_sector : goal.returns-then-not-put_sector
@@ -50,7 +50,7 @@ returns-then-not-put_sector g c =
       count_is_allowed = omega (arith, below);
       disk_is = (λ i. disk_over c.args.which (put.writes.size_is_kept i) (kept i)) ∙ is.disk;
       size_is_kept = put.writes.size_is_kept ∙ is.size;
-      none_keeps_told = λ none.
+      no_clear_keeps_sectors = λ none.
           kept
           ∙ (ap (λ (d : Disk). d.sectors) is.disk
           ∙ ap (λ (d : Disk). d.sectors) (ap (λ (n : ℕ). disk_cleared disk c.args.run.first n) none ∙ clears_none disk c.args.run.first));
@@ -67,7 +67,7 @@ returns-then-not-put_sector g c =
       lasting_is_kept = λ noted. put.lasting noted ∙ is.lasting noted;
       cache_mode_is_kept = put.is_on ∙ is.cached;
       cache_has_room = λ n room.
-          put.left n (is.old_room (n + 1) (less_room c.args.cache.now (c.args.run.count + n) (c.loop-place.place + (n + 1)) (omega (arith, below)) room));
+          put.room_is_left n (is.old_room (n + 1) (less_room c.args.cache.now (c.args.run.count + n) (c.loop-place.place + (n + 1)) (omega (arith, below)) room));
     }
 
 pub returns : goal.returns
@@ -82,7 +82,7 @@ returns g c =
       count_is_allowed = omega arith;
       disk_is = cleared;
       size_is_kept = is.size;
-      none_keeps_told = λ none.
+      no_clear_keeps_sectors = λ none.
           ap (λ (d : Disk). d.sectors) cleared
           ∙ ap (λ (d : Disk). d.sectors) (ap (λ (n : ℕ). disk_cleared disk c.args.run.first n) none ∙ clears_none disk c.args.run.first);
       no_call_failed = λ _. is.fine;

@@ -1,6 +1,6 @@
 use Rattle.std.proofs.Common.{ℕ, ◌≡◌, ◌+◌, List, Option}
 use Rattle.adapter.specs.Steps.{disk_cleared}
-use Rattle.device_model.specs.WriteCaches.{HasRoomForOld, lasting_in}
+use Rattle.device_model.specs.WriteCaches.{HasRoomForOldSectors, lasting_in}
 use Rattle.device_model.specs.Disks.{disk_over}
 use Rattle.device_model.proofs.bay.clear_sectors.Given as goal
 
@@ -13,5 +13,5 @@ invariant-loop-place g l = record {
   fine : g.S.SectorStore.failures l.disk ≡ g.S.SectorStore.failures l.fn.disk;
   lasting : (noted : Option (ℕ → List ℕ)) → lasting_in l.cache (g.S.SectorStore.told l.disk) noted ≡ lasting_in l.fn.cache (g.S.SectorStore.told l.fn.disk) noted;
   cached : l.cache.is_on ≡ l.fn.cache.is_on;
-  old_room : (n : ℕ) → HasRoomForOld l.fn.cache (l.place + n) → HasRoomForOld l.cache n;
+  old_room : (n : ℕ) → HasRoomForOldSectors l.fn.cache (l.place + n) → HasRoomForOldSectors l.cache n;
 }

@@ -29,13 +29,13 @@ returns-clause-lasting g c =
       | in_default w ↦
           let same : g.S.SectorStore.told c.match-gap_for.store ≡ told = ap g.S.SectorStore.told w.store-is in
           subst (λ (x : OldSectors). option_map (with_old_bytes x.sectors.items) then ≡ option_map (with_old_bytes olds) told) (sym w.kept-is)
-          (put_lasts olds olds sector bytes told then refl (had_lasts olds sector told (w.in_default.ensures.has refl) bytes) c.write.result
+          (put_lasts olds olds sector bytes told then refl (had_lasts olds sector told (w.in_default.ensures.has_old_bytes refl) bytes) c.write.result
           (rw same at write.sector_is_replaced) (rw same at write.told_is_kept))
     ]
 
 pub returns-clause-left : goal.returns-clause-left
 returns-clause-left g c = λ n room.
     elim c.match-gap_for.branch [
-      | in-Some+else-not-read w ↦ subst (λ (x : OldSectors). vec_len x.sectors + n ≤ vec_capacity x.sectors) (sym w.kept-is) (w.keep.ensures.left n room)
+      | in-Some+else-not-read w ↦ subst (λ (x : OldSectors). vec_len x.sectors + n ≤ vec_capacity x.sectors) (sym w.kept-is) (w.keep.ensures.room_is_left n room)
       | in_default w ↦ subst (λ (x : OldSectors). vec_len x.sectors + n ≤ vec_capacity x.sectors) (sym w.kept-is) (omega (arith, room))
     ]

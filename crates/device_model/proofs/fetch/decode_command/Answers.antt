@@ -43,8 +43,8 @@ returns-then-count_pieces-pieces-clause-only c = λ _ list header m places is s.
     let sectors : Some c.in-Some-decode_sectors.sectors ≡ Some (record { first = m.first; count = m.count }) = sym c.in-Some-decode_sectors.is ∙ said in
     let count : c.in-Some-decode_sectors.sectors.count ≡ m.count = ap (λ (x : Sectors). x.count) (some_one sectors) in
     let are = c.read_prds.ensures.found c.if-not-read_prds.false in
-    let stand : HasPrds memory (c.in-Some.header.table + 128) s.prds = subst (λ t. HasPrds memory (t + 128) s.prds) table s.prds_stand in
-    let same : are.standing ≡ s.prds = has_once memory _ are.standing s.prds (omega (arith, are.prd_count_is, c.from-entries.ensures, entries)) are.prds_stand stand in
+    let stand : HasPrds memory (c.in-Some.header.table + 128) s.prds = subst (λ t. HasPrds memory (t + 128) s.prds) table s.prds_are_encoded in
+    let same : are.stored_prds ≡ s.prds = has_once memory _ are.stored_prds s.prds (omega (arith, are.prd_count_is, c.from-entries.ensures, entries)) are.prds_are_encoded stand in
     let many : length (pieces c.read_prds.new.prds) ≡ length (pieces s.prds) = ap length (are.pieces_are ∙ ap pieces same) in
     let asked : c.pieces.result ≡ piece_count (operation_of_kind k) m.count = c.pieces.ensures ∙ ap (λ n. piece_count (operation_of_kind k) n) count in
     c.if-count_pieces-pieces.true (rw c.as_slice.ensures.same at c.count_pieces.ensures ∙ (many ∙ (said_count k memory list c.args.slot m places is s ∙ sym asked)))

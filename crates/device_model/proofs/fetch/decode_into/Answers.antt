@@ -7,8 +7,8 @@ use Rattle.device_model.specs.PortView.{operation_of_kind}
 use Rattle.device_model.proofs.Transfers.{kind_of_operation}
 use Rattle.device_model.proofs.fetch.decode_into.Goals as goal
 
-pub returns-in-None-clause-only : goal.returns-in-None-clause-only
-returns-in-None-clause-only c = λ none m places s.
+pub returns-in-None-clause-complete : goal.returns-in-None-clause-complete
+returns-in-None-clause-complete c = λ none m places s.
     let t = kind_of_operation m.operation in
     let header = rw c.header_place.ensures at c.header_bytes-header.ensures in
     let points : little_from 8 4 c.header_bytes-header.result ≡ s.table = rw (← header) at s.header.table_address_is in
@@ -17,8 +17,8 @@ returns-in-None-clause-only c = λ none m places s.
     let its = c.kind_of_code.ensures t.0 c.args.slot m.first m.count (ap (λ (o : Operation). (command_of o c.args.slot m.first m.count).code) (sym t.1) ∙ sym code) in
     some-none its c.in-None.is
 
-pub returns-in-Some-clause-only : goal.returns-in-Some-clause-only
-returns-in-Some-clause-only c = λ none m places s.
+pub returns-in-Some-clause-complete : goal.returns-in-Some-clause-complete
+returns-in-Some-clause-complete c = λ none m places s.
     let t = kind_of_operation m.operation in
     let header = rw c.header_place.ensures at c.header_bytes-header.ensures in
     let points : little_from 8 4 c.header_bytes-header.result ≡ s.table = rw (← header) at s.header.table_address_is in

@@ -19,8 +19,8 @@ returns-then-left-here-clause-found c =
     let same : c.from.result + 512 * c.from-then-left-here.result ≡ e.address + 512 * c.loop-prd.left = omega (arith, c.from.ensures, c.from-then-left-here.ensures) in
     (here.0, same ∙ here.1)
 
-pub returns-then-left-here-clause-behind : goal.returns-then-left-here-clause-behind
-returns-then-left-here-clause-behind c = λ k few.
+pub returns-then-left-here-clause-pieces_follow : goal.returns-then-left-here-clause-pieces_follow
+returns-then-left-here-clause-pieces_follow c = λ k few.
     let small : c.loop-prd.prd-index < length c.args.prds.now = search rules in
     let e = slice_index_or c.args.prds.now c.loop-prd.prd-index no_prd in
     let here : c.loop-prd.left + k < e.bytes / 512 = omega (arith, few, c.if-left-here.true) in

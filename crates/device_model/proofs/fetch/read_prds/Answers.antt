@@ -24,9 +24,9 @@ loop-i-preserved c =
 pub returns-clause-found : goal.returns-clause-found
 returns-clause-found c = λ _.
     record {
-      standing = c.loop-i.prds;
+      stored_prds = c.loop-i.prds;
       prd_count_is = omega (arith, c.loop-i.invariant.size, c.loop-i-test.false, c.loop-i.auto);
-      prds_stand = c.loop-i.invariant.stand;
+      prds_are_encoded = c.loop-i.invariant.stand;
       prds_are_whole_pieces = c.loop-i.invariant.whole;
       pieces_are = refl;
     }

@@ -15,7 +15,7 @@ returns-else-is_working_on-clause-none c = λ _ t holds.
     let small : c.args.port < length c.args.ports.now = search rules in
     let found = rw (at_port c.args.ports.now c.args.port c.index-ports-port.result small) at c.in_ok-command.ensures.found in
     let same : t ≡ c.in_ok-command.command.now = some_one (sym holds.is_taken ∙ found) in
-    let never = rw (at_port c.args.ports.now c.args.port c.index-ports-port-2.result small) at c.is_working_on.ensures.only c.if-is_working_on.false no_media in
+    let never = rw (at_port c.args.ports.now c.args.port c.index-ports-port-2.result small) at c.is_working_on.ensures.complete c.if-is_working_on.false no_media in
     never (subst (λ (x : TakenCommand). IsWorking (port_of p no_media) (operation_of_kind x.command_kind)) same (holds.works no_media).working)
 
 pub returns-then-is_working_on-clause-found : goal.returns-then-is_working_on-clause-found

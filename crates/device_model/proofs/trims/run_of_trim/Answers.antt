@@ -21,7 +21,7 @@ returns-clause-can c =
     let ne = c.if-run-eq0.false in
     let some : 1 ≤ run.count = omega (arith, ne) in
     let count : run.count ≡ first_run_length (take c.args.most left) = rw c.requires.block at c.next_run-run.ensures.count in
-    let few = c.next_run-run.ensures.few in
+    let few = c.next_run-run.ensures.count_is_allowed in
     record {
       trim = c.is_trim.ensures.0 c.if-not-is_trim.false;
       block_is_moved = c.if-command-count_pieces.false ∙ (rw c.as_slice.ensures.same at c.count_pieces.ensures);

@@ -2,11 +2,11 @@ use Rattle.std.proofs.Common.{◌≡◌, length, sym, ap, ◌∙◌}
 use Rattle.std.proofs.lemmas.List.{length-map}
 use Rattle.ata_types.specs.declared.memory.TheConstants.{MOST_FRAMES}
 use Rattle.dma_frames.specs.TableLists.{client_of}
-use Rattle.dma_frames.specs.FrameTables.{FrameOwnership}
+use Rattle.dma_frames.specs.FrameTables.{OwnersAndLoans}
 use Rattle.dma_frames.proofs.OwnerLemmas.{faultless_within}
 use Rattle.dma_frames.proofs.FrameTable.lend_at.Goals as goal
 
 pub note_lent-requires-clause-within : goal.note_lent-requires-clause-within
 note_lent-requires-clause-within c =
-    let many : length c.args.self.now.owners ≡ MOST_FRAMES = sym (ap (λ (t : FrameOwnership). length t.owners) c.self.view_is) ∙ (length-map c.self.inside.owners client_of ∙ c.self.invariant.0) in
-    faultless_within c.args.self.now c.args.client c.args.frames.now c.requires.clear many
+    let many : length c.args.self.now.owners ≡ MOST_FRAMES = sym (ap (λ (t : OwnersAndLoans). length t.owners) c.self.view_is) ∙ (length-map c.self.inside.owners client_of ∙ c.self.invariant.0) in
+    faultless_within c.args.self.now c.args.client c.args.frames.now c.requires.has_no_fault many

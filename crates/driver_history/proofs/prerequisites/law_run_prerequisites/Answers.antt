@@ -2,10 +2,10 @@ use Rattle.driver_history.proofs.prerequisites.law_run_prerequisites.Goals as go
 
 pub returns : goal.returns
 returns c = record {
-  legal = c.law_runs_are_legal.ensures.legal;
-  touches = c.law_runs_are_legal.ensures.touches;
-  reads = c.law_every_read_holds.ensures;
+  run_steps_are_legal = c.law_runs_are_legal.ensures.legal;
+  touches_are_confined = c.law_runs_are_legal.ensures.touches;
+  faithful_runs_read_expected = c.law_answered_reads_hold_expected.ensures;
   after_joins = c.law_histories_compose.ensures.machine_after_joins;
-  told = c.law_histories_compose.ensures.faithful_steps_join;
+  faithful_lists_join = c.law_histories_compose.ensures.faithful_steps_join;
   holders_were_accepted = c.law_frame_holder_was_accepted.ensures;
 }

@@ -12,21 +12,21 @@ pub invariant_of-result : goal.invariant_of-result
 invariant_of-result c =
     let rows = c.sort_unstable_by_key.new.self.items in
     let moved = c.sort_unstable_by_key.ensures.permutation in
-    let differ : AllPairs DifferInName rows = sorted_differ c.args.rows.now rows (subst (λ (xs : List GrantRow). IsPermutation xs rows) c.in_ok-rows.ensures.items moved) c.requires.names in
+    let differ : AllPairs DifferInName rows = sorted_differ c.args.rows.now rows (subst (λ (xs : List GrantRow). IsPermutation xs rows) c.in_ok-rows.ensures.items moved) c.requires.names_differ in
     let keys : c.in_ok-keys.keys.items ≡ map row_name_of rows = c.in_ok-keys.ensures.keys ∙ ap (map row_name_of) c.as_slice.ensures.value in
     record {
-      keys = keys;
-      order = in_order rows _ keys (IsNonDecreasingBy-from_sort_by_key (λ row. name_rank (row_name_of row)) _ c.sort_unstable_by_key.ensures.sorted (λ a r q k. search rules)) differ c.in_ok-keys.ensures.bytes;
-      differ = differ;
-      few = let n = ap length c.in_ok-rows.ensures.items in let few = c.requires.few in omega (arith, length_permutation _ _ moved, n, few);
+      keys_are_row_names = keys;
+      names_are_in_order = in_order rows _ keys (IsNonDecreasingBy-from_sort_by_key (λ row. name_rank (row_name_of row)) _ c.sort_unstable_by_key.ensures.sorted (λ a r q k. search rules)) differ c.in_ok-keys.ensures.bytes;
+      rows_differ_in_name = differ;
+      rows_are_at_most_64 = let n = ap length c.in_ok-rows.ensures.items in let few = c.requires.rows_are_at_most_64 in omega (arith, length_permutation _ _ moved, n, few);
     }
 
-pub returns-clause-names : goal.returns-clause-names
-returns-clause-names c =
+pub returns-clause-names_differ : goal.returns-clause-names_differ
+returns-clause-names_differ c =
     let rows = c.sort_unstable_by_key.new.self.items in
-    sorted_differ c.args.rows.now rows (subst (λ (xs : List GrantRow). IsPermutation xs rows) c.in_ok-rows.ensures.items c.sort_unstable_by_key.ensures.permutation) c.requires.names
+    sorted_differ c.args.rows.now rows (subst (λ (xs : List GrantRow). IsPermutation xs rows) c.in_ok-rows.ensures.items c.sort_unstable_by_key.ensures.permutation) c.requires.names_differ
 
-pub returns-clause-rows : goal.returns-clause-rows
-returns-clause-rows c =
+pub returns-clause-holds_same_rows : goal.returns-clause-holds_same_rows
+returns-clause-holds_same_rows c =
     let rows = c.sort_unstable_by_key.new.self.items in
     sorted_same c.args.rows.now rows (subst (λ (xs : List GrantRow). IsPermutation xs rows) c.in_ok-rows.ensures.items c.sort_unstable_by_key.ensures.permutation)

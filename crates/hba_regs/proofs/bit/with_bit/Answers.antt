@@ -6,5 +6,5 @@ use Rattle.hba_regs.proofs.bit.with_bit.Goals as goal
 pub returns-clause-set : goal.returns-clause-set
 returns-clause-set c = ap (λ b. b == 1) (bit_at_set_same w32 c.args.value c.args.place c.requires)
 
-pub returns-clause-others : goal.returns-clause-others
-returns-clause-others c = λ k lt other. ap (λ b. b == 1) (bit_at_set_other w32 c.args.value c.args.place c.requires k other)
+pub returns-clause-others_are_kept : goal.returns-clause-others_are_kept
+returns-clause-others_are_kept c = λ k lt other. ap (λ b. b == 1) (bit_at_set_other w32 c.args.value c.args.place c.requires k other)

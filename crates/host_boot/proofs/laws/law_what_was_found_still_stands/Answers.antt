@@ -5,4 +5,4 @@ pub returns-clause-begins : goal.returns-clause-begins
 returns-clause-begins c = boots_begin
 
 pub returns-clause-goes_on : goal.returns-clause-goes_on
-returns-clause-goes_on c = still_on c.law_prerequisites.ensures.found
+returns-clause-goes_on c = still_on c.law_prerequisites.ensures.probe_results

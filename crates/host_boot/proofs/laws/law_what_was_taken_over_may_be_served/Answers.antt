@@ -4,20 +4,20 @@ use Rattle.host_boot.proofs.Running.{taken_own}
 use Rattle.host_boot.proofs.Showing.{taken_shown}
 use Rattle.host_boot.proofs.laws.law_what_was_taken_over_may_be_served.Goals as goal
 
-pub returns-clause-there : goal.returns-clause-there
-returns-clause-there c = taken_there
+pub returns-clause-served_port_exists : goal.returns-clause-served_port_exists
+returns-clause-served_port_exists c = taken_there
 
-pub returns-clause-ready : goal.returns-clause-ready
-returns-clause-ready c = λ wanted host port info old new taken. taken_ready wanted host port old new taken info
+pub returns-clause-ready_port_is_programmed : goal.returns-clause-ready_port_is_programmed
+returns-clause-ready_port_is_programmed c = λ wanted host port info old new taken. taken_ready wanted host port old new taken info
 
 pub returns-clause-healthy_port_runs_well : goal.returns-clause-healthy_port_runs_well
 returns-clause-healthy_port_runs_well c = λ wanted host port info old new idle taken. taken_runs c.law_prerequisites.ensures wanted host port old new taken info idle
 
-pub returns-clause-recorded : goal.returns-clause-recorded
-returns-clause-recorded c = λ wanted host port info old new idle taken. taken_faults c.law_prerequisites.ensures wanted host port old new taken info idle
+pub returns-clause-faults_are_on_record : goal.returns-clause-faults_are_on_record
+returns-clause-faults_are_on_record c = λ wanted host port info old new idle taken. taken_faults c.law_prerequisites.ensures wanted host port old new taken info idle
 
-pub returns-clause-shown : goal.returns-clause-shown
-returns-clause-shown c = λ wanted host port state old new idle taken bad is. taken_shown c.law_prerequisites.ensures (port_at port) state host.ports old new idle bad is taken.switches_on_and_boots
+pub returns-clause-bad_disk_shows_if_in : goal.returns-clause-bad_disk_shows_if_in
+returns-clause-bad_disk_shows_if_in c = λ wanted host port state old new idle taken bad is. taken_shown c.law_prerequisites.ensures (port_at port) state host.ports old new idle bad is taken.switches_on_and_boots
 
 pub returns-clause-disk_is_in_if_shown : goal.returns-clause-disk_is_in_if_shown
 returns-clause-disk_is_in_if_shown c = λ wanted host port info old new idle taken is. taken_own c.law_prerequisites.ensures (port_at port) info host.ports old new idle is taken.switches_on_and_boots

@@ -25,16 +25,16 @@ with_disks-requires-clause-slots g c = (c.requires OutOfRange).numbers.slots
 pub with_disks-requires-clause-depth : goal.with_disks-requires-clause-depth
 with_disks-requires-clause-depth g c = (c.requires OutOfRange).numbers.depth
 
-pub returns-clause-ready : goal.returns-clause-ready
-returns-clause-ready g c = IfOk-weaker c.with_disks.result _ _ (λ m made. record {
+pub returns-clause-is_ready_for_config : goal.returns-clause-is_ready_for_config
+returns-clause-is_ready_for_config g c = IfOk-weaker c.with_disks.result _ _ (λ m made. record {
   idle = made.adapter_is_new.is_idle;
-  room = λ _. omega (arith, made.adapter_is_new.memory);
+  memory_has_frames = λ _. omega (arith, made.adapter_is_new.memory_size_is);
 }) c.with_disks.ensures
 
 -- the settings are those that the model was made with
-pub returns-clause-made : goal.returns-clause-made
-returns-clause-made g c = IfOk-weaker c.with_disks.result _ _ (λ m made. record {
+pub returns-clause-is_model : goal.returns-clause-is_model
+returns-clause-is_model g c = IfOk-weaker c.with_disks.result _ _ (λ m made. record {
   settings = record { frames = c.args.config.now.frames; pi = 15; slots = c.args.config.now.slots; ncq = c.args.config.now.ncq; depth = c.args.config.now.depth; trim = c.trim_of.result; cache = c.args.config.now.cache };
-  set = record { frames = refl; ports = refl; slots = refl; queuing = refl; depth = refl; trim = c.trim_of.ensures ∙ c.as_str.ensures.value; cache = refl };
-  made = made;
+  settings_match_config = record { frames = refl; pi_has_ports_0_to_3 = refl; slots = refl; queuing = refl; depth = refl; trim = c.trim_of.ensures ∙ c.as_str.ensures.value; cache = refl };
+  is_new_model = made;
 }) c.with_disks.ensures

@@ -28,18 +28,18 @@ returns-clause-keeps g c =
     let device = g.A.Adapter.device in
     let calls = c.from_ref.result.now in
     let new = c.run-done.new.out in
-    let ok : IsOk c.run-done.result = c.run-done.ensures.ample (omega (arith, c.requires, c.clear.ensures.len, c.clear.ensures.capacity, c.from_ref.ensures.len)) in
+    let ok : IsOk c.run-done.result = c.run-done.ensures.never_stops_with_room (omega (arith, c.requires, c.clear.ensures.earlier_is_empty, c.clear.ensures.capacity_is_same, c.from_ref.ensures.len)) in
     let ran = on_ok c.run-done.result _ c.run-done.ensures.done ok in
-    let last = some_of new.last (on_ok c.run-done.result _ c.run-done.ensures.last ok (omega (arith, c.from_ref.ensures.len))) in
+    let last = some_of new.last (on_ok c.run-done.result _ c.run-done.ensures.last_result_is_there ok (omega (arith, c.from_ref.ensures.len))) in
     let one = with_replies last.0 new.replies.items in
-    let shown : new.earlier.items ++ one ∷ [] ≡ ran.said =
-    ap (λ (o : Option (CallResult (Unit {0}))). new.earlier.items ++ last_of o new.replies.items) (sym last.1) ∙ ran.results_are ∙ ap (λ (before : List (CallResult (ArrayVec Reply))). before ++ ran.said) c.clear.ensures.said in
+    let shown : new.earlier.items ++ one ∷ [] ≡ ran.results =
+    ap (λ (o : Option (CallResult (Unit {0}))). new.earlier.items ++ last_of o new.replies.items) (sym last.1) ∙ ran.results_are ∙ ap (λ (before : List (CallResult (ArrayVec Reply))). before ++ ran.results) c.clear.ensures.no_results_are_left in
     let Q : List (Call DeviceStep) → List (CallResult (ArrayVec Reply)) → Type 0 = λ calls said. Simulates device c.args.server.now c.run-done.new.self calls said in (
       last.0,
       last.1,
       subst (λ (calls : List (Call DeviceStep)). Q calls (one ∷ [])) c.from_ref.ensures.value
-          (subst (Q calls) (alone new.earlier.items one ran.said shown (ran.one_result_a_call ∙ c.from_ref.ensures.len)) ran.simulates_calls),
+          (subst (Q calls) (alone new.earlier.items one ran.results shown (ran.one_result_a_call ∙ c.from_ref.ensures.len)) ran.simulates_calls),
     )
 
 pub returns-clause-room : goal.returns-clause-room
-returns-clause-room g c = omega (arith, c.requires, c.clear.ensures.capacity, c.run-done.ensures.room)
+returns-clause-room g c = omega (arith, c.requires, c.clear.ensures.capacity_is_same, c.run-done.ensures.capacity_does_not_shrink)

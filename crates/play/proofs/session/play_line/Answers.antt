@@ -43,7 +43,7 @@ returns-in_default-write_out-clause-printed g c =
     let tape : c.tape-tape.result.now ≡ (device c.make_call.new.server.adapter).tape =
     c.tape-tape.ensures ∙ ap (λ (m : g.row.A.Denot). (device m).tape) c.adapter-adapter.ensures in
     let fed : g.A.TapedAdapter.ended c.make_call.new.server.adapter ≡ false =
-    ap g.A.TapedAdapter.ended (sym c.adapter-adapter.ensures) ∙ sym c.has_ended-is_starved.ensures ∙ c.if-is_starved.false in
+    ap g.A.TapedAdapter.ended (sym c.adapter-adapter.ensures) ∙ sym c.is_exhausted-is_starved.ensures ∙ c.if-is_starved.false in
     let last = c.make_call.new.said.last in
     let Last : Option (Bor (CallResult (Unit {0}))) → Type 0 = λ o. MatchOption o (last ≡ None) (λ told. last ≡ Some told.now) in
     let here = subst Last c.unwrap.ensures c.last.ensures in
@@ -65,7 +65,7 @@ returns-clause-printed g c =
     let tape : c.tape-tape.result.now ≡ (device c.make_call.new.server.adapter).tape =
     c.tape-tape.ensures ∙ ap (λ (m : g.row.A.Denot). (device m).tape) c.adapter-adapter.ensures in
     let fed : g.A.TapedAdapter.ended c.make_call.new.server.adapter ≡ false =
-    ap g.A.TapedAdapter.ended (sym c.adapter-adapter.ensures) ∙ sym c.has_ended-is_starved.ensures ∙ c.if-is_starved.false in
+    ap g.A.TapedAdapter.ended (sym c.adapter-adapter.ensures) ∙ sym c.is_exhausted-is_starved.ensures ∙ c.if-is_starved.false in
     let last = c.make_call.new.said.last in
     let Last : Option (Bor (CallResult (Unit {0}))) → Type 0 = λ o. MatchOption o (last ≡ None) (λ told. last ≡ Some told.now) in
     let here = subst Last c.unwrap.ensures c.last.ensures in

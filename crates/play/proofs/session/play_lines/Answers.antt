@@ -9,10 +9,10 @@ use Rattle.play.proofs.Printing.{PlayedSoFar, bytes_left, fewer_left, played_non
 use Rattle.play.proofs.session.play_lines.Goals as goal
 
 pub loop-rest-init : goal.loop-rest-init
-loop-rest-init g c = record { fed = ap g.A.TapedAdapter.ended (sym c.adapter.ensures) ∙ sym c.has_ended.ensures ∙ c.if-has_ended.false; room = search rules; played = played_none _ _ _ _ _ _ _ refl }
+loop-rest-init g c = record { fed = ap g.A.TapedAdapter.ended (sym c.adapter.ensures) ∙ sym c.is_exhausted.ensures ∙ c.if-is_exhausted.false; room = search rules; played = played_none _ _ _ _ _ _ _ refl }
 
-pub returns-then-has_ended : goal.returns-then-has_ended
-returns-then-has_ended g c =
+pub returns-then-is_exhausted : goal.returns-then-is_exhausted
+returns-then-is_exhausted g c =
     let ran = ran_none g.A.Adapter.device g.A.TapedAdapter.ended c.args.trace c.args.server.now c.args.script.now _ c.requires.good.0 c.requires.good.1 in
     (ran.0, tt, ran.1)
 
@@ -37,7 +37,7 @@ loop-rest-preserved-in-Ok-false g c =
       fed = c.loop-rest.invariant.fed;
       room = c.loop-rest.invariant.room;
       played = played_nothing device g.A.TapedAdapter.ended c.args.trace c.args.server.now all c.law_lines_are_asked_in_turn.ensures c.loop-rest.server c.loop-rest.shown c.in-Some.text.now c.first_line.result.0.now c.in-Some.text
-          c.first_line.result.1 before here so_far c.first_line.ensures.first asks;
+          c.first_line.result.1 before here so_far c.first_line.ensures.is_first_line asks;
     }
 
 -- no line of a script that was looked at is bad
@@ -48,7 +48,7 @@ loop-rest-preserved g c =
     let here = g.W.Write.contents c.loop-rest.out in
     let all = lines_of c.args.script.now in
     let so_far = subst (λ (rest : Option (Bor (List ℕ))). PlayedSoFar device g.A.TapedAdapter.ended c.args.trace c.args.server.now all c.loop-rest.server c.loop-rest.shown rest before here) c.in-Some.is c.loop-rest.invariant.played in
-    let cut = cut_more all so_far.texts c.in-Some.text.now c.first_line.result.0.now c.first_line.result.1 so_far.cut c.first_line.ensures.first in
+    let cut = cut_more all so_far.texts c.in-Some.text.now c.first_line.result.0.now c.first_line.result.1 so_far.cut c.first_line.ensures.is_first_line in
     let from = c.law_lines_are_asked_in_turn.ensures.asked_lists_split so_far.texts c.first_line.result.0.now (lines_after c.first_line.result.1) c.requires.good.0 (subst (λ (texts : List (List ℕ)). AskForCalls texts c.requires.good.0) cut c.requires.good.1) in
     absurd (c.law_lines_are_asked_in_turn.ensures.asked_line_is_not_bad c.first_line.result.0.now from.asked from.text_asks c.in-Err.ensures.bad)
 
@@ -61,13 +61,13 @@ returns-in_err-shown-in-Ok-true g c =
     let after = g.W.Write.contents c.play_line.new.out in
     let all = lines_of c.args.script.now in
     let so_far = subst (λ (rest : Option (Bor (List ℕ))). PlayedSoFar device g.A.TapedAdapter.ended c.args.trace c.args.server.now all c.loop-rest.server c.loop-rest.shown rest before here) c.in-Some.is c.loop-rest.invariant.played in
-    let cut = cut_more all so_far.texts c.in-Some.text.now c.first_line.result.0.now c.first_line.result.1 so_far.cut c.first_line.ensures.first in
+    let cut = cut_more all so_far.texts c.in-Some.text.now c.first_line.result.0.now c.first_line.result.1 so_far.cut c.first_line.ensures.is_first_line in
     let from = c.law_lines_are_asked_in_turn.ensures.asked_lists_split so_far.texts c.first_line.result.0.now (lines_after c.first_line.result.1) c.requires.good.0 (subst (λ (texts : List (List ℕ)). AskForCalls texts c.requires.good.0) cut c.requires.good.1) in
     let reads = subst (λ (some : Bool). Asks c.first_line.result.0.now (call_if_asked some c.parse_script_line.new.call)) c.in-Ok-true.field-0-test c.in-Ok-true.ensures.ok in
     let asks = subst (λ (call : Call DeviceStep). Asks c.first_line.result.0.now (Some call)) (sym c.call.ensures) reads in
     let printed = c.in_err-shown-in-Ok-true.ensures.printed in
     let ran = ran_part device g.A.TapedAdapter.ended c.args.trace c.args.server.now c.args.script.now c.law_lines_are_asked_in_turn.ensures c.loop-rest.server c.play_line.new.server c.loop-rest.shown c.first_line.result.0.now
-    c.call.result.now c.in-Some.text c.first_line.result.1 before here after so_far c.first_line.ensures.first asks so_far.texts c.requires.good.0 from
+    c.call.result.now c.in-Some.text c.first_line.result.1 before here after so_far c.first_line.ensures.is_first_line asks so_far.texts c.requires.good.0 from
     printed.0 c.loop-rest.invariant.fed in
     let told = err_from_is_err_and c.from_residual.result c.from_residual.ensures.1 in (
       ran.0,
@@ -102,10 +102,10 @@ loop-rest-preserved-in_ok-shown-in-Ok-true g c =
       room = c.play_line.ensures.room;
       played = subst (λ (shown : ℕ). PlayedSoFar device g.A.TapedAdapter.ended c.args.trace c.args.server.now all c.play_line.new.server shown c.first_line.result.1 before after) (sym c.in_ok-shown-in-Ok-true.ensures.shown)
           (played_line device g.A.TapedAdapter.ended c.args.trace c.args.server.now all c.law_lines_are_asked_in_turn.ensures c.loop-rest.server c.play_line.new.server c.loop-rest.shown c.first_line.result.0.now
-          c.call.result.now c.in-Some.text c.first_line.result.1 before here after so_far c.first_line.ensures.first asks printed.0 printed.1 c.loop-rest.invariant.fed);
+          c.call.result.now c.in-Some.text c.first_line.result.1 before here after so_far c.first_line.ensures.is_first_line asks printed.0 printed.1 c.loop-rest.invariant.fed);
     }
 
 pub loop-rest-smaller-in_ok-shown-in-Ok-true : goal.loop-rest-smaller-in_ok-shown-in-Ok-true
 loop-rest-smaller-in_ok-shown-in-Ok-true g c =
     subst (λ (rest : Option (Bor (List ℕ))). suc (bytes_left c.first_line.result.1) ≤ bytes_left rest) (sym c.in-Some.is)
-    (fewer_left c.first_line.result.1 (length c.in-Some.text.now) c.first_line.ensures.less)
+    (fewer_left c.first_line.result.1 (length c.in-Some.text.now) c.first_line.ensures.rest_is_shorter)

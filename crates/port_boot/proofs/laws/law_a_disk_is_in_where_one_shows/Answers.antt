@@ -10,5 +10,5 @@ returns-clause-access c = access_own
 pub returns-clause-accesses : goal.returns-clause-accesses
 returns-clause-accesses c = all_own
 
-pub returns-clause-begins : goal.returns-clause-begins
-returns-clause-begins c = ready_own
+pub returns-clause-ready_boot_establishes : goal.returns-clause-ready_boot_establishes
+returns-clause-ready_boot_establishes c = ready_own

@@ -1,5 +1,5 @@
 use Rattle.std.proofs.Common.{inl}
-use Rattle.port_control.specs.Engines.{StopsBoth}
+use Rattle.port_control.specs.Engines.{StopsBothEngines}
 use Rattle.port_boot.specs.Laws.RegisterSet.{BootRegisters, Commanding}
 use Rattle.port_boot.specs.States.{StopsOnWay}
 use Rattle.port_boot.proofs.Bringing.{starting}
@@ -10,7 +10,7 @@ pub returns-clause-boots : goal.returns-clause-boots
 returns-clause-boots c = λ port state old new. boot_driven (StopsOnWay port state) port old new state
 
 pub returns-clause-stops : goal.returns-clause-stops
-returns-clause-stops c = λ port state old new. boot_driven (StopsBoth port) port old new state
+returns-clause-stops c = λ port state old new. boot_driven (StopsBothEngines port) port old new state
 
 pub returns-clause-commanding : goal.returns-clause-commanding
-returns-clause-commanding c = λ port access is. inl (c.law_prerequisites.ensures.control_wider Commanding BootRegisters port starting access is)
+returns-clause-commanding c = λ port access is. inl (c.law_prerequisites.ensures.control_of_larger_set Commanding BootRegisters port starting access is)

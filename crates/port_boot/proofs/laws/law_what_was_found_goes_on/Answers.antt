@@ -11,5 +11,5 @@ returns-clause-disk c = disk_on
 pub returns-clause-ready : goal.returns-clause-ready
 returns-clause-ready c = λ wanted port old new info left. ready_on port old new left wanted info
 
-pub returns-clause-ends : goal.returns-clause-ends
-returns-clause-ends c = λ wanted state port old new left. ends_on port old new left wanted state
+pub returns-clause-state_stays_backed : goal.returns-clause-state_stays_backed
+returns-clause-state_stays_backed c = λ wanted state port old new left. ends_on port old new left wanted state

@@ -13,10 +13,10 @@ no_control (inr (inr (inr (inr e)))) = absurd (let k : Sctl ≡ Fbu = e in cc)
 
 pub returns-clause-commanding : goal.returns-clause-commanding
 returns-clause-commanding c = λ port access is.
-    (c.law_prerequisites.ensures.control_of Commanding port access is, c.law_prerequisites.ensures.control_spares Commanding port Sctl (λ e. absurd (let k : Sctl ≡ Cmd = e in cc)) access is)
+    (c.law_prerequisites.ensures.control_spares_other_ports Commanding port access is, c.law_prerequisites.ensures.control_spares_other_registers Commanding port Sctl (λ e. absurd (let k : Sctl ≡ Cmd = e in cc)) access is)
 
 pub returns-clause-placing : goal.returns-clause-placing
-returns-clause-placing c = λ port access is. (c.law_prerequisites.ensures.control_of Placing port access is, c.law_prerequisites.ensures.control_spares Placing port Sctl no_control access is)
+returns-clause-placing c = λ port access is. (c.law_prerequisites.ensures.control_spares_other_ports Placing port access is, c.law_prerequisites.ensures.control_spares_other_registers Placing port Sctl no_control access is)
 
 pub returns-clause-resetting : goal.returns-clause-resetting
-returns-clause-resetting c = c.law_prerequisites.ensures.control_of Resetting
+returns-clause-resetting c = c.law_prerequisites.ensures.control_spares_other_ports Resetting

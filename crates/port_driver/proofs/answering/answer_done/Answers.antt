@@ -10,12 +10,12 @@ use Rattle.port_driver.proofs.answering.answer_done.Goals as goal
 pub loop-slot-init : goal.loop-slot-init
 loop-slot-init c = record {
   answers = λ s port l. finishing.none_answered s c.args.table.now c.args.book.now c.args.slots.now port c.args.done l c.args.replies.now.items;
-  room = c.requires.room;
+  room = c.requires.replies_have_room;
 }
 
 pub answer_one-requires-clause-lends : goal.answer_one-requires-clause-lends
 answer_one-requires-clause-lends c =
-    let l = c.requires.lends in
+    let l = c.requires.server_has_port in
     let now = with_answers l.0 c.loop-slot.table c.loop-slot.book c.loop-slot.slots l.1 in
     (now, l.1, c.args.done, (c.loop-slot.invariant.answers l.0 l.1 l.2).lends, eq-eqb (bit_at c.args.done c.in-Some.slot.0) 1 c.in-Some.ensures.found.mask_has_slot)
 
@@ -40,7 +40,7 @@ loop-slot-preserved c = record {
 pub returns-clause-answers : goal.returns-clause-answers
 returns-clause-answers c = λ s port l.
     finishing.all_answered port c.args.done c.args.replies.now.items c.loop-slot.replies.items s (with_answers s c.loop-slot.table c.loop-slot.book c.loop-slot.slots port)
-    c.loop-slot.table c.loop-slot.book c.loop-slot.slots (c.loop-slot.invariant.answers s port l) c.in_default.ensures.none
+    c.loop-slot.table c.loop-slot.book c.loop-slot.slots (c.loop-slot.invariant.answers s port l) c.in_default.ensures.no_such_slot
 
 pub returns-clause-lends : goal.returns-clause-lends
 returns-clause-lends c = λ s port l. (c.loop-slot.invariant.answers s port l).lends

@@ -1,5 +1,5 @@
 use Rattle.std.proofs.Common.{rules}
 use Rattle.port_driver.proofs.modes.probed_mode.Goals as goal
 
-pub returns-in-Ready-clause-found : goal.returns-in-Ready-clause-found
-returns-in-Ready-clause-found c = search rules
+pub returns-in-Ready-clause-mode_is_by_cap : goal.returns-in-Ready-clause-mode_is_by_cap
+returns-in-Ready-clause-mode_is_by_cap c = search rules

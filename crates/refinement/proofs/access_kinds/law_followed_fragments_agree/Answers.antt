@@ -5,10 +5,10 @@ use Rattle.refinement.proofs.access_kinds.law_followed_fragments_agree.Goals as 
 pub returns-clause-agreed : goal.returns-clause-agreed
 returns-clause-agreed g c = λ kind. agreed_to (g.K.AccessKinds.may kind) (g.K.AccessKinds.fits kind)
 
-pub returns-clause-silent : goal.returns-clause-silent
-returns-clause-silent g c = λ kind next uses port o old new fits issues arms own none followed a.
+pub returns-clause-gains_no_move : goal.returns-clause-gains_no_move
+returns-clause-gains_no_move g c = λ kind next uses port o old new fits issues arms own none followed a.
     (followed_silent c.law_prerequisites.ensures) followed uses a.parked a.machine fits a.reached a.driver_relation port o own issues arms none
 
-pub returns-clause-plain : goal.returns-clause-plain
-returns-clause-plain g c = λ kind next uses port old new fits arms followed a.
+pub returns-clause-works_plainly_still : goal.returns-clause-works_plainly_still
+returns-clause-works_plainly_still g c = λ kind next uses port old new fits arms followed a.
     (followed_plain c.law_prerequisites.ensures) followed uses a.parked a.machine fits a.reached a.driver_relation port arms

@@ -2,23 +2,23 @@ use Rattle.refinement.proofs.fragments.law_tape_prerequisites.Goals as goal
 
 pub returns : goal.returns
 returns c = record {
-  grows_none = c.law_tapes_grow.ensures.reflexive;
-  grows_more = c.law_tapes_grow.ensures.transitive;
+  growth_is_reflexive = c.law_tapes_grow.ensures.reflexive;
+  growth_is_transitive = c.law_tapes_grow.ensures.transitive;
   access_grows = c.law_tapes_grow.ensures.access;
-  comes_parts = c.law_tape_absence_composes.ensures.comes.parts;
-  plugs_come = c.law_undisturbed_ports_tell_nothing.ensures.comes;
-  plugs_none = c.law_tape_absence_composes.ensures.plugs.none;
-  plugs_more = c.law_tape_absence_composes.ensures.plugs.more;
-  plugs_parts = c.law_tape_absence_composes.ensures.plugs.parts;
-  fatal_none = c.law_tape_absence_composes.ensures.fatal.none;
-  fatal_more = c.law_tape_absence_composes.ensures.fatal.more;
-  fatal_parts = c.law_tape_absence_composes.ensures.fatal.parts;
-  fails_none = c.law_tape_absence_composes.ensures.fails.none;
-  fails_more = c.law_tape_absence_composes.ensures.fails.more;
-  fails_parts = c.law_tape_absence_composes.ensures.fails.parts;
-  calm_parts = c.law_tape_absence_composes.ensures.calm.parts;
-  change_none = c.law_errors_rise_by_disks.ensures.reflexive;
-  change_more = c.law_errors_rise_by_disks.ensures.transitive;
-  access_change = c.law_errors_rise_by_disks.ensures.access;
-  access_undue = c.law_errors_rise_by_disks.ensures.due_access;
+  no_disk_comes_in_parts = c.law_tape_absence_composes.ensures.comes.whole_gives_parts;
+  no_plug_event_no_disk = c.law_undisturbed_ports_tell_nothing.ensures.comes;
+  no_plug_events_reflexive = c.law_tape_absence_composes.ensures.plugs.reflexive;
+  no_plug_events_transitive = c.law_tape_absence_composes.ensures.plugs.transitive;
+  no_plug_events_in_parts = c.law_tape_absence_composes.ensures.plugs.whole_gives_parts;
+  no_fatal_errors_reflexive = c.law_tape_absence_composes.ensures.fatal.reflexive;
+  no_fatal_errors_transitive = c.law_tape_absence_composes.ensures.fatal.transitive;
+  no_fatal_errors_in_parts = c.law_tape_absence_composes.ensures.fatal.whole_gives_parts;
+  no_faults_reflexive = c.law_tape_absence_composes.ensures.fails.reflexive;
+  no_faults_transitive = c.law_tape_absence_composes.ensures.fails.transitive;
+  no_faults_in_parts = c.law_tape_absence_composes.ensures.fails.whole_gives_parts;
+  undisturbed_in_parts = c.law_tape_absence_composes.ensures.undisturbed.whole_gives_parts;
+  link_errors_reflexive = c.law_errors_rise_by_disks.ensures.reflexive;
+  link_errors_transitive = c.law_errors_rise_by_disks.ensures.transitive;
+  access_raises_by_disks = c.law_errors_rise_by_disks.ensures.access;
+  access_makes_no_link_due = c.law_errors_rise_by_disks.ensures.due_access;
 }

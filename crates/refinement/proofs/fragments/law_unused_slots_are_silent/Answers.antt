@@ -11,8 +11,8 @@ returns-clause-steps c = steps_unmoving c.law_prerequisites.ensures
 pub returns-clause-access : goal.returns-clause-access
 returns-clause-access c = access_unmoving c.law_prerequisites.ensures
 
-pub returns-clause-controls : goal.returns-clause-controls
-returns-clause-controls c = controls_unmoving c.law_prerequisites.ensures (λ r. r ≢ Ci) (λ same. same refl)
+pub returns-clause-port_accesses_gain_no_move : goal.returns-clause-port_accesses_gain_no_move
+returns-clause-port_accesses_gain_no_move c = controls_unmoving c.law_prerequisites.ensures (λ r. r ≢ Ci) (λ same. same refl)
 
 pub returns-clause-transitive : goal.returns-clause-transitive
 returns-clause-transitive c = λ port o. gains_more (IsMove port o)

@@ -7,5 +7,5 @@ returns-clause-used c = used_outstanding
 pub returns-clause-shown : goal.returns-clause-shown
 returns-clause-shown c = shown_outstanding
 
-pub returns-clause-sole : goal.returns-clause-sole
-returns-clause-sole c = sole_fault
+pub returns-clause-only_used_slot_has_fault : goal.returns-clause-only_used_slot_has_fault
+returns-clause-only_used_slot_has_fault c = sole_fault

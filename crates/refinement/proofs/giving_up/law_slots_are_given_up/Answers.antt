@@ -4,11 +4,11 @@ use Rattle.refinement.proofs.giving_up.law_slots_are_given_up.Goals as goal
 pub returns-clause-over : goal.returns-clause-over
 returns-clause-over c = given_up_over
 
-pub returns-clause-halted : goal.returns-clause-halted
-returns-clause-halted c = given_up_halted
+pub returns-clause-engine_stopped : goal.returns-clause-engine_stopped
+returns-clause-engine_stopped c = given_up_halted
 
-pub returns-clause-free : goal.returns-clause-free
-returns-clause-free c = all_free
+pub returns-clause-given_up_port_is_free : goal.returns-clause-given_up_port_is_free
+returns-clause-given_up_port_is_free c = all_free
 
 pub returns-clause-others : goal.returns-clause-others
 returns-clause-others c = others_same
@@ -19,8 +19,8 @@ returns-clause-parks c = λ k m port slot id a u. parks_all k port m slot id a u
 pub returns-clause-keeps : goal.returns-clause-keeps
 returns-clause-keeps c = still_parked
 
-pub returns-clause-served : goal.returns-clause-served
-returns-clause-served c = ids_served
+pub returns-clause-ids_in_slots_are_served : goal.returns-clause-ids_in_slots_are_served
+returns-clause-ids_in_slots_are_served c = ids_served
 
 pub returns-clause-frees : goal.returns-clause-frees
 returns-clause-frees c = parking_frees_all

@@ -2,8 +2,8 @@ use Rattle.refinement.proofs.device.AdapterOverAccesses.{access_same, access_on,
 use Rattle.refinement.proofs.driver.PortAccesses.{on_all}
 use Rattle.refinement.proofs.port_facts.law_adapter_stays.Goals as goal
 
-pub returns-clause-same : goal.returns-clause-same
-returns-clause-same c = access_same
+pub returns-clause-access_keeps_adapter : goal.returns-clause-access_keeps_adapter
+returns-clause-access_keeps_adapter c = access_same
 
 pub returns-clause-stays_on : goal.returns-clause-stays_on
 returns-clause-stays_on c = access_on

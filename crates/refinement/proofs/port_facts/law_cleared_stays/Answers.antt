@@ -8,8 +8,8 @@ returns-clause-steps c = steps_clear c.law_prerequisites.ensures
 pub returns-clause-access : goal.returns-clause-access
 returns-clause-access c = access_clear c.law_prerequisites.ensures
 
-pub returns-clause-none : goal.returns-clause-none
-returns-clause-none c = shows_still
+pub returns-clause-no_trouble_stays : goal.returns-clause-no_trouble_stays
+returns-clause-no_trouble_stays c = shows_still
 
 pub returns-clause-causes : goal.returns-clause-causes
 returns-clause-causes c = steps_raise c.law_prerequisites.ensures

@@ -7,8 +7,8 @@ returns-clause-command c = command_noted
 pub returns-clause-link : goal.returns-clause-link
 returns-clause-link c = link_noted
 
-pub returns-clause-file : goal.returns-clause-file
-returns-clause-file c = file_noted
+pub returns-clause-task_file : goal.returns-clause-task_file
+returns-clause-task_file c = file_noted
 
 pub returns-clause-issued : goal.returns-clause-issued
 returns-clause-issued c = issued_noted

@@ -12,17 +12,17 @@ returns-clause-steps c = steps_started c.law_prerequisites.ensures
 pub returns-clause-access : goal.returns-clause-access
 returns-clause-access c = access_started c.law_prerequisites.ensures
 
-pub returns-clause-well : goal.returns-clause-well
-returns-clause-well c = well_of
+pub returns-clause-started_runs_well : goal.returns-clause-started_runs_well
+returns-clause-started_runs_well c = well_of
 
 pub returns-clause-started : goal.returns-clause-started
 returns-clause-started c = started_well
 
-pub returns-clause-told : goal.returns-clause-told
-returns-clause-told c = well_is_told c.law_prerequisites.ensures
+pub returns-clause-pxis_read_clear_runs_well : goal.returns-clause-pxis_read_clear_runs_well
+returns-clause-pxis_read_clear_runs_well c = well_is_told c.law_prerequisites.ensures
 
 pub returns-clause-found : goal.returns-clause-found
 returns-clause-found c = well_is_found c.law_prerequisites.ensures
 
-pub returns-clause-up : goal.returns-clause-up
-returns-clause-up c = started_up
+pub returns-clause-started_is_up_for_start : goal.returns-clause-started_is_up_for_start
+returns-clause-started_is_up_for_start c = started_up

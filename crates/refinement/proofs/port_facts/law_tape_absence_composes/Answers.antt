@@ -5,17 +5,17 @@ use Rattle.refinement.proofs.device.HealthyPort.{undisturbed_none, undisturbed_m
 use Rattle.refinement.proofs.device.PortControls.{plugs_nothing, plugs_more, plugs_parts}
 use Rattle.refinement.proofs.port_facts.law_tape_absence_composes.Goals as goal
 
-pub returns-clause-calm : goal.returns-clause-calm
-returns-clause-calm c = record { none = undisturbed_none; more = undisturbed_more; parts = undisturbed_parts }
+pub returns-clause-undisturbed : goal.returns-clause-undisturbed
+returns-clause-undisturbed c = record { reflexive = undisturbed_none; transitive = undisturbed_more; whole_gives_parts = undisturbed_parts }
 
 pub returns-clause-plugs : goal.returns-clause-plugs
-returns-clause-plugs c = record { none = plugs_nothing; more = plugs_more; parts = plugs_parts }
+returns-clause-plugs c = record { reflexive = plugs_nothing; transitive = plugs_more; whole_gives_parts = plugs_parts }
 
 pub returns-clause-comes : goal.returns-clause-comes
-returns-clause-comes c = record { none = comes_nothing; more = comes_more; parts = comes_parts }
+returns-clause-comes c = record { reflexive = comes_nothing; transitive = comes_more; whole_gives_parts = comes_parts }
 
 pub returns-clause-fatal : goal.returns-clause-fatal
-returns-clause-fatal c = record { none = fatal_nothing; more = fatal_more; parts = fatal_parts }
+returns-clause-fatal c = record { reflexive = fatal_nothing; transitive = fatal_more; whole_gives_parts = fatal_parts }
 
 pub returns-clause-fails : goal.returns-clause-fails
-returns-clause-fails c = record { none = fails_nothing; more = fails_more; parts = fails_parts }
+returns-clause-fails c = record { reflexive = fails_nothing; transitive = fails_more; whole_gives_parts = fails_parts }

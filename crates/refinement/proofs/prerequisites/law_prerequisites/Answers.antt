@@ -4,8 +4,8 @@ use Rattle.refinement.proofs.prerequisites.law_prerequisites.Goals as goal
 
 pub returns : goal.returns
 returns c = record {
-  keeps = c.law_step_lists_keep_what_steps_keep.ensures;
-  step = λ step d can. c.law_step_lists_keep_what_steps_keep.ensures d (device_after step d) (record { steps = step ∷ []; lead = (can, refl) });
-  seen = c.law_port_register_accesses.ensures.register_read;
-  reached = c.law_step_lists_compose.ensures.reached;
+  steps_keep = c.law_step_lists_keep_what_steps_keep.ensures;
+  one_step_keeps = λ step d can. c.law_step_lists_keep_what_steps_keep.ensures d (device_after step d) (record { steps = step ∷ []; lead = (can, refl) });
+  reading_shows_register = c.law_port_register_accesses.ensures.register_read;
+  reachable_goes_on = c.law_step_lists_compose.ensures.reached;
 }

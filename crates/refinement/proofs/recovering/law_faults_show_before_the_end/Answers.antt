@@ -4,8 +4,8 @@ use Rattle.refinement.proofs.recovering.law_faults_show_before_the_end.Goals as 
 pub returns-clause-starts : goal.returns-clause-starts
 returns-clause-starts c = start_opens c.law_prerequisites.ensures
 
-pub returns-clause-used : goal.returns-clause-used
-returns-clause-used c = used_opens
+pub returns-clause-slot_0_may_be_used : goal.returns-clause-slot_0_may_be_used
+returns-clause-slot_0_may_be_used c = used_opens
 
 pub returns-clause-steps : goal.returns-clause-steps
 returns-clause-steps c = steps_open c.law_prerequisites.ensures
@@ -13,8 +13,8 @@ returns-clause-steps c = steps_open c.law_prerequisites.ensures
 pub returns-clause-access : goal.returns-clause-access
 returns-clause-access c = access_opens c.law_prerequisites.ensures
 
-pub returns-clause-read : goal.returns-clause-read
-returns-clause-read c = unfailed c.law_prerequisites.ensures
+pub returns-clause-tfes_is_clear_once_over : goal.returns-clause-tfes_is_clear_once_over
+returns-clause-tfes_is_clear_once_over c = unfailed c.law_prerequisites.ensures
 
-pub returns-clause-well : goal.returns-clause-well
-returns-clause-well c = open_well
+pub returns-clause-runs_well : goal.returns-clause-runs_well
+returns-clause-runs_well c = open_well

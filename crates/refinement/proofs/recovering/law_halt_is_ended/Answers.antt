@@ -10,8 +10,8 @@ returns-clause-steps c = steps_end c.law_prerequisites.ensures
 pub returns-clause-access : goal.returns-clause-access
 returns-clause-access c = access_ends c.law_prerequisites.ensures
 
-pub returns-clause-read : goal.returns-clause-read
-returns-clause-read c = halt_ended c.law_prerequisites.ensures
+pub returns-clause-no_halt_once_over : goal.returns-clause-no_halt_once_over
+returns-clause-no_halt_once_over c = halt_ended c.law_prerequisites.ensures
 
 pub returns-clause-found : goal.returns-clause-found
 returns-clause-found c = ended_well c.law_prerequisites.ensures

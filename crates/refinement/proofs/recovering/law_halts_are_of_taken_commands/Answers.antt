@@ -7,8 +7,8 @@ returns-clause-steps c = steps_halts c.law_prerequisites.ensures
 pub returns-clause-access : goal.returns-clause-access
 returns-clause-access c = access_halts c.law_prerequisites.ensures
 
-pub returns-clause-calm : goal.returns-clause-calm
-returns-clause-calm c = calm_halts
+pub returns-clause-without_halt : goal.returns-clause-without_halt
+returns-clause-without_halt c = calm_halts
 
 pub returns-clause-plain : goal.returns-clause-plain
 returns-clause-plain c = plain_halts

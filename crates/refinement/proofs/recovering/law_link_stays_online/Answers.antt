@@ -7,8 +7,8 @@ returns-clause-steps c = steps_linked c.law_prerequisites.ensures
 pub returns-clause-access : goal.returns-clause-access
 returns-clause-access c = access_linked c.law_prerequisites.ensures
 
-pub returns-clause-started : goal.returns-clause-started
-returns-clause-started c = started_linked
+pub returns-clause-started_is_linked : goal.returns-clause-started_is_linked
+returns-clause-started_is_linked c = started_linked
 
 pub returns-clause-up : goal.returns-clause-up
 returns-clause-up c = up_linked

@@ -10,8 +10,8 @@ returns-clause-access c = access_plain c.law_prerequisites.ensures
 pub returns-clause-runs : goal.returns-clause-runs
 returns-clause-runs c = running_plainly
 
-pub returns-clause-up : goal.returns-clause-up
-returns-clause-up c = plainly_up
+pub returns-clause-link_is_up_for_start : goal.returns-clause-link_is_up_for_start
+returns-clause-link_is_up_for_start c = plainly_up
 
 pub returns-clause-found : goal.returns-clause-found
 returns-clause-found c = plainly_well c.law_prerequisites.ensures

@@ -17,14 +17,14 @@ loop-later-preserved c =
     let end = c.len-later-end.ensures in
     let more = c.loop-later-test.true in
     let n = but.lengths_are_same in
-    let first = c.requires.but.lengths_are_same in
+    let first = c.requires.answered_blocks_excepted.lengths_are_same in
     let low = c.loop-later.auto.later in
     let its = get_or_default c.loop-later.blockers.items c.loop-later.later None c.index.result.now (omega (arith, n, first, end, more)) ∙ sym c.index.ensures in
     elim c.if-is_request.branch [
       | then-is_request w ↦
           let all = unanswered_of c.args.store.now in
-          let long = length-map c.args.store.now (λ (e : BookEntry). as_unanswered e.entry) in
-          let place = c.requires.place in
+          let long = length-map c.args.store.now (λ (e : BookEntry). as_unanswered e.request) in
+          let place = c.requires.place_is_in_range in
           let short = length-remove all c.args.place (omega (arith, place, long)) in
           let at : slice_get book c.loop-later.later ≡ Some w.unanswered.result =
           slice_get-get_or book c.loop-later.later w.unanswered.result (omega (arith, n, first, end, more))
@@ -45,5 +45,5 @@ pub returns-clause-blockers : goal.returns-clause-blockers
 returns-clause-blockers c =
     let end = c.len-later-end.ensures in
     let over = c.loop-later-test.false in
-    let n = c.requires.but.lengths_are_same in
+    let n = c.requires.answered_blocks_excepted.lengths_are_same in
     all_searched c.args.answered c.loop-later.later (remove (unanswered_of c.args.store.now) c.args.place) c.loop-later.blockers.items c.loop-later.invariant.but (omega (arith, end, over, n))

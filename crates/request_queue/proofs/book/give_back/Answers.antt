@@ -9,14 +9,14 @@ use Rattle.request_queue.proofs.book.give_back.Goals as goal
 
 pub give_back-requires : goal.give_back-requires
 give_back-requires c =
-    let e : BookEntry = record { entry = c.remove-loan.result.0; frames = c.remove-loan.result.1.frames } in
+    let e : BookEntry = record { request = c.remove-loan.result.0; frames = c.remove-loan.result.1.frames } in
     let is = first_and_rest c.loop-store.store c.remove-loan.new.self e c.remove-loan.ensures.entry c.remove-loan.ensures.rest in
     let stands = All-head (HasItsFrames c.loop-store.table) e c.remove-loan.new.self (subst (λ (es : List BookEntry). All (HasItsFrames c.loop-store.table) es) is c.loop-store.invariant.stands) in
     subst (λ (id : RequestId). All (λ f. lent_to c.loop-store.table f ≡ Some id) e.frames) (sym c.remove-loan.ensures.id) stands
 
 pub loop-store-preserved : goal.loop-store-preserved
 loop-store-preserved c =
-    let e : BookEntry = record { entry = c.remove-loan.result.0; frames = c.remove-loan.result.1.frames } in
+    let e : BookEntry = record { request = c.remove-loan.result.0; frames = c.remove-loan.result.1.frames } in
     let rest = c.remove-loan.new.self in
     let is = first_and_rest c.loop-store.store rest e c.remove-loan.ensures.entry c.remove-loan.ensures.rest in
     let stands = subst (λ (es : List BookEntry). All (HasItsFrames c.loop-store.table) es) is c.loop-store.invariant.stands in

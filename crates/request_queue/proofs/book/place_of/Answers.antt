@@ -10,8 +10,8 @@ use Rattle.request_queue.proofs.Changing.{request_is}
 use Rattle.request_queue.proofs.book.place_of.Goals as goal
 
 -- where the last one has no later id, it has this one
-last_is : (es : List BookEntry) (last : ℕ) (r : PendingRequest) (id : RequestId) → AllPairs IsEarlier es → last + 1 ≡ length es → slice_get (map (λ (e : BookEntry). e.entry) es) last ≡ Some r
-    → (k : ℕ) (d : BookEntry) → k < length es → (get_or es k d).entry.id.0 ≡ id.0 → r.id.0 ≤ id.0 → k ≡ last
+last_is : (es : List BookEntry) (last : ℕ) (r : PendingRequest) (id : RequestId) → AllPairs IsEarlier es → last + 1 ≡ length es → slice_get (map (λ (e : BookEntry). e.request) es) last ≡ Some r
+    → (k : ℕ) (d : BookEntry) → k < length es → (get_or es k d).request.id.0 ≡ id.0 → r.id.0 ≤ id.0 → k ≡ last
 last_is es last r id ordered long is k d lt its low = ⊎_elim
     (λ same. same)
     (λ (other : k ≢ last).
@@ -21,8 +21,8 @@ last_is es last r id ordered long is k d lt its low = ⊎_elim
     (cases_eq k last)
 
 -- its id, whatever stands where nothing is
-its : (es : List BookEntry) (e : BookEntry) (id : RequestId) (k : ℕ) → k < length es → get_or es k e ≡ e → e.entry.id ≡ id → (d : BookEntry) → (get_or es k d).entry.id.0 ≡ id.0
-its es e id k lt here named d = ap (λ (x : BookEntry). x.entry.id.0) (get_or_default es k d e lt ∙ here) ∙ ap (λ (i : RequestId). i.0) named
+its : (es : List BookEntry) (e : BookEntry) (id : RequestId) (k : ℕ) → k < length es → get_or es k e ≡ e → e.request.id ≡ id → (d : BookEntry) → (get_or es k d).request.id.0 ≡ id.0
+its es e id k lt here named d = ap (λ (x : BookEntry). x.request.id.0) (get_or_default es k d e lt ∙ here) ∙ ap (λ (i : RequestId). i.0) named
 
 pub loop-past-init : goal.loop-past-init
 loop-past-init c =
@@ -34,7 +34,7 @@ loop-past-init c =
     let before : e.1.0 < last = ⊎_elim
     (λ (same : e.1.0 ≡ last).
     let at = ap (λ (x : PendingRequest). x.id.0) (request_is c.args.store.now last c.request.result e.0 c.request.ensures) in
-    let mine = ap (λ (n : ℕ). (get_or c.args.store.now n e.0).entry.id.0) same in
+    let mine = ap (λ (n : ℕ). (get_or c.args.store.now n e.0).request.id.0) same in
     let i = id e.0 in
     let high = c.if-request-id.false in absurd (omega (arith, at, mine, i, high)))
     (λ (other : e.1.0 ≢ last). omega (arith, here, long, other))
@@ -63,7 +63,7 @@ loop-past-preserved-then-request-id-2 c = record {
   place = (k, not_before, x.2, x.3);
 }
   where
-    x : (k : ℕ) × (c.loop-past.first ≤ k) × (k < c.loop-past.past) × ((d : BookEntry) → (get_or c.args.store.now k d).entry.id.0 ≡ c.args.id.0)
+    x : (k : ℕ) × (c.loop-past.first ≤ k) × (k < c.loop-past.past) × ((d : BookEntry) → (get_or c.args.store.now k d).request.id.0 ≡ c.args.id.0)
     x = c.loop-past.invariant.place
 
     k : ℕ
@@ -73,9 +73,9 @@ loop-past-preserved-then-request-id-2 c = record {
     middle = c.loop-past.first + (c.loop-past.past - c.loop-past.first) / 2
 
     d : BookEntry
-    d = record { entry = c.request-in-loop-past.result; frames = [] }
+    d = record { request = c.request-in-loop-past.result; frames = [] }
 
-    here : (get_or c.args.store.now middle d).entry.id.0 ≤ c.args.id.0
+    here : (get_or c.args.store.now middle d).request.id.0 ≤ c.args.id.0
     here =
         let same = ap (λ (r : PendingRequest). r.id.0) (request_is c.args.store.now middle c.request-in-loop-past.result d c.request-in-loop-past.ensures) in
         let low = c.if-request-id-2.true in omega (arith, same, low)
@@ -97,7 +97,7 @@ loop-past-preserved c = record {
   place = (k, x.1, before, x.3);
 }
   where
-    x : (k : ℕ) × (c.loop-past.first ≤ k) × (k < c.loop-past.past) × ((d : BookEntry) → (get_or c.args.store.now k d).entry.id.0 ≡ c.args.id.0)
+    x : (k : ℕ) × (c.loop-past.first ≤ k) × (k < c.loop-past.past) × ((d : BookEntry) → (get_or c.args.store.now k d).request.id.0 ≡ c.args.id.0)
     x = c.loop-past.invariant.place
 
     k : ℕ
@@ -107,9 +107,9 @@ loop-past-preserved c = record {
     middle = c.loop-past.first + (c.loop-past.past - c.loop-past.first) / 2
 
     d : BookEntry
-    d = record { entry = c.request-in-loop-past.result; frames = [] }
+    d = record { request = c.request-in-loop-past.result; frames = [] }
 
-    high : c.args.id.0 < (get_or c.args.store.now middle d).entry.id.0
+    high : c.args.id.0 < (get_or c.args.store.now middle d).request.id.0
     high =
         let same = ap (λ (r : PendingRequest). r.id.0) (request_is c.args.store.now middle c.request-in-loop-past.result d c.request-in-loop-past.ensures) in
         let more = c.if-request-id-2.false in omega (arith, same, more)
@@ -119,7 +119,7 @@ loop-past-preserved c = record {
     before = ⊎_elim
         (λ (less : k < middle). less)
         (λ (most : middle ≤ k). let h = high in let its = x.3 d in ⊎_elim
-        (λ (same : middle ≡ k). let at = ap (λ (i : ℕ). (get_or c.args.store.now i d).entry.id.0) same in absurd (omega (arith, at, h, its)))
+        (λ (same : middle ≡ k). let at = ap (λ (i : ℕ). (get_or c.args.store.now i d).request.id.0) same in absurd (omega (arith, at, h, its)))
         (λ other.
         let small = c.loop-past.invariant.within in let lt = x.2 in
         let rise = c.requires.ordered middle k d (omega (arith, most, other)) (omega (arith, small, lt)) in absurd (omega (arith, rise, h, its)))
@@ -137,5 +137,5 @@ returns c =
     let at : c.loop-past.first ≡ x.0 = omega (arith, low, lt, close) in (
       get_or c.args.store.now c.loop-past.first d,
       slice_get-get_or c.args.store.now c.loop-past.first d (omega (arith, low, lt, within)),
-      ap (λ (n : ℕ). record { 0 = n }) (ap (λ (i : ℕ). (get_or c.args.store.now i d).entry.id.0) at ∙ x.3 d),
+      ap (λ (n : ℕ). record { 0 = n }) (ap (λ (i : ℕ). (get_or c.args.store.now i d).request.id.0) at ∙ x.3 d),
     )

@@ -3,7 +3,7 @@ use Rattle.std.specs.List.{remove, slice_get}
 use Rattle.block_machine.specs.declared.due.Unanswered.{Unanswered}
 use Rattle.request_queue.specs.Conflicts.{AreConflictLists}
 use Rattle.request_queue.specs.ClientCounts.{AreClientCounts}
-use Rattle.request_queue.specs.BookEntries.{BookEntry, BookIsInOrder}
+use Rattle.request_queue.specs.BookEntries.{BookEntry, BookIsWellFormed}
 use Rattle.request_queue.specs.Blockers.{AreBlockers}
 use Rattle.request_queue.specs.declared.PendingRequest.{PendingRequest}
 use Rattle.request_queue.proofs.Changing.{asks_in_order, request_is}
@@ -13,7 +13,7 @@ use Rattle.request_queue.proofs.Indexing.{asks_less}
 use Rattle.request_queue.proofs.Placed.{e, at}
 use Rattle.request_queue.proofs.book.remove_from_indexes.Goals as goal
 
-module _ (es : List BookEntry) (i : ℕ) (r : PendingRequest) (lt : i < length es) (s : BookIsInOrder es) (is : slice_get (map (λ (e : BookEntry). e.entry) es) i ≡ Some r) where
+module _ (es : List BookEntry) (i : ℕ) (r : PendingRequest) (lt : i < length es) (s : BookIsWellFormed es) (is : slice_get (map (λ (e : BookEntry). e.request) es) i ≡ Some r) where
   small : r.client.0 < 9
   small =
       let c = (s.clients_are_valid i (e es i r lt s is) lt).1 in
@@ -29,8 +29,8 @@ module _ (es : List BookEntry) (i : ℕ) (r : PendingRequest) (lt : i < length e
       let one = is_counted es (e es i r lt s is) i (at es i r lt s is) in
       one_uncounted es (e es i r lt s is) i counts (get_or counts r.client.0 0 - 1) are (at es i r lt s is) small (omega (arith, its, one))
 
-pub update_blockers-requires-clause-but : goal.update_blockers-requires-clause-but
-update_blockers-requires-clause-but c =
+pub update_blockers-requires-clause-answered_blocks_excepted : goal.update_blockers-requires-clause-answered_blocks_excepted
+update_blockers-requires-clause-answered_blocks_excepted c =
     let es = c.args.store.now in
     let r = c.request-request.result in
     rw (c.remove-2.ensures.items) (fewer_holders es c.args.blockers.now.items c.args.place (e es c.args.place r c.requires.place c.requires.ordered c.request-request.ensures) r.id c.requires.beside.blockers_match

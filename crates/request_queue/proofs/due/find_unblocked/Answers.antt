@@ -10,7 +10,7 @@ use Rattle.block_machine.specs.DueRequests.{is_plain}
 use Rattle.request_queue.specs.BookEntries.{BookEntry, as_unanswered, unanswered_of}
 use Rattle.request_queue.specs.Blockers.{IsBlockerOf, has_blocker}
 use Rattle.request_queue.specs.DueWalk.{is_issued_plain}
-use Rattle.request_queue.specs.RequestSlab.{unanswered_at, blank_entry}
+use Rattle.request_queue.specs.RequestSlab.{unanswered_at, blank_request}
 use Rattle.request_queue.proofs.Holding.{a_holder, no_holder}
 use Rattle.request_queue.proofs.Leading.{leads_more}
 use Rattle.request_queue.proofs.Own.{one_in, one_out, counted_more, any_more, as_long}
@@ -40,7 +40,7 @@ loop-place-preserved c =
     let alone : Unanswered → Bool = is_issued_plain c.args.mode in
     let are = c.requires.blockers in
     let n = are.lengths_are_same in
-    let long = length-map es (λ (e : BookEntry). as_unanswered e.entry) in
+    let long = length-map es (λ (e : BookEntry). as_unanswered e.request) in
     let end = c.loop-place.auto.place-end in
     let more = c.loop-place-test.true in
     let inside : i < length book = omega (arith, end, more, n) in
@@ -78,10 +78,10 @@ loop-place-preserved c =
             alone = w.has_plain-is ∙ v.alone;
           })
       | else-is_none w ↦
-          let r = get_or book i (as_unanswered blank_entry) in
-          let held = a_holder book r (get_or c.args.blockers.now i None) (λ none. is_one _ c.is_none.result c.is_none.ensures w.if-is_none.false (sym its ∙ none)) (are.blocker_of_each i (as_unanswered blank_entry) inside) in
+          let r = get_or book i (as_unanswered blank_request) in
+          let held = a_holder book r (get_or c.args.blockers.now i None) (λ none. is_one _ c.is_none.result c.is_none.ensures w.if-is_none.false (sym its ∙ none)) (are.blocker_of_each i (as_unanswered blank_request) inside) in
           rw w.places-is (record {
-            without_blocker = one_out p es places i r (slice_get-get_or book i (as_unanswered blank_entry) inside) v.without_blocker
+            without_blocker = one_out p es places i r (slice_get-get_or book i (as_unanswered blank_request) inside) v.without_blocker
                 (false_from_ne_true _ (λ both. both_ways _ (not-true _ (and_parts (r.port.0 == c.args.port.0) _ both).1) held));
             within = v.within;
             few = omega (arith, v.few);

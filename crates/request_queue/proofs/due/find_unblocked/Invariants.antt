@@ -2,7 +2,7 @@ use Rattle.std.proofs.Common.{◌≡◌, ◌<◌, ◌≤◌, ◌&&◌, ◌==◌,
 use Rattle.std.specs.List.{All, count_by, filter, list_any}
 use Rattle.request_queue.specs.BookEntries.{unanswered_of}
 use Rattle.request_queue.specs.Blockers.{has_blocker}
-use Rattle.request_queue.specs.DueWalk.{AreIssuedAhead, is_issued_plain}
+use Rattle.request_queue.specs.DueWalk.{AreQueuedIssuedAhead, is_issued_plain}
 use Rattle.request_queue.specs.RequestSlab.{unanswered_at}
 use Rattle.request_queue.proofs.due.find_unblocked.Given as goal
 
@@ -13,6 +13,6 @@ invariant-loop-place l = record {
   few : length l.places.items ≤ l.place;
   counted : l.count ≡ count_by (λ r. r.issued) (unanswered_at l.store l.places.items);
   fits : l.count ≤ l.place;
-  leading : AreIssuedAhead l.mode (unanswered_at l.store l.places.items) l.leading;
+  leading : AreQueuedIssuedAhead l.mode (unanswered_at l.store l.places.items) l.leading;
   alone : l.has_plain ≡ list_any (is_issued_plain l.mode) (unanswered_at l.store l.places.items);
 }

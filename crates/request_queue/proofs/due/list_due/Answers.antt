@@ -35,7 +35,7 @@ returns-then-ends c =
     let ordered = unheld_in_order c.args.port all book is c.requires.ordered in
     let mine = own_at c.args.port all book is c.loop-number.number c.nth-asks.result c.nth-asks.ensures in
     let clear = c.is_unblocked-clear.ensures book (reached c.args.port all book is c.requires.ordered c.args.mode c.loop-number.number c.nth-asks.result c.nth-asks.ensures c.loop-number.invariant.queued) c.find_unblocked-issued.ensures.issued in
-    let free = own_free c.args.port all book is c.args.mode c.free_slots-free.result (c.free_slots-free.ensures ∙ ap (λ (n : ℕ). c.args.mode.usable - n) c.find_unblocked-issued.ensures.issued.0) in
+    let free = own_free c.args.port all book is c.args.mode c.free_slots-free.result (c.free_slots-free.ensures ∙ ap (λ (n : ℕ). c.args.mode.usable_slots - n) c.find_unblocked-issued.ensures.issued.0) in
     let so_far =
     steps_on c.law_earlier_ones_stand_before.ensures c.law_due_ones_leave_a_slot.ensures c.args.mode c.args.port book ordered c.loop-number.number c.nth-asks.result c.nth-asks.ensures mine
     c.loop-number.due.items c.loop-number.invariant.so_far c.len.result c.free_slots-free.result c.len.ensures.value free c.if-goes.due.items c.goes.result (c.goes.ensures ∙ ap (λ (b : Bool). b && (is_plain c.args.mode c.nth-asks.result.op || nat_lt c.len.result c.free_slots-free.result)) clear)
@@ -49,9 +49,9 @@ loop-number-init c =
     let book = unanswered_at c.args.store.now c.find_unblocked-issued.new.places.items in
     let ahead = c.find_unblocked-issued.ensures.leading in
     record {
-      so_far = c.requires.empty ∙ sym (none_ahead c.args.mode c.args.port book c.find_unblocked-issued.result.leading ahead);
-      few = rw c.requires.empty (omega arith);
-      queued = ahead.queued;
+      so_far = c.requires.due_is_empty ∙ sym (none_ahead c.args.mode c.args.port book c.find_unblocked-issued.result.leading ahead);
+      few = rw c.requires.due_is_empty (omega arith);
+      queued = ahead.leading_are_queued;
     }
 
 pub loop-number-preserved : goal.loop-number-preserved
@@ -62,8 +62,8 @@ loop-number-preserved c =
     let ordered = unheld_in_order c.args.port all book is c.requires.ordered in
     let mine = own_at c.args.port all book is c.loop-number.number c.nth-asks.result c.nth-asks.ensures in
     let clear = c.is_unblocked-clear.ensures book (reached c.args.port all book is c.requires.ordered c.args.mode c.loop-number.number c.nth-asks.result c.nth-asks.ensures c.loop-number.invariant.queued) c.find_unblocked-issued.ensures.issued in
-    let free = own_free c.args.port all book is c.args.mode c.free_slots-free.result (c.free_slots-free.ensures ∙ ap (λ (n : ℕ). c.args.mode.usable - n) c.find_unblocked-issued.ensures.issued.0) in
-    let small = has_room c.args.mode c.args.port book c.nth-asks.result c.len-in-loop-number.result c.free_slots-free.result free c.requires.usable (sym c.ends.ensures ∙ c.if-ends.false) in
+    let free = own_free c.args.port all book is c.args.mode c.free_slots-free.result (c.free_slots-free.ensures ∙ ap (λ (n : ℕ). c.args.mode.usable_slots - n) c.find_unblocked-issued.ensures.issued.0) in
+    let small = has_room c.args.mode c.args.port book c.nth-asks.result c.len-in-loop-number.result c.free_slots-free.result free c.requires.usable_slots_are_at_most_32 (sym c.ends.ensures ∙ c.if-ends.false) in
     record {
       so_far = steps_on c.law_earlier_ones_stand_before.ensures c.law_due_ones_leave_a_slot.ensures c.args.mode c.args.port book ordered c.loop-number.number c.nth-asks.result c.nth-asks.ensures mine
           c.loop-number.due.items c.loop-number.invariant.so_far c.len.result c.free_slots-free.result c.len.ensures.value free c.if-goes.due.items c.goes.result (c.goes.ensures ∙ ap (λ (b : Bool). b && (is_plain c.args.mode c.nth-asks.result.op || nat_lt c.len.result c.free_slots-free.result)) clear)

@@ -4,8 +4,8 @@ use Rattle.request_queue.specs.declared.flushes.Flush.{Flush}
 use Rattle.request_queue.specs.Flushes.{is_earlier_flush}
 use Rattle.request_queue.proofs.flushes.earlier_flush.Goals as goal
 
-pub returns-in_err-flush-clause-none : goal.returns-in_err-flush-clause-none
-returns-in_err-flush-clause-none c =
+pub returns-in_err-flush-clause-none_is_earlier : goal.returns-in_err-flush-clause-none_is_earlier
+returns-in_err-flush-clause-none_is_earlier c =
     let none : (k : ℕ) (d : Flush) → k < length c.args.flushes.now → is_earlier_flush c.args.request.now (get_or c.args.flushes.now k d) ≡ false = λ k d lt. search rules in
     let all = list_any_none (is_earlier_flush c.args.request.now) c.args.flushes.now none in
     search rules

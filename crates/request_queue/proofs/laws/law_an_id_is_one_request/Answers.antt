@@ -13,5 +13,5 @@ returns-clause-found c entries e order here = found entries e order.ids_rise her
 pub returns-clause-found_has_id : goal.returns-clause-found_has_id
 returns-clause-found_has_id c = found_is
 
-pub returns-clause-absent_is_unanswered_by_none : goal.returns-clause-absent_is_unanswered_by_none
-returns-clause-absent_is_unanswered_by_none c = none_found
+pub returns-clause-absent_is_not_unanswered : goal.returns-clause-absent_is_not_unanswered
+returns-clause-absent_is_not_unanswered c = none_found

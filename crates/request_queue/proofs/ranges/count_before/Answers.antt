@@ -1,6 +1,6 @@
 use Rattle.std.proofs.Common.{ℕ, ◌<◌, ◌+◌, ◌-◌, ◌/◌, length, subst, sym, arith}
 use Rattle.std.proofs.lemmas.Bool.{iff_false}
-use Rattle.request_queue.specs.declared.ranges.BookRange.{BookRange}
+use Rattle.request_queue.specs.declared.ranges.RequestRange.{RequestRange}
 use Rattle.request_queue.specs.BookRanges.{StandsBefore}
 use Rattle.request_queue.specs.RangeIndex.{items_of}
 use Rattle.request_queue.proofs.Sorting.{item_at, as_many, low_more, high_more}
@@ -19,7 +19,7 @@ loop-low-preserved-then-is_before c =
     record {
       meets = omega (arith, going);
       within = within;
-      before = low_more (items_of es) c.requires middle c.args.first c.args.id (omega (arith, n, inside)) (λ d. subst (λ (x : BookRange). StandsBefore x c.args.first c.args.id) (sym (item_at es middle _ d inside)) is);
+      before = low_more (items_of es) c.requires middle c.args.first c.args.id (omega (arith, n, inside)) (λ d. subst (λ (x : RequestRange). StandsBefore x c.args.first c.args.id) (sym (item_at es middle _ d inside)) is);
       behind = v.behind;
     }
 
@@ -38,5 +38,5 @@ loop-low-preserved c =
       within = omega (arith, within, going);
       before = v.before;
       behind = λ k d ge lt. high_more (items_of es) c.requires middle c.args.first c.args.id (omega (arith, n, inside))
-          (λ e is. not (subst (λ (x : BookRange). StandsBefore x c.args.first c.args.id) (item_at es middle _ e inside) is)) k d ge (omega (arith, n, lt));
+          (λ e is. not (subst (λ (x : RequestRange). StandsBefore x c.args.first c.args.id) (item_at es middle _ e inside) is)) k d ge (omega (arith, n, lt));
     }

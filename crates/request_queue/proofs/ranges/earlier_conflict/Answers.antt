@@ -16,15 +16,15 @@ loop-past-init c =
           (λ is. c.count_before-past.ensures.behind k d ge (let n = as_many es in omega (arith, n, lt)) (subst (λ (e : ℕ). StandsBefore (get_or (items_of es) k d) e 0) (sym c.end_of.ensures) is));
     }
 
-pub returns-then-entry-first-clause-none : goal.returns-then-entry-first-clause-none
-returns-then-entry-first-clause-none c =
+pub returns-then-entry-first-clause-none_conflicts : goal.returns-then-entry-first-clause-none_conflicts
+returns-then-entry-first-clause-none_conflicts c =
     let es = c.args.entries.now in
     let v = c.loop-past.invariant in
     let within = v.within in
     let some = c.loop-past-test.true in
     let early = c.if-entry-first.true in
     let from = c.from-first.ensures in
-    (none_conflicts c.args.item.now (items_of es) (c.loop-past.past - 1) (get_or es (c.loop-past.past - 1) blank).greatest_end (c.requires.ends (c.loop-past.past - 1) blank (omega (arith, within, some))) (omega (arith, early, from))
+    (none_conflicts c.args.item.now (items_of es) (c.loop-past.past - 1) (get_or es (c.loop-past.past - 1) blank).greatest_end (c.requires.ends_are_greatest (c.loop-past.past - 1) blank (omega (arith, within, some))) (omega (arith, early, from))
     (λ k d more lt. v.none k d (omega (arith, more)) lt))
 
 pub returns-then-is_earlier_conflict-clause-found : goal.returns-then-is_earlier_conflict-clause-found
@@ -51,7 +51,7 @@ loop-past-preserved c =
       ];
     }
 
-pub returns-clause-none : goal.returns-clause-none
-returns-clause-none c =
+pub returns-clause-none_conflicts : goal.returns-clause-none_conflicts
+returns-clause-none_conflicts c =
     let over = c.loop-past-test.false in
     (none_left c.args.item.now (items_of c.args.entries.now) (λ k d ge lt. c.loop-past.invariant.none k d (omega (arith, over)) lt))

@@ -4,21 +4,21 @@ use Rattle.script.proofs.HexLemmas.{sized_as, decoded}
 use Rattle.script.proofs.fields.parse_bytes.Goals as goal
 use Rattle.script.proofs.fields.parse_bytes.Goals.{then-is_empty-via-then-is_empty, then-is_empty-via-else-is_empty+then-ne}
 
-pub returns-in_err-bytes-clause-only : goal.returns-in_err-bytes-clause-only
-returns-in_err-bytes-clause-only c = λ v all least most e.
+pub returns-in_err-bytes-clause-spelled_value_is_found : goal.returns-in_err-bytes-clause-spelled_value_is_found
+returns-in_err-bytes-clause-spelled_value_is_found c = λ v all least most e.
     let sized = sized_as v.items c.args.word.now e in
     elim c.in_err-bytes.ensures.lookup.0 [ inl a ↦ absurd (omega arith) | inr b ↦ absurd (omega arith) ]
 
-pub returns-in_err-ok-clause-only : goal.returns-in_err-ok-clause-only
-returns-in_err-ok-clause-only c = λ v all least most e.
+pub returns-in_err-ok-clause-spelled_value_is_found : goal.returns-in_err-ok-clause-spelled_value_is_found
+returns-in_err-ok-clause-spelled_value_is_found c = λ v all least most e.
     let sized = sized_as v.items c.args.word.now e in
     let room : length c.in_ok-bytes.bytes.now ≡ length c.args.word.now / 2 = search rules in
     let read = decoded v.items c.args.word.now (length c.in_ok-bytes.bytes.now) (omega arith) all e c.decode_to_slice.result c.decode_to_slice.new.out c.decode_to_slice.ensures.value in
     let good = read.0 in
     search rules
 
-pub returns-then-is_empty-clause-only : goal.returns-then-is_empty-clause-only
-returns-then-is_empty-clause-only c = λ v all least most e.
+pub returns-then-is_empty-clause-spelled_value_is_found : goal.returns-then-is_empty-clause-spelled_value_is_found
+returns-then-is_empty-clause-spelled_value_is_found c = λ v all least most e.
     let sized = sized_as v.items c.args.word.now e in
     let room : length c.in_ok-bytes.bytes.now ≡ length c.args.word.now / 2 = search rules in
     let read = decoded v.items c.args.word.now (length c.in_ok-bytes.bytes.now) (omega arith) all e c.decode_to_slice.result c.decode_to_slice.new.out c.decode_to_slice.ensures.value in
@@ -27,8 +27,8 @@ returns-then-is_empty-clause-only c = λ v all least most e.
     let same : c.encode_to_slice.new.output ≡ c.args.word.now = written ∙ ap encode_lower good ∙ e in
     elim c.then-is_empty.branch [ then-is_empty-via-then-is_empty w ↦ search rules | then-is_empty-via-else-is_empty+then-ne w ↦ search rules ]
 
-pub returns-clause-only : goal.returns-clause-only
-returns-clause-only c = λ v all least most e.
+pub returns-clause-spelled_value_is_found : goal.returns-clause-spelled_value_is_found
+returns-clause-spelled_value_is_found c = λ v all least most e.
     let sized = sized_as v.items c.args.word.now e in
     let room : length c.in_ok-bytes.bytes.now ≡ length c.args.word.now / 2 = search rules in
     let read = decoded v.items c.args.word.now (length c.in_ok-bytes.bytes.now) (omega arith) all e c.decode_to_slice.result c.decode_to_slice.new.out c.decode_to_slice.ensures.value in

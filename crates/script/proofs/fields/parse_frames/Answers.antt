@@ -6,13 +6,13 @@ use Rattle.script.proofs.PartLemmas.{lacks_more, part_first, part_last}
 use Rattle.script.proofs.fields.parse_frames.Goals as goal
 use Rattle.script.proofs.fields.parse_frames.Goals.{then-word-place-eq44+in_ok-push_frame, else-word-place-eq44}
 
-pub returns-then-is_text-clause-only : goal.returns-then-is_text-clause-only
-returns-then-is_text-clause-only c = λ v all most e.
+pub returns-then-is_text-clause-spelled_value_is_found : goal.returns-then-is_text-clause-spelled_value_is_found
+returns-then-is_text-clause-spelled_value_is_found c = λ v all most e.
     let none : v.items ≡ [] = none_for_dash v.items all (e ∙ c.is_text.ensures.0 c.if-is_text.true) in
     (refl, ap (λ items. record { items = items }) (c.clear.ensures ∙ sym none))
 
-pub returns-in_err-push_frame-clause-only : goal.returns-in_err-push_frame-clause-only
-returns-in_err-push_frame-clause-only c = λ v all most e.
+pub returns-in_err-push_frame-clause-spelled_value_is_found : goal.returns-in_err-push_frame-clause-spelled_value_is_found
+returns-in_err-push_frame-clause-spelled_value_is_found c = λ v all most e.
     let word : List ℕ = c.args.word.now in
     let is = c.loop-place.invariant in
     let other = parted_word v.items word all e (λ dash. true≢false (sym (c.is_text.ensures.1 dash) ∙ c.if-is_text.false)) in
@@ -59,8 +59,8 @@ loop-place-preserved c = elim c.if-word-place-eq44.branch [
       }
 ]
 
-pub returns-in_err-push_frame-2-clause-only : goal.returns-in_err-push_frame-2-clause-only
-returns-in_err-push_frame-2-clause-only c = λ v all most e.
+pub returns-in_err-push_frame-2-clause-spelled_value_is_found : goal.returns-in_err-push_frame-2-clause-spelled_value_is_found
+returns-in_err-push_frame-2-clause-spelled_value_is_found c = λ v all most e.
     let word : List ℕ = c.args.word.now in
     let is = c.loop-place.invariant in
     let within = c.loop-place-test.false in
@@ -84,11 +84,11 @@ returns-clause-spelled c =
       whole_word items word (all ∙ (ap (λ ws. map spelled c.loop-place.frames.items ++ ws) (sym last) ∙ is.parted)),
     )
 
-pub returns-clause-most : goal.returns-clause-most
-returns-clause-most c = c.in_ok-push_frame-2.ensures.few
+pub returns-clause-at_most_128_frames : goal.returns-clause-at_most_128_frames
+returns-clause-at_most_128_frames c = c.in_ok-push_frame-2.ensures.few
 
-pub returns-clause-only : goal.returns-clause-only
-returns-clause-only c = λ v given most e.
+pub returns-clause-spelled_value_is_found : goal.returns-clause-spelled_value_is_found
+returns-clause-spelled_value_is_found c = λ v given most e.
     let word : List ℕ = c.args.word.now in
     let is = c.loop-place.invariant in
     let within = c.loop-place-test.false in

@@ -4,12 +4,12 @@ use Rattle.std.proofs.lemmas.List.{take_all}
 use Rattle.script.proofs.NumberLemmas.{digit_at, goes_on, one_more}
 use Rattle.script.proofs.fields.parse_number.Goals as goal
 
-pub returns-in_err-first-clause-only : goal.returns-in_err-first-clause-only
-returns-in_err-first-clause-only c = λ n below spells.
+pub returns-in_err-first-clause-spelled_value_is_found : goal.returns-in_err-first-clause-spelled_value_is_found
+returns-in_err-first-clause-spelled_value_is_found c = λ n below spells.
     absurd (omega (arith, decimal_nonempty n (omega (arith, below, c.ranges.last.fits)), ap length spells, c.in_err-first.ensures.cases))
 
-pub returns-in_err-number-clause-only : goal.returns-in_err-number-clause-only
-returns-in_err-number-clause-only c = λ n below spells.
+pub returns-in_err-number-clause-spelled_value_is_found : goal.returns-in_err-number-clause-spelled_value_is_found
+returns-in_err-number-clause-spelled_value_is_found c = λ n below spells.
     let whole : c.args.word.now ≡ c.in_ok-first.first.now ∷ c.in_ok-first.rest.now = search rules in
     let d = digit_at n 0 (c.in_ok-first.first.now ∷ c.in_ok-first.rest.now) (omega (arith, below, c.ranges.last.fits)) (spells ∙ whole) (omega arith) in
     let bad = sym c.in_err-number.was ∙ c.digit.ensures.only d.0 d.1 d.2 in
@@ -21,30 +21,30 @@ loop-byte-init c =
     let found = c.in_ok-number.ensures.found in
     record { spells = decimal_digit c.in_ok-number.number found.0 ∙ ap (λ b. b ∷ []) (sym found.1) ∙ ap (take 1) (sym whole); fits = omega (arith, found.0) }
 
-pub returns-then-number-eq0-clause-only : goal.returns-then-number-eq0-clause-only
-returns-then-number-eq0-clause-only c = λ n below spells.
+pub returns-then-number-eq0-clause-spelled_value_is_found : goal.returns-then-number-eq0-clause-spelled_value_is_found
+returns-then-number-eq0-clause-spelled_value_is_found c = λ n below spells.
     let whole : c.args.word.now ≡ c.in_ok-first.first.now ∷ c.in_ok-first.rest.now = search rules in
     let more = goes_on n c.loop-byte.number (c.loop-byte.byte-index + 1) c.args.word.now (omega (arith, below, c.ranges.last.fits)) spells c.loop-byte.invariant.fits
     (omega arith) (omega (arith, ap length whole, c.loop-byte-test.true)) c.loop-byte.invariant.spells in
     absurd (omega (arith, more.some, c.if-number-eq0.true))
 
-pub returns-in_err-checked_mul-clause-only : goal.returns-in_err-checked_mul-clause-only
-returns-in_err-checked_mul-clause-only c = λ n below spells.
+pub returns-in_err-checked_mul-clause-spelled_value_is_found : goal.returns-in_err-checked_mul-clause-spelled_value_is_found
+returns-in_err-checked_mul-clause-spelled_value_is_found c = λ n below spells.
     let whole : c.args.word.now ≡ c.in_ok-first.first.now ∷ c.in_ok-first.rest.now = search rules in
     let more = goes_on n c.loop-byte.number (c.loop-byte.byte-index + 1) c.args.word.now (omega (arith, below, c.ranges.last.fits)) spells c.loop-byte.invariant.fits
     (omega arith) (omega (arith, ap length whole, c.loop-byte-test.true)) c.loop-byte.invariant.spells in
     absurd (omega (arith, more.within, below, c.ranges.last.fits, c.in_err-checked_mul.ensures))
 
-pub returns-in_err-digit-clause-only : goal.returns-in_err-digit-clause-only
-returns-in_err-digit-clause-only c = λ n below spells.
+pub returns-in_err-digit-clause-spelled_value_is_found : goal.returns-in_err-digit-clause-spelled_value_is_found
+returns-in_err-digit-clause-spelled_value_is_found c = λ n below spells.
     let whole : c.args.word.now ≡ c.in_ok-first.first.now ∷ c.in_ok-first.rest.now = search rules in
     let d = digit_at n (suc c.loop-byte.byte-index) (c.in_ok-first.first.now ∷ c.in_ok-first.rest.now) (omega (arith, below, c.ranges.last.fits)) (spells ∙ whole)
     (omega (arith, c.loop-byte-test.true)) in
     let bad = sym c.in_err-digit.was ∙ c.digit-in-loop-byte.ensures.only d.0 d.1 d.2 in
     cc
 
-pub returns-in_err-number-2-clause-only : goal.returns-in_err-number-2-clause-only
-returns-in_err-number-2-clause-only c = λ n below spells.
+pub returns-in_err-number-2-clause-spelled_value_is_found : goal.returns-in_err-number-2-clause-spelled_value_is_found
+returns-in_err-number-2-clause-spelled_value_is_found c = λ n below spells.
     let whole : c.args.word.now ≡ c.in_ok-first.first.now ∷ c.in_ok-first.rest.now = search rules in
     let next : c.loop-byte.byte-index + 1 ≡ suc c.loop-byte.byte-index = omega arith in
     let more = goes_on n c.loop-byte.number (suc c.loop-byte.byte-index) (c.in_ok-first.first.now ∷ c.in_ok-first.rest.now)
@@ -66,15 +66,15 @@ loop-byte-preserved c =
     (c.loop-byte.invariant.spells ∙ (λ i. take (next i) (whole i))) in
     record { spells = ap decimal sum ∙ more ∙ (λ i. take (last i) (sym whole i)); fits = fits }
 
-pub returns-then-number-last-clause-only : goal.returns-then-number-last-clause-only
-returns-then-number-last-clause-only c = λ n below spells.
+pub returns-then-number-last-clause-spelled_value_is_found : goal.returns-then-number-last-clause-spelled_value_is_found
+returns-then-number-last-clause-spelled_value_is_found c = λ n below spells.
     let whole : c.args.word.now ≡ c.in_ok-first.first.now ∷ c.in_ok-first.rest.now = search rules in
     let all = take_all (c.loop-byte.byte-index + 1) c.args.word.now (omega (arith, ap length whole, c.loop-byte-test.false)) in
     let same = decimal_injective c.loop-byte.number n c.loop-byte.invariant.fits (omega (arith, below, c.ranges.last.fits)) (c.loop-byte.invariant.spells ∙ all ∙ sym spells) in
     absurd (omega (arith, same, below, c.if-number-last.true))
 
-pub returns-clause-only : goal.returns-clause-only
-returns-clause-only c = λ n below spells.
+pub returns-clause-spelled_value_is_found : goal.returns-clause-spelled_value_is_found
+returns-clause-spelled_value_is_found c = λ n below spells.
     let whole : c.args.word.now ≡ c.in_ok-first.first.now ∷ c.in_ok-first.rest.now = search rules in
     let all = take_all (c.loop-byte.byte-index + 1) c.args.word.now (omega (arith, ap length whole, c.loop-byte-test.false)) in
     ap Some (decimal_injective c.loop-byte.number n c.loop-byte.invariant.fits (omega (arith, below, c.ranges.last.fits)) (c.loop-byte.invariant.spells ∙ all ∙ sym spells))

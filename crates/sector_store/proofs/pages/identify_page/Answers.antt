@@ -3,7 +3,7 @@ use Rattle.std.specs.Prelude.{slice_set}
 use Rattle.std.proofs.lemmas.Bool.{cases_lt}
 use Rattle.std.proofs.lemmas.List.{get_or-replicate, length-set}
 use Rattle.std.proofs.lemmas.List.Elements.{All-set}
-use Rattle.sector_store.specs.Pages.{IsWord, identify_word}
+use Rattle.sector_store.specs.Pages.{IsIdentifyWord, identify_word}
 use Rattle.sector_store.proofs.Words.{unfilled, with_word, word_written, zeros_stay, word_stays, last_stays, size_stays, page_is}
 use Rattle.sector_store.proofs.pages.identify_page.Goals as goal
 
@@ -28,9 +28,9 @@ loop-number-preserved c =
       last = last_stays page n w (let less = c.loop-number-test.true in omega (arith, less)) ∙ is.last;
       most = let less = c.loop-number-test.true in omega (arith, less);
       zeros = λ k past small. zeros_stay page n w k (omega (arith, past)) ∙ is.zeros k (omega (arith, past)) small;
-      words = below_more (λ k. IsWord c.args.serial.now c.args.sectors c.args.abilities k (identify_word (with_word page n w) k)) n
-          (λ k less. subst (λ v. IsWord c.args.serial.now c.args.sectors c.args.abilities k v) (sym (word_stays page n w k less)) (is.words k less))
-          (subst (λ v. IsWord c.args.serial.now c.args.sectors c.args.abilities n v)
+      words = below_more (λ k. IsIdentifyWord c.args.serial.now c.args.sectors c.args.abilities k (identify_word (with_word page n w) k)) n
+          (λ k less. subst (λ v. IsIdentifyWord c.args.serial.now c.args.sectors c.args.abilities k v) (sym (word_stays page n w k less)) (is.words k less))
+          (subst (λ v. IsIdentifyWord c.args.serial.now c.args.sectors c.args.abilities n v)
           (sym (word_written page n w (omega (arith, is.size, c.loop-number-test.true)))) c.word_at-word.ensures);
     }
 
@@ -46,7 +46,7 @@ returns-clause-page c =
           let low = is.zeros (2 * k) (omega (arith, past, most)) (omega (arith, less)) in
           let high = is.zeros (2 * k + 1) (omega (arith, past, most)) (omega (arith, less)) in
           let none : 0 ≡ identify_word c.loop-number.page k = omega (arith, low, high) in
-          subst (λ v. IsWord c.args.serial.now c.args.sectors c.args.abilities k v) none
+          subst (λ v. IsIdentifyWord c.args.serial.now c.args.sectors c.args.abilities k v) none
           (unfilled c.args.serial.now c.args.sectors c.args.abilities k past)
     ]) _
     (let s = c.sum_of.ensures.total in omega (arith, s))

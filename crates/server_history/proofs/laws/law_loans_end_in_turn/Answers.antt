@@ -4,8 +4,8 @@ use Rattle.std.proofs.lemmas.List.Elements.{All-contains, Contains-append_cases,
 use Rattle.ata_types.specs.declared.request.Frame.{Frame}
 use Rattle.ata_types.specs.declared.request.RequestId.{RequestId}
 use Rattle.dma_frames.specs.Loan.{Lending}
-use Rattle.dma_frames.specs.FrameTables.{FrameOwnership, lent_to}
-use Rattle.server_history.specs.KeptLoans.{TakesBack}
+use Rattle.dma_frames.specs.FrameTables.{OwnersAndLoans, lent_to}
+use Rattle.server_history.specs.KeptLoans.{GivesBackLoans}
 use Rattle.server_history.specs.ServerState.{DifferInRequest, IsLentOut}
 use Rattle.server_history.proofs.laws.law_loans_end_in_turn.Goals as goal
 
@@ -13,17 +13,17 @@ same_request : {a b : RequestId} → Some a ≡ Some b → a ≡ b
 same_request is = cc
 
 -- a frame of a loan that is lent out is lent to its request
-its_frame : (table : FrameOwnership) (loan : Lending) (f : Frame) → IsLentOut table loan → Contains loan.frames f → lent_to table f ≡ Some loan.request
+its_frame : (table : OwnersAndLoans) (loan : Lending) (f : Frame) → IsLentOut table loan → Contains loan.frames f → lent_to table f ≡ Some loan.request
 its_frame table loan f out here = All-contains (λ (g : Frame). lent_to table g ≡ Some loan.request) loan.frames f out here
 
 -- the frames of a loan stay lent where loans of other requests end
-stays : (old new : FrameOwnership) (ended : List Lending) (loan : Lending) → TakesBack old new (Contains ended) → ((other : Lending) → Contains ended other → IsLentOut old other × DifferInRequest other loan) → IsLentOut old loan → IsLentOut new loan
+stays : (old new : OwnersAndLoans) (ended : List Lending) (loan : Lending) → GivesBackLoans old new (Contains ended) → ((other : Lending) → Contains ended other → IsLentOut old other × DifferInRequest other loan) → IsLentOut old loan → IsLentOut new loan
 stays old new ended loan back others out k d small =
     let f = get_or loan.frames k d in
     back.other_loans_are_kept f (λ other such here. (others other such).1 (same_request (sym (its_frame old other f (others other such).0 here) ∙ out k d small))) ∙ out k d small
 
 -- and loans end that end afterwards
-both : (old mid new : FrameOwnership) (first later : List Lending) → TakesBack old mid (Contains first) → All (IsLentOut mid) later → TakesBack mid new (Contains later) → TakesBack old new (Contains (first ++ later))
+both : (old mid new : OwnersAndLoans) (first later : List Lending) → GivesBackLoans old mid (Contains first) → All (IsLentOut mid) later → GivesBackLoans mid new (Contains later) → GivesBackLoans old new (Contains (first ++ later))
 both old mid new first later one out two = record {
   owners_are_kept = two.owners_are_kept ∙ one.owners_are_kept;
   their_frames_are_free = λ loan f such here. ⊎_elim
@@ -38,7 +38,7 @@ both old mid new first later one out two = record {
     taken : (other : Lending) (f : Frame) → Contains later other → Contains other.frames f → lent_to mid f ≡ None → ⊥
     taken other f its has free = let z : Some other.request ≡ None = sym (its_frame mid other f (All-contains (IsLentOut mid) later other out its) has) ∙ free in cc
 
-alike : (old new : FrameOwnership) (first other : List Lending) → TakesBack old new (Contains first) → ((loan : Lending) → Contains first loan ↔ Contains other loan) → TakesBack old new (Contains other)
+alike : (old new : OwnersAndLoans) (first other : List Lending) → GivesBackLoans old new (Contains first) → ((loan : Lending) → Contains first loan ↔ Contains other loan) → GivesBackLoans old new (Contains other)
 alike old new first other back same = record {
   owners_are_kept = back.owners_are_kept;
   their_frames_are_free = λ loan f such here. back.their_frames_are_free loan f ((same loan).1 such) here;
@@ -46,4 +46,4 @@ alike old new first other back same = record {
 }
 
 pub returns : goal.returns
-returns c = record { stays = stays; both = both; alike = alike }
+returns c = record { other_loan_stays_lent_out = stays; endings_compose = both; order_does_not_matter = alike }

@@ -9,8 +9,8 @@ returns-clause-looking c s new port k ready followed = looking_kept s new port k
 pub returns-clause-finding : goal.returns-clause-finding
 returns-clause-finding c s new port mask done k ready finds = finding_kept s new port k ready c.law_history_prerequisites.ensures mask done finds
 
-pub returns-clause-found : goal.returns-clause-found
-returns-clause-found c s new port mask done slot k ready its small finds found = found_over s new port k ready c.law_history_prerequisites.ensures mask done finds its slot small found
+pub returns-clause-done_slots_are_over : goal.returns-clause-done_slots_are_over
+returns-clause-done_slots_are_over c s new port mask done slot k ready its small finds found = found_over s new port k ready c.law_history_prerequisites.ensures mask done finds its slot small found
 
 pub returns-clause-no_look_is_one : goal.returns-clause-no_look_is_one
 returns-clause-no_look_is_one c port device = unlooked port device device refl

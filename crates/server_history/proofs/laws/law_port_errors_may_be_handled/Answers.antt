@@ -4,8 +4,8 @@ use Rattle.server_history.proofs.laws.law_port_errors_may_be_handled.Goals as go
 pub returns-clause-may_recover : goal.returns-clause-may_recover
 returns-clause-may_recover c s seen found port mask done k ready l looks finds = may_recover c.law_history_prerequisites.ensures s seen found port mask done k ready l looks finds
 
-pub returns-clause-agreed : goal.returns-clause-agreed
-returns-clause-agreed c s port queued k ready kinds = fits_for s port queued k ready kinds
+pub returns-clause-plain_uses_slot_0 : goal.returns-clause-plain_uses_slot_0
+returns-clause-plain_uses_slot_0 c s port queued k ready kinds = fits_for s port queued k ready kinds
 
 pub returns-clause-are_queued_alike : goal.returns-clause-are_queued_alike
 returns-clause-are_queued_alike c = are_alike

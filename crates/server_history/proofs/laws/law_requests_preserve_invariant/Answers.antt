@@ -19,8 +19,8 @@ returns-clause-issued c s new port ids k issues = each_kept c.law_history_prereq
 
 pub returns-clause-revoked : goal.returns-clause-revoked
 returns-clause-revoked c s new client number replies k r =
-    let each = revokes_each c.law_history_prerequisites.ensures s new client number replies k.book_is_in_order k.requests_are_accepted r in
+    let each = revokes_each c.law_history_prerequisites.ensures s new client number replies k.book_is_well_formed k.entries_are_well_formed r in
     subst InCallInvariant (sym each.server) (revoked_kept c.law_history_prerequisites.ensures s client number replies new each k)
 
-pub returns-clause-ready : goal.returns-clause-ready
-returns-clause-ready c s r row acc named = on_ready s r acc row named row.port refl
+pub returns-clause-acceptable_is_of_ready_port : goal.returns-clause-acceptable_is_of_ready_port
+returns-clause-acceptable_is_of_ready_port c s r row acc named = on_ready s r acc row named row.port refl

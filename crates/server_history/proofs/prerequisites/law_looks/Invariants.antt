@@ -1,4 +1,4 @@
-use Rattle.server_history.specs.Laws.{AccessPurpose, slot_uses_for, accesses_for}
+use Rattle.server_history.specs.AccessPurposes.{AccessPurpose, slot_uses_for, accesses_for}
 use Rattle.server_history.proofs.prerequisites.law_looks.Given as goal
 
 -- The laws on fragments are asked of this crate's kinds of accesses.

@@ -2,19 +2,19 @@ use Rattle.server_history.proofs.prerequisites.law_recoveries.Goals as goal
 
 pub returns : goal.returns
 returns c = record {
-  counted = c.law_slots_are_counted.ensures.as_many_serve;
-  gone_reached = c.law_advances_compose.ensures.reached;
-  put_other = c.law_putting_is_of_one_slot.ensures.others;
-  own_on = c.law_a_disk_is_in_where_one_shows.ensures.accesses;
-  of_recorded = c.law_other_ports_are_left.ensures.recorded;
-  of_shown = c.law_what_was_booted_again_may_be_served.ensures.beside;
-  again_driven = c.law_what_was_booted_again_may_be_served.ensures.driven;
-  again_stands = c.law_what_was_booted_again_may_be_served.ensures.stands;
-  again_shown = c.law_what_was_booted_again_may_be_served.ensures.shown;
-  start_of = c.law_what_was_booted_again_may_be_served.ensures.start_of;
-  stands_begin = c.law_what_was_found_still_stands.ensures.begins;
-  stands_on = c.law_what_was_found_still_stands.ensures.goes_on;
-  there_driven = c.law_what_was_booted_again_may_be_served.ensures.there_driven;
-  there_stands = c.law_what_was_booted_again_may_be_served.ensures.there_stands;
-  there_shown = c.law_what_was_booted_again_may_be_served.ensures.there_shown;
+  serving_slots_are_issued_count = c.law_slots_are_counted.ensures.as_many_serve;
+  advancing_keeps_reachable = c.law_advances_compose.ensures.reached;
+  setting_slot_keeps_others = c.law_setting_changes_one_slot.ensures.others;
+  shown_disk_stays_in = c.law_a_disk_is_in_where_one_shows.ensures.accesses;
+  other_port_keeps_record = c.law_other_ports_are_untouched.ensures.recorded;
+  other_port_keeps_shown_disk = c.law_what_was_booted_again_may_be_served.ensures.other_port_keeps_shown_disk;
+  reboot_is_of_port = c.law_what_was_booted_again_may_be_served.ensures.reboot_is_of_port;
+  reboot_backs_result = c.law_what_was_booted_again_may_be_served.ensures.reboot_backs_result;
+  reboot_shows_bad_disk = c.law_what_was_booted_again_may_be_served.ensures.reboot_shows_bad_disk;
+  boot_start_access_is_of_port = c.law_what_was_booted_again_may_be_served.ensures.boot_start_access_is_of_port;
+  backing_begins = c.law_what_was_found_still_stands.ensures.begins;
+  backing_goes_on = c.law_what_was_found_still_stands.ensures.goes_on;
+  conditional_boot_is_of_port = c.law_what_was_booted_again_may_be_served.ensures.conditional_boot_is_of_port;
+  conditional_boot_backs_result = c.law_what_was_booted_again_may_be_served.ensures.conditional_boot_backs_result;
+  conditional_boot_shows_bad_disk = c.law_what_was_booted_again_may_be_served.ensures.conditional_boot_shows_bad_disk;
 }

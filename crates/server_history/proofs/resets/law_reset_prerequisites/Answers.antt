@@ -2,13 +2,13 @@ use Rattle.server_history.proofs.resets.law_reset_prerequisites.Goals as goal
 
 pub returns : goal.returns
 returns c = record {
-  below = c.law_history_prerequisites.ensures;
-  taken = record {
+  prerequisites = c.law_history_prerequisites.ensures;
+  take_over = record {
     port_runs_well = c.law_what_was_taken_over_may_be_served.ensures.healthy_port_runs_well;
-    recorded = c.law_what_was_taken_over_may_be_served.ensures.recorded;
-    own = c.law_what_was_taken_over_may_be_served.ensures.disk_is_in_if_shown;
-    shown = c.law_what_was_taken_over_may_be_served.ensures.shown;
+    faults_are_on_record = c.law_what_was_taken_over_may_be_served.ensures.faults_are_on_record;
+    shown_disk_is_in = c.law_what_was_taken_over_may_be_served.ensures.disk_is_in_if_shown;
+    bad_disk_shows_if_in = c.law_what_was_taken_over_may_be_served.ensures.bad_disk_shows_if_in;
   };
-  own_frame = c.law_lent_frame_is_its_own.ensures;
-  released = c.law_releasing_agrees.ensures;
+  held_frame_is_of_request = c.law_lent_frame_is_its_own.ensures;
+  release_keeps_driver_relation = c.law_releasing_agrees.ensures;
 }

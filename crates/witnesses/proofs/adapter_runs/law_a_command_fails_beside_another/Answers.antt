@@ -9,13 +9,13 @@ unfolding changed
 returns c = record {
   device = failed;
   reached = failed_reached;
-  safe = record { tables = is_in kept; kept = is_in kept; guarded = (c.law_kept_bytes_stay.ensures (is_in kept) (is_in kept) issued failed issued_safe failed_steps).0 };
+  safe = record { tables = is_in kept; kept_addresses = is_in kept; guarded = (c.law_kept_bytes_stay.ensures (is_in kept) (is_in kept) issued failed issued_safe failed_steps).0 };
   one = one;
   other = other;
-  queued = (refl, refl);
-  failed = refl;
-  beside = refl;
+  both_are_queued = (refl, refl);
+  failed_is_taken = refl;
+  other_is_taken = refl;
   halted = refl;
-  told = refl;
-  entry = (taken.tape, refl);
+  tfes_is_set = refl;
+  fault_is_on_tape = (taken.tape, refl);
 }

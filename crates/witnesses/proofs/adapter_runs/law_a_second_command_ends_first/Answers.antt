@@ -9,11 +9,11 @@ unfolding changed
 returns c = record {
   device = moved;
   reached = moved_reached;
-  safe = record { tables = is_in kept; kept = is_in kept; guarded = (c.law_kept_bytes_stay.ensures (is_in kept) (is_in kept) issued moved issued_safe moved_steps).0 };
-  one = one;
-  other = other_moved;
-  queued = (refl, refl);
-  taken = refl;
-  ends = may_end;
-  stays = refl;
+  safe = record { tables = is_in kept; kept_addresses = is_in kept; guarded = (c.law_kept_bytes_stay.ensures (is_in kept) (is_in kept) issued moved issued_safe moved_steps).0 };
+  first_command = one;
+  second_command = other_moved;
+  both_are_queued = (refl, refl);
+  first_is_taken = refl;
+  second_may_end = may_end;
+  first_stays_taken = refl;
 }

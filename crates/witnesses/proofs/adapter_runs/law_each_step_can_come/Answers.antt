@@ -16,7 +16,7 @@ use Rattle.witnesses.proofs.adapter.Trimming as trimming
 use Rattle.witnesses.proofs.adapter_runs.law_each_step_can_come.Goals as goal
 
 safely : (kind : TransitionKind) (d : Device) → IsReachableByRun d → CommandsAreSafe d → (s : DeviceTransition) → kind_of s ≡ kind → Can s d → ComesSafely kind
-safely kind d reached safe s is can = record { comes = record { device = d; reached = reached; step = s; kind_is = is; can = can }; safe = safe }
+safely kind d reached safe s is can = record { comes = record { device = d; reached = reached; step = s; kind_is = is; step_can_come = can }; safe = safe }
 
 -- what steps of the device keep safe
 abbrev StaySafe : Type 0
@@ -26,19 +26,19 @@ StaySafe = (tables kept : ℕ → Bool) (old new : Device) → IsGuarded (Passes
 reads_safe : StaySafe → (d : Device) → Steps queued.issued d → CommandsAreSafe d
 reads_safe stay d steps = record {
   tables = is_in queued.kept;
-  kept = is_in queued.kept;
+  kept_addresses = is_in queued.kept;
   guarded = (stay (is_in queued.kept) (is_in queued.kept) queued.issued d queued.issued_safe steps).0;
 }
 
 trim_safe : StaySafe → CommandsAreSafe trimming.moved
 trim_safe stay = record {
   tables = is_in trimming.kept;
-  kept = is_in trimming.kept;
+  kept_addresses = is_in trimming.kept;
   guarded = (stay (is_in trimming.kept) (is_in trimming.kept) trimming.issued trimming.moved trimming.issued_safe trimming.moved_steps).0;
 }
 
 reset_safe : CommandsAreSafe resetting.resetting
-reset_safe = record { tables = is_in resetting.kept; kept = is_in resetting.kept; guarded = resetting.resetting_safe }
+reset_safe = record { tables = is_in resetting.kept; kept_addresses = is_in resetting.kept; guarded = resetting.resetting_safe }
 
 by_kind : StaySafe → trimming.OneMeaning → (kind : TransitionKind) → kind ≢ FetchFault → ComesSafely kind
 by_kind stay alone Fetch other =
@@ -72,5 +72,5 @@ returns-clause-senseless c = record {
   reached = senseless_reached;
   step = SenselessFetching 0 0 true 0;
   kind_is = refl;
-  can = may_fail;
+  step_can_come = may_fail;
 }

@@ -9,8 +9,8 @@ unfolding changed
 returns c = record {
   device = resetting;
   reached = resetting_reached;
-  safe = record { tables = is_in kept; kept = is_in kept; guarded = resetting_safe };
-  pending = refl;
+  safe = record { tables = is_in kept; kept_addresses = is_in kept; guarded = resetting_safe };
+  reset_is_pending = refl;
   first_used = inl refl;
   second_used = inl refl;
 }

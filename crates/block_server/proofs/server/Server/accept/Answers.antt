@@ -14,15 +14,15 @@ use Rattle.block_server.specs.Calls.{AcceptsRequest, IsRequestForPort}
 use Rattle.std.specs.Box.{with_value}
 use Rattle.port_driver.specs.PortAndShared.{HasPortAt}
 use Rattle.block_server.specs.FourPorts.{by_port}
-use Rattle.port_driver.specs.LentSlots.{HasFoundPort, with_port_slots}
+use Rattle.port_driver.specs.LentSlots.{HasPortToIssue, with_port_slots}
 use Rattle.port_driver.specs.declared.served_port.ServedPort.{ServedPort}
 use Rattle.port_driver.specs.declared.served_port.Shared.{Shared}
 use Rattle.block_server.proofs.Placing as placing
-use Rattle.block_server.specs.FieldView.{server_view_of}
+use Rattle.block_server.specs.ServerFieldsView.{server_view_of}
 use Rattle.block_server.specs.ServerView.{ServerView, server_of}
 use Rattle.request_queue.specs.BookEntries.{BookEntry, as_unanswered, unanswered_of}
 use Rattle.server_history.specs.Histories.{ExtendsHistory}
-use Rattle.server_history.specs.IssuingAndAnswering.{Accepts, accepted_as, with_accepted}
+use Rattle.server_history.specs.IssuingAndAnswering.{AcceptsAndIssues, accepted_as, with_accepted}
 use Rattle.server_history.specs.ServerState.{ServerState, mode_in, admission_context, state_of}
 use Rattle.block_server.proofs.Standing.{is_on, of_on}
 use Rattle.block_server.proofs.Accepting as accepted
@@ -34,15 +34,15 @@ use Rattle.block_server.proofs.server.Server.accept.Goals.{After-index-self-from
 pub overflow_add-id : goal.overflow_add-id
 overflow_add-id g c = let h = accepted.next_fits (server_of g.A.Adapter.device (server_view_of c.self.inside)) c.args.r.now (subst (λ (v : ServerView g.row.A.Denot). IsAcceptable (admission_context (server_of g.A.Adapter.device v)) c.args.r.now) (sym c.self.view_is) c.requires.acceptable) in omega (arith, h)
 
-pub accept-requires-clause-frames : goal.accept-requires-clause-frames
-accept-requires-clause-frames g c = (
+pub accept-requires-clause-frames_have_no_fault : goal.accept-requires-clause-frames_have_no_fault
+accept-requires-clause-frames_have_no_fault g c = (
   rw c.deref_mut.ensures.value (subst (λ (frames : List Frame). HasNoFault (owner_of c.self.inside.shared.table.value) (lent_to c.self.inside.shared.table.value) c.args.r.now.client frames) (sym c.as_slice.ensures.value)
       (accepted.faultless (server_of g.A.Adapter.device (server_view_of c.self.inside)) c.args.r.now (subst (λ (v : ServerView g.row.A.Denot). IsAcceptable (admission_context (server_of g.A.Adapter.device v)) c.args.r.now) (sym c.self.view_is) c.requires.acceptable))),
   c.as_slice.ensures.fits,
 )
 
-pub accept-requires-clause-few : goal.accept-requires-clause-few
-accept-requires-clause-few g c = accepted.has_place (server_of g.A.Adapter.device (server_view_of c.self.inside)) c.args.r.now (subst (λ (v : ServerView g.row.A.Denot). IsAcceptable (admission_context (server_of g.A.Adapter.device v)) c.args.r.now) (sym c.self.view_is) c.requires.acceptable) (is_on g.A.Adapter.device (server_view_of c.self.inside) c.args.self.now c.self.view_is c.requires.on c.self.invariant).in_call_invariant c.args.port (subst (λ (v : ServerView g.row.A.Denot). IsRequestForPort v.grants c.args.r.now c.args.port) (sym c.self.view_is) c.requires.port)
+pub accept-requires-clause-client_has_room : goal.accept-requires-clause-client_has_room
+accept-requires-clause-client_has_room g c = accepted.has_place (server_of g.A.Adapter.device (server_view_of c.self.inside)) c.args.r.now (subst (λ (v : ServerView g.row.A.Denot). IsAcceptable (admission_context (server_of g.A.Adapter.device v)) c.args.r.now) (sym c.self.view_is) c.requires.acceptable) (is_on g.A.Adapter.device (server_view_of c.self.inside) c.args.self.now c.self.view_is c.requires.on c.self.invariant).in_call_invariant c.args.port (subst (λ (v : ServerView g.row.A.Denot). IsRequestForPort v.grants c.args.r.now c.args.port) (sym c.self.view_is) c.requires.port)
 
 -- the port that it is for
 abbrev its_port : (g : Over) (c : After-index-self-from g) → ServedPort
@@ -51,7 +51,7 @@ its_port g c = get_or c.self.inside.ports c.from.result c.index-self-from.result
 has_port : (g : Over) (c : After-index-self-from g) → HasPortAt (server_of g.A.Adapter.device (server_view_of c.self.inside)) c.args.port.0 (its_port g c)
 has_port g c =
     let v = c.self.inside in
-    let four = placing.four_ports v.ports (is_on g.A.Adapter.device (server_view_of v) c.args.self.now c.self.view_is c.requires.on c.self.invariant).in_call_invariant.four_slots in
+    let four = placing.four_ports v.ports (is_on g.A.Adapter.device (server_view_of v) c.args.self.now c.self.view_is c.requires.on c.self.invariant).in_call_invariant.slots_are_of_four_ports in
     let acc = (subst (λ (v : ServerView g.row.A.Denot). IsAcceptable (admission_context (server_of g.A.Adapter.device v)) c.args.r.now) (sym c.self.view_is) c.requires.acceptable) in
     let is_for = subst (λ (x : ServerView g.row.A.Denot). IsRequestForPort x.grants c.args.r.now c.args.port) (sym c.self.view_is) c.requires.port in
     let small = accepted.low (server_of g.A.Adapter.device (server_view_of v)) c.args.r.now acc (is_on g.A.Adapter.device (server_view_of v) c.args.self.now c.self.view_is c.requires.on c.self.invariant).in_call_invariant c.args.port is_for in
@@ -60,14 +60,14 @@ has_port g c =
 
 -- what the server has once it is accepted
 lends : (g : Over) (c : After-index-self-from g)
-    → HasFoundPort (with_accepted c.args.port c.args.r.now (record { 0 = c.self.inside.last + 1 }) c.accept.new.table (server_of g.A.Adapter.device (server_view_of c.self.inside))) (g.A.Adapter.device c.self.inside.adapter) c.accept.new.self (its_port g c).slots c.args.port (its_port g c).mode (its_port g c).found
+    → HasPortToIssue (with_accepted c.args.port c.args.r.now (record { 0 = c.self.inside.last + 1 }) c.accept.new.table (server_of g.A.Adapter.device (server_view_of c.self.inside))) (g.A.Adapter.device c.self.inside.adapter) c.accept.new.self (its_port g c).slots c.args.port (its_port g c).mode (its_port g c).probe_result
 lends g c =
     let acc = (subst (λ (v : ServerView g.row.A.Denot). IsAcceptable (admission_context (server_of g.A.Adapter.device v)) c.args.r.now) (sym c.self.view_is) c.requires.acceptable) in
     let is_for = subst (λ (x : ServerView g.row.A.Denot). IsRequestForPort x.grants c.args.r.now c.args.port) (sym c.self.view_is) c.requires.port in
     accepted.lends (server_of g.A.Adapter.device (server_view_of c.self.inside)) c.args.r.now acc (is_on g.A.Adapter.device (server_view_of c.self.inside) c.args.self.now c.self.view_is c.requires.on c.self.invariant).in_call_invariant c.args.port is_for
     c.law_requests_preserve_invariant.ensures.accepted (record { 0 = c.self.inside.last + 1 }) refl c.as_slice.result.now c.as_slice.ensures.value
-    c.accept.new.table (rw c.deref_mut.ensures.value at c.accept.ensures.lent) c.accept.new.self c.accept.ensures.last
-    (its_port g c).slots (has_port g c).slots_are (its_port g c).mode (has_port g c).mode_is (its_port g c).found (has_port g c).found_is
+    c.accept.new.table (rw c.deref_mut.ensures.value at c.accept.ensures.frames_are_lent_to_request) c.accept.new.self c.accept.ensures.request_is_appended
+    (its_port g c).slots (has_port g c).slots_are (its_port g c).mode (has_port g c).mode_is (its_port g c).probe_result (has_port g c).probe_result_is
 
 pub issue_due-requires : goal.issue_due-requires
 issue_due-requires g c =
@@ -76,7 +76,7 @@ issue_due-requires g c =
     let acc = subst (λ (v : ServerView g.row.A.Denot). IsAcceptable (admission_context (server_of g.A.Adapter.device v)) c.args.r.now) (sym c.self.view_is) c.requires.acceptable in
     let is_for = subst (λ (v : ServerView g.row.A.Denot). IsRequestForPort v.grants c.args.r.now c.args.port) (sym c.self.view_is) c.requires.port in
     let kept = (is_on g.A.Adapter.device (server_view_of c.self.inside) c.args.self.now c.self.view_is c.requires.on c.self.invariant).in_call_invariant in
-    record { ready = ap state_of (sym (has_port g at).found_is) ∙ (ap (λ (p : Port). state_of (probe_result_of s.ports p.0)) (sym is_for.2) ∙ c.law_requests_preserve_invariant.ensures.ready s c.args.r.now is_for.0 acc is_for.1); has_found_port = (with_accepted c.args.port c.args.r.now (record { 0 = c.self.inside.last + 1 }) c.accept.new.table (server_of g.A.Adapter.device (server_view_of c.self.inside)), lends g at) }
+    record { ready = ap state_of (sym (has_port g at).probe_result_is) ∙ (ap (λ (p : Port). state_of (probe_result_of s.probe_results p.0)) (sym is_for.2) ∙ c.law_requests_preserve_invariant.ensures.acceptable_is_of_ready_port s c.args.r.now is_for.0 acc is_for.1); has_found_port = (with_accepted c.args.port c.args.r.now (record { 0 = c.self.inside.last + 1 }) c.accept.new.table (server_of g.A.Adapter.device (server_view_of c.self.inside)), lends g at) }
 
 abbrev at_issuing : (g : Over) (c : After-issue_due g) → After-index-self-from g
 at_issuing g c = (goal.at.returns-clause-cost g c).After-index-self-from
@@ -91,7 +91,7 @@ after g c = server_view_of (record c.self.inside {
 })
 
 -- what was due then is issued
-sent : (g : Over) (c : After-issue_due g) → Accepts c.args.port c.args.r.now (record { 0 = c.self.inside.last + 1 }) (server_of g.A.Adapter.device (server_view_of c.self.inside)) (server_of g.A.Adapter.device (after g c))
+sent : (g : Over) (c : After-issue_due g) → AcceptsAndIssues c.args.port c.args.r.now (record { 0 = c.self.inside.last + 1 }) (server_of g.A.Adapter.device (server_view_of c.self.inside)) (server_of g.A.Adapter.device (after g c))
 sent g c =
     let v = c.self.inside in
     let s = (server_of g.A.Adapter.device (server_view_of v)) in
@@ -100,14 +100,14 @@ sent g c =
     let is_for = subst (λ (x : ServerView g.row.A.Denot). IsRequestForPort x.grants c.args.r.now c.args.port) (sym c.self.view_is) c.requires.port in
     let accepts = accepted.accepts s c.args.r.now acc (is_on g.A.Adapter.device (server_view_of v) c.args.self.now c.self.view_is c.requires.on c.self.invariant).in_call_invariant c.args.port is_for
     c.law_requests_preserve_invariant.ensures.accepted id refl c.as_slice.result.now c.as_slice.ensures.value
-    c.accept.new.table (rw c.deref_mut.ensures.value at c.accept.ensures.lent) c.accept.new.self c.accept.ensures.last in
+    c.accept.new.table (rw c.deref_mut.ensures.value at c.accept.ensures.frames_are_lent_to_request) c.accept.new.self c.accept.ensures.request_is_appended in
     let more : ServerState = with_accepted c.args.port c.args.r.now id c.accept.new.table s in
     let new = g.A.Adapter.device c.issue_due.new.adapter in
     let u = c.issue_due.new.self.slots in
     let shared : Shared = record { table = with_value v.shared.table c.accept.new.table; book = c.issue_due.new.book } in
-    subst (Accepts c.args.port c.args.r.now id s) (sym (placing.slots_placed (record s { last_id = v.last + 1 }) v.ports c.from.result c.index-self-from.result new shared c.issue_due.new.self c.issue_due.ensures.only_slots_change))
-    (subst (λ (n : ℕ). Accepts c.args.port c.args.r.now id s (record more { device = new; slots = slice_set (by_port (λ p. p.slots) v.ports) n u; book = c.issue_due.new.book })) (sym c.from.ensures)
-    (accepts (with_port_slots more new c.issue_due.new.book u c.args.port) (c.issue_due.ensures.issues more (lends g (at_issuing g c)))))
+    subst (AcceptsAndIssues c.args.port c.args.r.now id s) (sym (placing.slots_placed (record s { last_id = v.last + 1 }) v.ports c.from.result c.index-self-from.result new shared c.issue_due.new.self c.issue_due.ensures.only_slots_change))
+    (subst (λ (n : ℕ). AcceptsAndIssues c.args.port c.args.r.now id s (record more { device = new; slots = slice_set (by_port (λ p. p.slots) v.ports) n u; book = c.issue_due.new.book })) (sym c.from.ensures)
+    (accepts (with_port_slots more new c.issue_due.new.book u c.args.port) (c.issue_due.ensures.issues_all_due more (lends g (at_issuing g c)))))
 
 pub invariant_of-self : goal.invariant_of-self
 invariant_of-self g c = of_on c.self.view_is c.requires.on (
@@ -119,22 +119,22 @@ returns-clause-accepts g c =
       acceptable = (subst (λ (v : ServerView g.row.A.Denot). IsAcceptable (admission_context (server_of g.A.Adapter.device v)) c.args.r.now) (sym c.self.view_is) c.requires.acceptable);
       port = c.args.port;
       accepts = sent g c;
-      stuck = refl;
-      quiet_if_none_due = λ none.
+      stuck_is_unchanged = refl;
+      no_access_if_none_due = λ none.
           let book = accepted.its_book (server_of g.A.Adapter.device (server_view_of c.self.inside)) c.args.r.now (subst (λ (v : ServerView g.row.A.Denot). IsAcceptable (admission_context (server_of g.A.Adapter.device v)) c.args.r.now) (sym c.self.view_is) c.requires.acceptable) (is_on g.A.Adapter.device (server_view_of c.self.inside) c.args.self.now c.self.view_is c.requires.on c.self.invariant).in_call_invariant c.args.port (subst (λ (v : ServerView g.row.A.Denot). IsRequestForPort v.grants c.args.r.now c.args.port) (sym c.self.view_is) c.requires.port)
           c.law_requests_preserve_invariant.ensures.accepted (record { 0 = c.self.inside.last + 1 }) refl c.as_slice.result.now c.as_slice.ensures.value
-          c.accept.new.table (rw c.deref_mut.ensures.value at c.accept.ensures.lent) c.accept.new.self c.accept.ensures.last in
+          c.accept.new.table (rw c.deref_mut.ensures.value at c.accept.ensures.frames_are_lent_to_request) c.accept.new.self c.accept.ensures.request_is_appended in
           c.issue_due.ensures.none_due_no_access (subst (λ (b : List BookEntry). due_of (its_port g (at_issuing g c)).mode c.args.port (unanswered_of b) ≡ []) book
           (subst (λ (m : QueueMode). due_of m c.args.port (unanswered_of (with_accepted c.args.port c.args.r.now (record { 0 = c.self.inside.last + 1 }) (sent g c).table (server_of g.A.Adapter.device (server_view_of c.self.inside))).book) ≡ []) (has_port g (at_issuing g c)).mode_is none));
     })
 
-pub returns-clause-adds : goal.returns-clause-adds
-returns-clause-adds g c =
+pub returns-clause-extends_history : goal.returns-clause-extends_history
+returns-clause-extends_history g c =
     subst (λ (v : ServerView g.row.A.Denot). ExtendsHistory (server_of g.A.Adapter.device v) (server_of g.A.Adapter.device (after g c)) (Submit c.args.r.now) (Submitted (Ok (record { 0 = c.self.inside.last + 1 })))) c.self.view_is
     (c.law_acceptances_extend_history.ensures (server_of g.A.Adapter.device (server_view_of c.self.inside)) (server_of g.A.Adapter.device (after g c)) c.args.port c.args.r.now (record { 0 = c.self.inside.last + 1 }) (is_on g.A.Adapter.device (server_view_of c.self.inside) c.args.self.now c.self.view_is c.requires.on c.self.invariant) (subst (λ (v : ServerView g.row.A.Denot). IsAcceptable (admission_context (server_of g.A.Adapter.device v)) c.args.r.now) (sym c.self.view_is) c.requires.acceptable) (sent g c)).extends_history
 
-pub accept-requires-clause-fresh : goal.accept-requires-clause-fresh
-accept-requires-clause-fresh g c = search rules
+pub accept-requires-clause-is_newly_accepted : goal.accept-requires-clause-is_newly_accepted
+accept-requires-clause-is_newly_accepted g c = search rules
 
 -- of the requests, the one that is accepted may be due alone
 pub returns-clause-cost : goal.returns-clause-cost
@@ -145,12 +145,12 @@ returns-clause-cost g c =
     let exact = c.law_due_is_exact.ensures in
     let m = mode_in s c.args.port in
     let book = unanswered_of s.book in
-    let its = as_unanswered (accepted_as c.args.port c.args.r.now id).entry in
+    let its = as_unanswered (accepted_as c.args.port c.args.r.now id).request in
     let none : due_of m c.args.port book ≡ [] =
     newest.none_of_them m c.args.port book (λ x has. (exact.due_are_of_port m c.args.port book x has, (exact.exact m c.args.port book x (exact.due_are_of_port m c.args.port book x has)).0 has)) (settled.nothing_is_due c.args.port) in
     let alone = newest.due_alone m book its refl c.args.port (newest.all_earlier s.book s.last_id its refl settled.in_call_invariant.ids_were_handed_out) none in
-    let there : unanswered_of c.accept.new.self ≡ book ++ its ∷ [] = ap unanswered_of c.accept.ensures.last ∙ newest.asks_more s.book (record { entry = (accepted_as c.args.port c.args.r.now id).entry; frames = c.as_slice.result.now }) in
+    let there : unanswered_of c.accept.new.self ≡ book ++ its ∷ [] = ap unanswered_of c.accept.ensures.request_is_appended ∙ newest.asks_more s.book (record { request = (accepted_as c.args.port c.args.r.now id).request; frames = c.as_slice.result.now }) in
     let few : length (due_of m c.args.port (unanswered_of c.accept.new.self)) ≤ 1 = subst (λ (xs : List Unanswered). length (due_of m c.args.port xs) ≤ 1) (sym there) alone in
     let one : length (due_of (its_port g (at_issuing g c)).mode c.args.port (unanswered_of c.accept.new.self)) ≤ 1 = subst (λ (m : QueueMode). length (due_of m c.args.port (unanswered_of c.accept.new.self)) ≤ 1) (has_port g (at_issuing g c)).mode_is few in
     let same = ap (λ (v : ServerView g.row.A.Denot). g.A.Adapter.access_count v.adapter) c.self.view_is in
-    omega (arith, one, same, c.issue_due.ensures.cost_is_by_due)
+    omega (arith, one, same, c.issue_due.ensures.cost_per_due_request)

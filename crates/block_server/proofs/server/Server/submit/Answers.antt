@@ -5,13 +5,13 @@ use Rattle.block_machine.specs.Events.{Submit, Submitted}
 use Rattle.server_history.specs.Histories.{ExtendsHistory}
 use Rattle.block_machine.specs.Refusals.{IsAcceptable, IsFirstRefusal}
 use Rattle.server_history.specs.ServerState.{admission_context}
-use Rattle.block_server.specs.FieldView.{server_view_of}
+use Rattle.block_server.specs.ServerFieldsView.{server_view_of}
 use Rattle.block_server.specs.ServerView.{ServerView, server_of}
 use Rattle.block_server.proofs.Standing.{holds_either}
 use Rattle.block_server.proofs.server.Server.submit.Goals as goal
 
-pub returns-in_err-port-clause-adds : goal.returns-in_err-port-clause-adds
-returns-in_err-port-clause-adds g c =
+pub returns-in_err-port-clause-extends_history : goal.returns-in_err-port-clause-extends_history
+returns-in_err-port-clause-extends_history g c =
     let told = err_from_is_err_and c.from_residual.result c.from_residual.ensures.1 in
     let s = server_of g.A.Adapter.device c.args.self.now in
     subst (λ r. ExtendsHistory s s (Submit c.args.r.now) (Submitted r)) (sym (told.1 ∙ ap Err told.2))

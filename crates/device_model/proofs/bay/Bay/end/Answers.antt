@@ -1,5 +1,5 @@
 use Rattle.std.proofs.Common.{sym, subst}
-use Rattle.device_model.specs.Disks.{EndsCommand}
+use Rattle.device_model.specs.Disks.{BayEndsCommand}
 use Rattle.device_model.specs.PortView.{operation_of_kind}
 use Rattle.device_model.specs.declared.bay.Bay.{Bay}
 use Rattle.device_model.specs.declared.port.CommandKind.{CommandKind}
@@ -9,5 +9,5 @@ pub returns-in-Flush : goal.returns-in-Flush
 returns-in-Flush g c =
     let a : Bay g.row.S.Denot = c.args.self.now in
     let now : Bay g.row.S.Denot = record a { lasting = c.of.result; cache = c.forget.new.self } in
-    let P : CommandKind → Type 0 = λ k. EndsCommand (operation_of_kind k) a now in
+    let P : CommandKind → Type 0 = λ k. BayEndsCommand (operation_of_kind k) a now in
     subst P (sym c.in-Flush.is) (c.forget.ensures, λ i. record a { lasting = record { marker = record {}; value = c.of.ensures i }; cache = c.forget.new.self })

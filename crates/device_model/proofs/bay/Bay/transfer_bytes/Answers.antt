@@ -1,5 +1,5 @@
 use Rattle.std.proofs.Common.{rules, ℕ, ◌≡◌, ◌+◌, ◌∙◌, inl, inr, subst, arith, ap}
-use Rattle.device_model.specs.WriteCaches.{HasRoomForOld}
+use Rattle.device_model.specs.WriteCaches.{HasRoomForOldSectors}
 use Rattle.device_model.specs.Disks.{disk_over}
 use Rattle.device_model.specs.Trims.{written_ahead}
 use Rattle.device_model.specs.PortView.{operation_of_kind}
@@ -10,7 +10,7 @@ use Rattle.device_model.proofs.bay.Bay.transfer_bytes.Goals as goal
 pub returns-in-Write : goal.returns-in-Write
 returns-in-Write g c =
     record {
-      inside = search rules;
+      sector_on_disk = search rules;
       bytes_are_sector = fits_sector c.args.bytes.now c.told-bytes c.fits-bytes;
       read_gives_told = search rules;
       write_keeps_bytes = search rules;
@@ -32,19 +32,19 @@ returns-in-Write g c =
       lasting_is_kept = search rules;
       cache_mode_is_kept = search rules;
       cache_has_room = λ n room.
-          let P : ℕ → Type 0 = λ k. HasRoomForOld c.args.self.now.cache k in
+          let P : ℕ → Type 0 = λ k. HasRoomForOldSectors c.args.self.now.cache k in
           let one : written_ahead (operation_of_kind c.args.next.command_kind) 1 ≡ 1 =
           let Q : CommandKind → ℕ = λ k. written_ahead (operation_of_kind k) 1 in
           elim c.in-Write.is [ inl plain ↦ ap Q plain | inr queued ↦ ap Q queued ] in
           let more : written_ahead (operation_of_kind c.args.next.command_kind) 1 + n ≡ n + 1 = omega (arith, one) in
-          c.put_sector.ensures.left n (subst P more room);
+          c.put_sector.ensures.room_is_left n (subst P more room);
       rest_is_kept = search rules;
     }
 
 pub returns-in-Trim : goal.returns-in-Trim
 returns-in-Trim g c =
     record {
-      inside = search rules;
+      sector_on_disk = search rules;
       bytes_are_sector = fits_sector c.args.bytes.now c.told-bytes c.fits-bytes;
       read_gives_told = search rules;
       write_keeps_bytes = search rules;

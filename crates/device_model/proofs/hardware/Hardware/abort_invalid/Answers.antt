@@ -9,19 +9,19 @@ use Rattle.device_model.proofs.Stepping.{may_fail_senseless, port_fails_senseles
 use Rattle.device_model.proofs.hardware.Hardware.abort_invalid.Goals as goal
 
 -- nothing is issued there that may be taken
-pub returns-then-not-has_untaken-clause-left : goal.returns-then-not-has_untaken-clause-left
-returns-then-not-has_untaken-clause-left c = λ _ o.
+pub returns-then-not-has_untaken-clause-step_is_skipped : goal.returns-then-not-has_untaken-clause-step_is_skipped
+returns-then-not-has_untaken-clause-step_is_skipped c = λ _ o.
     inl (
       λ may.
           let P : ℕ → Type 0 = λ q. MayFetchFault (device_of c.args.self.now o) q c.args.slot 0 in
           let here = subst P (sym c.from-place.ensures) may in
-          c.has_untaken.ensures.none c.if-not-has_untaken.true (o.media c.from-place.result) Identify here.fetchable here.working,
+          c.has_untaken.ensures.is_not_fetchable c.if-not-has_untaken.true (o.media c.from-place.result) Identify here.fetchable here.working,
       refl,
     )
 
 -- a fault keeps it waiting
-pub returns-then-not-admits-clause-left : goal.returns-then-not-admits-clause-left
-returns-then-not-admits-clause-left c = λ _ o.
+pub returns-then-not-admits-clause-step_is_skipped : goal.returns-then-not-admits-clause-step_is_skipped
+returns-then-not-admits-clause-step_is_skipped c = λ _ o.
     let small : c.from-place.result < length c.args.self.now.ports = search rules in
     let waits = sym (rw (at_port c.args.self.now.ports c.from-place.result c.index-self-place.result small) at c.admits.ensures) ∙ c.if-not-admits.true in
     inl (
@@ -32,10 +32,10 @@ returns-then-not-admits-clause-left c = λ _ o.
     )
 
 -- its bytes say a command
-pub returns-then-decodes_command-clause-left : goal.returns-then-decodes_command-clause-left
-returns-then-decodes_command-clause-left c = λ _ o.
+pub returns-then-decodes_command-clause-step_is_skipped : goal.returns-then-decodes_command-clause-step_is_skipped
+returns-then-decodes_command-clause-step_is_skipped c = λ _ o.
     let small : c.from-place.result < length c.args.self.now.ports = search rules in
-    let said = rw (at_port c.args.self.now.ports c.from-place.result c.index-self-place-2.result small) at (rw c.deref.ensures.value at (c.decodes_command.ensures.said c.if-decodes_command.true)) in
+    let said = rw (at_port c.args.self.now.ports c.from-place.result c.index-self-place-2.result small) at (rw c.deref.ensures.value at (c.decodes_command.ensures.bytes_mean_command c.if-decodes_command.true)) in
     inl (
       λ may.
           let P : ℕ → Type 0 = λ q. MayFetchFault (device_of c.args.self.now o) q c.args.slot 0 in
@@ -43,13 +43,13 @@ returns-then-decodes_command-clause-left c = λ _ o.
       refl,
     )
 
-pub returns-then-not-record-clause-left : goal.returns-then-not-record-clause-left
-returns-then-not-record-clause-left c = λ _ o.
+pub returns-then-not-record-clause-step_is_skipped : goal.returns-then-not-record-clause-step_is_skipped
+returns-then-not-record-clause-step_is_skipped c = λ _ o.
     let h : Hardware = c.args.self.now in
     let small : c.from-place.result < length h.ports = search rules in
     let senseless = may_fail_senseless h o c.from-place.result c.args.port c.args.slot c.from-place.ensures (c.has_untaken.ensures.may c.if-not-has_untaken.false)
     (sym (rw (at_port h.ports c.from-place.result c.index-self-place.result small) at c.admits.ensures) ∙ c.if-not-admits.false)
-    (rw (at_port h.ports c.from-place.result c.index-self-place-2.result small) at (rw c.deref.ensures.value at (c.decodes_command.ensures.none c.if-decodes_command.false))) in
+    (rw (at_port h.ports c.from-place.result c.index-self-place-2.result small) at (rw c.deref.ensures.value at (c.decodes_command.ensures.bytes_mean_none c.if-decodes_command.false))) in
     inr (
       senseless,
       λ room. true-false (c.record.ensures.room (omega (arith, room))) c.if-not-record.true,
@@ -62,7 +62,7 @@ returns-clause-did c = λ _ o.
     let small : c.from-place.result < length h.ports = search rules in
     let senseless = may_fail_senseless h o c.from-place.result c.args.port c.args.slot c.from-place.ensures (c.has_untaken.ensures.may c.if-not-has_untaken.false)
     (sym (rw (at_port h.ports c.from-place.result c.index-self-place.result small) at c.admits.ensures) ∙ c.if-not-admits.false)
-    (rw (at_port h.ports c.from-place.result c.index-self-place-2.result small) at (rw c.deref.ensures.value at (c.decodes_command.ensures.none c.if-decodes_command.false))) in (
+    (rw (at_port h.ports c.from-place.result c.index-self-place-2.result small) at (rw c.deref.ensures.value at (c.decodes_command.ensures.bytes_mean_none c.if-decodes_command.false))) in (
       senseless,
       port_fails_senseless h o c.from-place.result c.args.port c.args.slot c.fail.new.self c.record.new.tape c.from-place.ensures small
           (rw (at_port h.ports c.from-place.result c.index-self-place-3.result small) at (c.fail.ensures (o.media c.from-place.result))) (c.record.ensures.added c.if-not-record.false),

@@ -25,12 +25,12 @@ returns c = λ o.
     let h = c.args.self.now in
     let some : c.args.port < length c.args.self.now.ports = search rules in
     let said = rw (at_port h.ports c.args.port c.index-self-port.result some) at (rw c.deref.ensures.value at c.in_ok-command.ensures.found) in
-    let never = page_crowded h c.args.port c.args.slot c.in_ok-command.command said.1 (rw (at_port h.ports c.args.port c.index-self-port-2.result some) at (c.may_take_command.ensures.only c.if-may_take_command.false)) o in
+    let never = page_crowded h c.args.port c.args.slot c.in_ok-command.command said.1 (rw (at_port h.ports c.args.port c.index-self-port-2.result some) at (c.may_take_command.ensures.complete c.if-may_take_command.false)) o in
     (never, λ has. never (ready_may h c.args.port c.args.slot c.requires.may o has))
 
 pub returns-in_err-command : goal.returns-in_err-command
 returns-in_err-command c = λ o.
     let some : c.args.port < length c.args.self.now.ports = search rules in
-    let none = rw (at_port c.args.self.now.ports c.args.port c.index-self-port.result some) at (rw c.deref.ensures.value at c.decode_page_cmd.ensures.only c.in_err-command.was) in
+    let none = rw (at_port c.args.self.now.ports c.args.port c.index-self-port.result some) at (rw c.deref.ensures.value at c.decode_page_command.ensures.complete c.in_err-command.was) in
     let P : Option Bool → Type 0 = λ r. FindsPageCommand (device_of c.args.self.now o) c.args.port c.args.slot r in
     subst P (sym c.from_residual.ensures) (page_unmeant c.args.self.now c.args.port c.args.slot none o, page_unsaid c.args.self.now c.args.port c.args.slot _ refl none c.requires.may o)

@@ -3,7 +3,7 @@ use Rattle.adapter.specs.Device.{FetchedCommand}
 use Rattle.adapter.specs.Steps.{IsFinished}
 use Rattle.device_model.proofs.Absurd.{true-false}
 use Rattle.device_model.specs.Slots.{WorksOnIn}
-use Rattle.adapter.specs.ToldSteps.{EndsAndPosts}
+use Rattle.adapter.specs.AskedSteps.{EndsAndPosts}
 use Rattle.device_model.specs.SentFises.{SendsEnd}
 use Rattle.device_model.specs.PortView.{blank_port, cause_of, operation_of_kind, taken_of}
 use Rattle.device_model.specs.WholeAdapter.{device_of, all_media_after_end}
@@ -30,8 +30,8 @@ returns-clause-did c = λ o.
     found.2 (rw kind at (rw (at_port h.ports p c.index-self-place.result small) at (rw (c.len-here.ensures, h.tape.ok.0) at (c.end.ensures (o.media p))))) (rw kind at (rw c.operation.ensures at c.record.ensures.added c.if-not-record.false))
     (rw kind at (c.send_end.ensures.sent (all_media_after_end o p (operation_of_kind c.in-Some.command_kind))))))
 
-pub returns-in_default-clause-left : goal.returns-in_default-clause-left
-returns-in_default-clause-left c = λ _ o.
+pub returns-in_default-clause-step_is_skipped : goal.returns-in_default-clause-step_is_skipped
+returns-in_default-clause-step_is_skipped c = λ _ o.
     inl (
       λ may.
           let t : FetchedCommand = may.1 in
@@ -40,8 +40,8 @@ returns-in_default-clause-left c = λ _ o.
       refl,
     )
 
-pub returns-then-not-record-clause-left : goal.returns-then-not-record-clause-left
-returns-then-not-record-clause-left c = λ _ o.
+pub returns-then-not-record-clause-step_is_skipped : goal.returns-then-not-record-clause-step_is_skipped
+returns-then-not-record-clause-step_is_skipped c = λ _ o.
     let found = c.in-Some.ensures.found in
     inr (
       (cause_of found.0.command_kind, taken_of found.0, may_end c.args.self.now o c.args.port c.args.slot found.0 found.1 found.2),

@@ -15,8 +15,8 @@ returns-clause-did c = λ o.
     port_fails h o p c.args.port c.args.slot c.args.error c.args.busy c.fail.new.self found.0 c.in_ok-queued.queued c.record.new.tape c.from.ensures small (omega (arith, c.ranges.error.fits))
     found.1 found.2 found.3 (rw (at_port h.ports p c.index-self-from.result small) at (c.fail.ensures (o.media p))) (rw c.failed_status.ensures at (c.record.ensures.added c.if-not-record.false))
 
-pub returns-then-not-record-clause-left : goal.returns-then-not-record-clause-left
-returns-then-not-record-clause-left c = λ _ o.
+pub returns-then-not-record-clause-step_is_skipped : goal.returns-then-not-record-clause-step_is_skipped
+returns-then-not-record-clause-step_is_skipped c = λ _ o.
     let found = c.in_ok-queued.ensures.found in
     inr (
       (taken_of found.0, may_fail c.args.self.now o c.args.port c.args.slot c.args.error c.args.busy found.0 (omega (arith, c.ranges.error.fits)) found.1 found.2),

@@ -1,5 +1,5 @@
 use Rattle.std.proofs.Common.{rules, true, ◌≡◌, ◌<◌, ℕ, length, subst, sym, slice_index_or}
-use Rattle.device_model.specs.Slots.{HasUntaken}
+use Rattle.device_model.specs.Slots.{HasIssuedUntaken}
 use Rattle.adapter.specs.Commands.{Meaning}
 use Rattle.adapter.specs.Steps.{IsUnmixed, admits}
 use Rattle.adapter.proofs.SaysLemmas.{says_meaning}
@@ -22,7 +22,7 @@ returns-clause-did c = λ _ o.
     let h = c.args.self.now in
     let m = o.media c.from-place.result in
     let small : c.from-place.result < length h.ports = search rules in
-    let P : ℕ → Type 0 = λ q. HasUntaken (slice_index_or h.ports q blank_port) c.args.slot in
+    let P : ℕ → Type 0 = λ q. HasIssuedUntaken (slice_index_or h.ports q blank_port) c.args.slot in
     let may = subst P (sym c.from-place.ensures) c.requires.may in
     let taken = may_be_taken (slice_index_or h.ports c.from-place.result blank_port) c.args.slot c.in-Some.command may (rw (at_port h.ports c.from-place.result c.index-self-place-2.result small) at (c.may_take_command.ensures.open c.if-not-may_take_command.false)) in
     port_takes h o c.from-place.result c.args.port c.args.slot _ c.in-Some.command c.from-place.ensures small (taken m)
@@ -33,7 +33,7 @@ pub returns-in_default-clause-only : goal.returns-in_default-clause-only
 returns-in_default-clause-only c = λ _ o m places may.
     let says = fetch_says c.args.self.now o c.from-place.result c.args.port c.args.slot m places c.from-place.ensures may in
     let small : c.from-place.result < length c.args.self.now.ports = search rules in
-    (rw (at_port c.args.self.now.ports c.from-place.result c.index-self-place.result small) at (c.read_command.ensures.only c.in_default.is m places))
+    (rw (at_port c.args.self.now.ports c.from-place.result c.index-self-place.result small) at (c.read_command.ensures.complete c.in_default.is m places))
     (rw (← c.deref.ensures.value) at says)
 
 -- another command is taken
@@ -46,6 +46,6 @@ returns-then-not-may_take_command-clause-only c = λ _ o m places may.
     let one = says_meaning (bytes_of h.memory.items) _ c.args.slot m (taken_of c.in-Some.command).meaning places _ says said in
     let takes = fetch_takes h o c.from-place.result c.args.port c.args.slot m places c.from-place.ensures may in
     let alone = takes.is_unmixed in
-    (rw (at_port h.ports c.from-place.result c.index-self-place-2.result small) at (c.may_take_command.ensures.only c.if-not-may_take_command.true (o.media c.from-place.result)))
+    (rw (at_port h.ports c.from-place.result c.index-self-place-2.result small) at (c.may_take_command.ensures.complete c.if-not-may_take_command.true (o.media c.from-place.result)))
     (subst (λ (x : Meaning). admits (halt_of (slice_index_or h.ports c.from-place.result blank_port).halting) x.operation ≡ true) one takes.working.admitted)
     (subst (λ (x : Meaning). IsUnmixed (port_of (slice_index_or h.ports c.from-place.result blank_port) (o.media c.from-place.result)) x.operation) one alone)

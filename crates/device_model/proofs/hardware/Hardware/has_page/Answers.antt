@@ -20,7 +20,7 @@ returns-then-can_end c =
 
 pub returns-else-can_end : goal.returns-else-can_end
 returns-else-can_end c = λ o.
-    let never = c.has_untaken.ensures.only c.if-has_untaken.false in (
+    let never = c.has_untaken.ensures.complete c.if-has_untaken.false in (
       page_barred c.args.self.now c.args.port c.args.slot never o,
       page_unheld c.args.self.now c.args.port c.args.slot c.len.result c.len.ensures
           (λ r held kind ends.
@@ -32,7 +32,7 @@ returns-else-can_end c = λ o.
 
 pub returns-in_err-command : goal.returns-in_err-command
 returns-in_err-command c = λ o.
-    let never = c.has_untaken.ensures.only c.if-has_untaken.false in
+    let never = c.has_untaken.ensures.complete c.if-has_untaken.false in
     let P : Option Bool → Type 0 = λ r. FindsPageCommand (device_of c.args.self.now o) c.args.port c.args.slot r in
     subst P (sym c.from_residual.ensures) (
       page_barred c.args.self.now c.args.port c.args.slot never o,
@@ -41,7 +41,7 @@ returns-in_err-command c = λ o.
 
 pub returns-then-not-sends_page : goal.returns-then-not-sends_page
 returns-then-not-sends_page c = λ o.
-    let never = c.has_untaken.ensures.only c.if-has_untaken.false in (
+    let never = c.has_untaken.ensures.complete c.if-has_untaken.false in (
       page_barred c.args.self.now c.args.port c.args.slot never o,
       page_unheld c.args.self.now c.args.port c.args.slot _ refl
           (λ r held kind ends.
@@ -67,9 +67,9 @@ returns-then-not-is_used c = λ o.
     page_unused h c.args.port c.args.slot unissued untaken o
 
 -- issued, with the code of another command
-pub returns-then-not-may_decode_page : goal.returns-then-not-may_decode_page
-returns-then-not-may_decode_page c = λ o.
+pub returns-then-not-may_be_page_command : goal.returns-then-not-may_be_page_command
+returns-then-not-may_be_page_command c = λ o.
     let h = c.args.self.now in
     let some : c.args.port < length h.ports = search rules in
-    let none = rw (at_port h.ports c.args.port c.index-self-port-then-has_untaken.result some) at (rw c.deref.ensures.value at (c.may_decode_page.ensures c.if-not-may_decode_page.true)) in
+    let none = rw (at_port h.ports c.args.port c.index-self-port-then-has_untaken.result some) at (rw c.deref.ensures.value at (c.may_be_page_command.ensures c.if-not-may_be_page_command.true)) in
     (page_unmeant h c.args.port c.args.slot none o, page_unsaid h c.args.port c.args.slot _ refl none (c.has_untaken.ensures.may c.if-has_untaken.true) o)

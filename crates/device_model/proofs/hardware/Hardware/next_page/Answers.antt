@@ -17,7 +17,7 @@ returns-clause-none c = λ _ o slot small.
 
 pub returns-in-Some-clause-found : goal.returns-in-Some-clause-found
 returns-in-Some-clause-found c = λ o.
-    let P : ℕ → Type 0 = λ q. FindsPageCommand (device_of c.args.self.now o) q c.loop-slot.slot (Some c.in-Some.ends) in
+    let P : ℕ → Type 0 = λ q. FindsPageCommand (device_of c.args.self.now o) q c.loop-slot.slot (Some c.in-Some.can_end) in
     subst P c.from-place.ensures (c.in-Some.ensures o)
 
 pub returns-in-Some-clause-first : goal.returns-in-Some-clause-first

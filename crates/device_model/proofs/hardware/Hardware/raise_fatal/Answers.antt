@@ -1,6 +1,6 @@
 use Rattle.std.proofs.Common.{rules, ◌≡◌, ◌<◌, ℕ, true, false, arith, inl, inr, length, refl, subst, sym}
 use Rattle.std.specs.Prelude.{slice_index_or}
-use Rattle.adapter.specs.ToldSteps.{fatal_bit}
+use Rattle.adapter.specs.AskedSteps.{fatal_bit}
 use Rattle.adapter.specs.Steps.{Can}
 use Rattle.adapter.specs.Steps.DeviceTransition.{Fatal}
 use Rattle.device_model.proofs.Absurd.{true-false}
@@ -12,8 +12,8 @@ use Rattle.device_model.proofs.Stepping.{is_fatal, port_breaks}
 use Rattle.device_model.proofs.hardware.Hardware.raise_fatal.Goals as goal
 
 -- its engine has fallen
-pub returns-then-not-self-place-clause-left : goal.returns-then-not-self-place-clause-left
-returns-then-not-self-place-clause-left c = λ _ o.
+pub returns-then-not-self-place-clause-step_is_skipped : goal.returns-then-not-self-place-clause-step_is_skipped
+returns-then-not-self-place-clause-step_is_skipped c = λ _ o.
     let h : Hardware = c.args.self.now in
     let p : ℕ = c.from-place.result in
     let small : p < length h.ports = search rules in
@@ -21,8 +21,8 @@ returns-then-not-self-place-clause-left c = λ _ o.
     let fallen : (slice_index_or h.ports p blank_port).cr ≡ false = rw (at_port h.ports p c.index-self-place.result small) at c.if-not-self-place.true in
     inl (λ may. true-false (subst P (sym c.from-place.ensures) may).0 fallen, refl)
 
-pub returns-then-not-record-clause-left : goal.returns-then-not-record-clause-left
-returns-then-not-record-clause-left c = λ _ o.
+pub returns-then-not-record-clause-step_is_skipped : goal.returns-then-not-record-clause-step_is_skipped
+returns-then-not-record-clause-step_is_skipped c = λ _ o.
     let h : Hardware = c.args.self.now in
     let p : ℕ = c.from-place.result in
     let small : p < length h.ports = search rules in

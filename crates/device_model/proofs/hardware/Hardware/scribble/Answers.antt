@@ -1,7 +1,7 @@
 use Rattle.std.proofs.Common.{rules, ◌≡◌, ◌<◌, ℕ, ◌∙◌, ◌++◌, ap, arith, drop, length, refl, sym, subst, take}
 use Rattle.std.proofs.lemmas.List.{take-append-le, take_all}
 use Rattle.std.specs.Prelude.{slice_index_or}
-use Rattle.adapter.specs.ToldSteps.{IsScribbled}
+use Rattle.adapter.specs.AskedSteps.{IsScribbled}
 use Rattle.device_model.specs.FetchedBytes.{bytes_of}
 use Rattle.device_model.specs.PortView.{blank_port, port_of}
 use Rattle.device_model.specs.WholeAdapter.{device_of}
@@ -56,5 +56,5 @@ returns-clause-did c = λ _ o.
       is_byte = omega (arith, c.ranges.byte.fits);
       memory = bytes_of c.loop-slot.self.memory.items;
       scribbled = subst P all (inv.filled (o.media c.args.port));
-      effect = ap (λ (h : Hardware). device_of h o) inv.rest ∙ (λ i. record (device_of old o) { size = inv.size i; memory = bytes_of c.loop-slot.self.memory.items });
+      effect = ap (λ (h : Hardware). device_of h o) inv.rest ∙ (λ i. record (device_of old o) { memory_size = inv.size i; memory = bytes_of c.loop-slot.self.memory.items });
     }

@@ -1,6 +1,6 @@
 use Rattle.std.proofs.Common.{◌≡◌, length}
 use Rattle.std.specs.Prelude.{slice_index_or}
-use Rattle.adapter.specs.ToldSteps.{IsScribbled}
+use Rattle.adapter.specs.AskedSteps.{IsScribbled}
 use Rattle.device_model.specs.FetchedBytes.{bytes_of}
 use Rattle.device_model.specs.PortView.{Media, blank_port, port_of}
 use Rattle.device_model.proofs.hardware.Hardware.scribble.Given as goal

@@ -7,14 +7,14 @@ use Rattle.fis.specs.declared.DeviceToHost.{DeviceToHost}
 use Rattle.fis.specs.declared.PioSetup.{PioSetup}
 use Rattle.fis.specs.declared.SetDeviceBits.{SetDeviceBits}
 use Rattle.adapter.specs.Device.{Device}
-use Rattle.device_model.specs.SentFises.{SendsBits, SendsRegisters, SendsSetup, end_fis, page_setup, ended_tag_fis}
+use Rattle.device_model.specs.SentFises.{SendsSetDeviceBits, SendsDeviceToHost, SendsPioSetup, end_fis, page_setup_fis, ended_tag_fis}
 use Rattle.device_model.specs.PortView.{port_of}
 use Rattle.device_model.specs.WholeAdapter.{device_of, no_media}
 use Rattle.device_model.proofs.SlotLemmas.{at_port}
 use Rattle.device_model.proofs.hardware.Hardware.send_end.Goals as goal
 
 pub encode_pio_setup-fis-requires : goal.encode_pio_setup-fis-requires
-encode_pio_setup-fis-requires c = let e = ap (λ (f : PioSetup). f.lba) (c.page_setup.ensures no_media) in omega (arith, e)
+encode_pio_setup-fis-requires c = let e = ap (λ (f : PioSetup). f.lba) (c.page_setup_fis.ensures no_media) in omega (arith, e)
 
 pub encode_d2h-fis-requires : goal.encode_d2h-fis-requires
 encode_d2h-fis-requires c = let e = ap (λ (f : DeviceToHost). f.lba) (c.end_registers.ensures no_media) in omega (arith, e)
@@ -24,8 +24,8 @@ returns-in-Identify-clause-sent c = λ o.
     let P : PioSetup → Type 0 = λ f. EncodesPioSetup c.encode_pio_setup-fis.result f in
     let small : c.args.port < length c.args.self.now.ports = search rules in
     let d : Device = device_of c.args.self.now o in
-    let sent : SendsSetup c.args.port (page_setup (d.port c.args.port)) d (device_of c.send.new.self o) =
-    (c.encode_pio_setup-fis.result, subst P (rw (at_port c.args.self.now.ports c.args.port c.index-self-port.result small) at (c.page_setup.ensures (o.media c.args.port))) c.encode_pio_setup-fis.ensures, c.send.ensures.sent o) in
+    let sent : SendsPioSetup c.args.port (page_setup_fis (d.port c.args.port)) d (device_of c.send.new.self o) =
+    (c.encode_pio_setup-fis.result, subst P (rw (at_port c.args.self.now.ports c.args.port c.index-self-port.result small) at (c.page_setup_fis.ensures (o.media c.args.port))) c.encode_pio_setup-fis.ensures, c.send.ensures.sent o) in
     elim c.in-Identify.is [ inl identity ↦ rw identity (refl, sent) | inr log ↦ rw log (refl, sent) ]
 
 pub returns-in-Read : goal.returns-in-Read
@@ -34,7 +34,7 @@ returns-in-Read c = record {
       let small : c.args.port < length c.args.self.now.ports = search rules in
       let P : DeviceToHost → Type 0 = λ f. EncodesDeviceToHost c.encode_d2h-fis.result f in
       let d : Device = device_of c.args.self.now o in
-      let sent : SendsRegisters c.args.port (end_fis (d.port c.args.port)) d (device_of c.send-in-Read.new.self o) =
+      let sent : SendsDeviceToHost c.args.port (end_fis (d.port c.args.port)) d (device_of c.send-in-Read.new.self o) =
       (c.encode_d2h-fis.result, subst P (rw (at_port c.args.self.now.ports c.args.port c.index-self-port-in-Read.result small) at (c.end_registers.ensures (o.media c.args.port))) c.encode_d2h-fis.ensures, c.send-in-Read.ensures.sent o) in
       elim c.in-Read.is [
         | inl read ↦ rw read (refl, sent)
@@ -57,6 +57,6 @@ returns-in-ReadQueued-clause-sent c = λ o.
     let small : c.args.port < length c.args.self.now.ports = search rules in
     let P : SetDeviceBits → Type 0 = λ f. EncodesSetDeviceBits c.encode_set_device_bits-fis.result f in
     let d : Device = device_of c.args.self.now o in
-    let sent : SendsBits c.args.port (ended_tag_fis c.args.slot (d.port c.args.port)) d (device_of c.send-in-ReadQueued.new.self o) =
+    let sent : SendsSetDeviceBits c.args.port (ended_tag_fis c.args.slot (d.port c.args.port)) d (device_of c.send-in-ReadQueued.new.self o) =
     (c.encode_set_device_bits-fis.result, subst P (rw (at_port c.args.self.now.ports c.args.port c.index-self-port-in-ReadQueued.result small) at (c.ended_tag.ensures (o.media c.args.port))) c.encode_set_device_bits-fis.ensures, c.send-in-ReadQueued.ensures.sent o) in
     elim c.in-ReadQueued.is [ inl read ↦ rw read (refl, sent) | inr write ↦ rw write (refl, sent) ]

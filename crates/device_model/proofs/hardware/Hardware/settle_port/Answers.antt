@@ -1,7 +1,7 @@
 use Rattle.std.proofs.Common.{rules, ℕ, ◌<◌, ◌∙◌, List, length, slice_index_or, sym, ap, subst, get_or-set_same, get_or-set_other}
 use Rattle.std.specs.Prelude.{slice_set}
 use Rattle.adapter.specs.Device.{Device}
-use Rattle.device_model.specs.ModelOwnSteps.{LeadsOwn, Settles, IsSettledPort}
+use Rattle.device_model.specs.ModelOwnSteps.{LeadsBySteps, Settles, IsSettledPort}
 use Rattle.device_model.specs.PortView.{port_of, blank_port}
 use Rattle.device_model.specs.WholeAdapter.{device_of}
 use Rattle.device_model.specs.declared.hardware.Hardware.{Hardware}
@@ -31,7 +31,7 @@ returns-else-link-clause-own c = λ o held loose.
     let mid : Hardware = record h { ports = slice_set h.ports p c.settle_state.new.self } in
     let small : p < length h.ports = search rules in
     let still : p < length mid.ports = search rules in
-    let P : Device → Type 0 = λ d. LeadsOwn (Settles held) (device_of h o) d in
+    let P : Device → Type 0 = λ d. LeadsBySteps (Settles held) (device_of h o) d in
     subst P (sym (port_same mid o p c.link.new.self still (rw (at_port mid.ports p c.index-self-port-2.result still) at (c.link.ensures.same c.if-link.false))))
     (port_settles h o p c.settle_state.new.self held small loose (rw (at_port h.ports p c.index-self-port.result small) at (c.settle_state.ensures.does (o.media p))))
 

@@ -15,16 +15,16 @@ returns-clause-did c = λ _ o.
           (rw (at_port h.ports p c.index-self-place-2.result small) at (c.unplug.ensures (o.media p))) (c.record.ensures.added c.if-not-record.false),
     )
 
-pub returns-then-not-self-place-clause-left : goal.returns-then-not-self-place-clause-left
-returns-then-not-self-place-clause-left c = λ _ o.
+pub returns-then-not-self-place-clause-step_is_skipped : goal.returns-then-not-self-place-clause-step_is_skipped
+returns-then-not-self-place-clause-step_is_skipped c = λ _ o.
     let h = c.args.self.now in
     let p : ℕ = c.from-place.result in
     let small : p < length h.ports = search rules in
     let never = rw (at_port h.ports p c.index-self-place.result small) at c.if-not-self-place.true in
     inl (λ may. true-false may (rw c.from-place.ensures at never), refl)
 
-pub returns-then-not-record-clause-left : goal.returns-then-not-record-clause-left
-returns-then-not-record-clause-left c = λ _ o.
+pub returns-then-not-record-clause-step_is_skipped : goal.returns-then-not-record-clause-step_is_skipped
+returns-then-not-record-clause-step_is_skipped c = λ _ o.
     let h = c.args.self.now in
     let p : ℕ = c.from-place.result in
     let small : p < length h.ports = search rules in

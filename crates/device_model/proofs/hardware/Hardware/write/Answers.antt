@@ -1,5 +1,5 @@
 use Rattle.std.proofs.Common.{rules, ap, ℕ, ◌<◌, length, ◌∙◌}
-use Rattle.adapter.specs.Access.{written}
+use Rattle.adapter.specs.Access.{device_after_write}
 use Rattle.hba_regs.specs.declared.reg.Reg.TheVariants.{Px}
 use Rattle.device_model.specs.WholeAdapter.{device_of}
 use Rattle.device_model.proofs.Ports.{set_port}
@@ -12,7 +12,7 @@ returns-in-Px-clause-written c = λ o.
     let small : c.from.result < length c.args.self.now.ports = search rules in
     rw c.in-Px.is
     (set_port c.args.self.now o c.from.result _ _ small (rw (at_port c.args.self.now.ports c.from.result c.index-self-from.result small) at (rw (c.len-tape.ensures, c.args.self.now.tape.ok.0) at (c.write.ensures (o.media c.from.result))))
-    ∙ ap (λ (p : ℕ). written (Px (record { 0 = p }) c.in-Px.r) c.args.value (device_of c.args.self.now o)) c.from.ensures)
+    ∙ ap (λ (p : ℕ). device_after_write (Px (record { 0 = p }) c.in-Px.r) c.args.value (device_of c.args.self.now o)) c.from.ensures)
 
 pub returns-in-Ghc-clause-written : goal.returns-in-Ghc-clause-written
 returns-in-Ghc-clause-written c = λ o. rw c.in-Ghc.is (c.set_global.ensures.written o)

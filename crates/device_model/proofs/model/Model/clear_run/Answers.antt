@@ -1,7 +1,7 @@
 use Rattle.std.proofs.Common.{ℕ, Bool, true, min, ◌-◌, ◌≡◌, ◌<◌, ◌≤◌, ◌+◌, ◌∙◌, Some, length, refl, sym, ap, subst, arith, inl, inr}
 use Rattle.adapter.specs.declared.access.DeviceStep.TheVariants as asked
 use Rattle.adapter.specs.Steps.{disk_cleared}
-use Rattle.device_model.specs.WriteCaches.{CallFails, HasRoomForOld}
+use Rattle.device_model.specs.WriteCaches.{CallFails, HasRoomForOldSectors}
 use Rattle.device_model.specs.Disks.{bay_of, disk_over, bay_failures, lasting_of}
 use Rattle.device_model.specs.StepEffects.{Completes, HasCleared, CommandFails, IsSectorFault, LacksMemory, cleared_count_on_disk}
 use Rattle.device_model.specs.ModelState.{device_at, media_of, all_media_at}
@@ -32,7 +32,7 @@ returns-in_default-clause-answers g c =
     let o : AllMedia = all_media_at g.S.SectorStore.size g.S.SectorStore.told m in
     let starved = c.reserve-room.ensures.starved in
     record {
-      device_is_kept = c.reserve-room.ensures.same o;
+      device_is_kept = c.reserve-room.ensures.device_is_kept o;
       held_ports_are = refl;
       page_source_is = refl;
       disk_index_is = refl;
@@ -41,7 +41,7 @@ returns-in_default-clause-answers g c =
       disks_are_kept = λ _. refl;
       lacks_memory = λ served may.
           absurd (
-          let found = clear_fits c.reserve-room.new.self o _ c.args.port.0 c.args.slot.0 c.args.most may.1 (c.reserve-room.ensures.same o) may.2 in
+          let found = clear_fits c.reserve-room.new.self o _ c.args.port.0 c.args.slot.0 c.args.most may.1 (c.reserve-room.ensures.device_is_kept o) may.2 in
           c.run_to_clear.ensures.none c.in_default.is found.0 found.1 found.2);
       stays_starved = λ yes. starved ∙ yes;
       starves_for_want = λ yes. inl (sym starved ∙ yes);
@@ -55,11 +55,11 @@ returns-then-not-room-clause-answers g c =
     let found = c.in-Some.ensures.found in
     let bay = found_bay m c.from-place.result c.args.port.0 _ c.from-place.ensures c.as_slice.ensures.value (sym c.has_disks.ensures.disks ∙ c.if-not-has_disks.false) in
     let has = found_clear c.reserve-room.new.self o _ c.args.port.0 c.args.slot.0 c.args.most c.in-Some.run' found.0
-    (has_disks g.S.SectorStore.size g.S.SectorStore.told m c.args.port.0 bay.0 bay.1) (c.reserve-room.ensures.same o) found.1 in
+    (has_disks g.S.SectorStore.size g.S.SectorStore.told m c.args.port.0 bay.0 bay.1) (c.reserve-room.ensures.device_is_kept o) found.1 in
     let lacks : LacksMemory (asked.Clear c.args.port c.args.slot c.args.most) (device_at g.S.SectorStore.size g.S.SectorStore.told m) m.hardware m.bays.items =
     (taken_of found.0, has, λ room _. true-false (c.reserve-room.ensures.enough room) c.if-not-room.true) in
     record {
-      device_is_kept = c.reserve-room.ensures.same o;
+      device_is_kept = c.reserve-room.ensures.device_is_kept o;
       held_ports_are = refl;
       page_source_is = refl;
       disk_index_is = refl;
@@ -71,8 +71,8 @@ returns-then-not-room-clause-answers g c =
       starves_for_want = λ _. inr ((c.requires, taken_of found.0, has), lacks);
     }
 
-pub clear-requires-clause-held : goal.clear-requires-clause-held
-clear-requires-clause-held g c =
+pub clear-requires-clause-slot_has_command : goal.clear-requires-clause-slot_has_command
+clear-requires-clause-slot_has_command g c =
     let found = c.in-Some.ensures.found in
     let fits = found.1.cleared_fits in
     let few = c.clear-count.ensures.zero.count_is_allowed in
@@ -101,10 +101,10 @@ whole_store g c = ap (λ (x : Bay g.row.S.Denot). x.disk.store) c.reserve.ensure
 whole_lasts : (g : Over) (c : goal.Then-count-run g) → lasting_of g.S.SectorStore.told c.clear-count.new.self ≡ lasting_of g.S.SectorStore.told c.in-Some-index_mut.bay
 whole_lasts g c =
     c.clear-count.ensures.lasting
-    ∙ (ap (lasting_of g.S.SectorStore.told) c.reserve.ensures.rest ∙ grown_lasts g.S.SectorStore.told c.in-Some-index_mut.bay c.reserve.new.self.cache c.reserve.ensures.same)
+    ∙ (ap (lasting_of g.S.SectorStore.told) c.reserve.ensures.rest ∙ grown_lasts g.S.SectorStore.told c.in-Some-index_mut.bay c.reserve.new.self.cache c.reserve.ensures.old_sectors_are_kept)
 
 whole_cached : (g : Over) (c : goal.Then-count-run g) → c.clear-count.new.self.cache.is_on ≡ c.in-Some-index_mut.bay.cache.is_on
-whole_cached g c = c.clear-count.ensures.zero.cache_mode_is_kept ∙ c.reserve.ensures.same.is_on
+whole_cached g c = c.clear-count.ensures.zero.cache_mode_is_kept ∙ c.reserve.ensures.old_sectors_are_kept.cache_mode_is_kept
 
 whole_disk : (g : Over) (c : goal.Then-count-run g) →
     disk_over c.in-Some-index_mut.bay.which (g.S.SectorStore.size c.clear-count.new.self.disk.store) (g.S.SectorStore.told c.clear-count.new.self.disk.store)
@@ -128,7 +128,7 @@ whole_can g c =
     let o : AllMedia = all_media_at g.S.SectorStore.size g.S.SectorStore.told m in
     let found = c.in-Some.ensures.found in
     found_clear c.reserve-room.new.self o _ c.args.port.0 c.args.slot.0 c.args.most c.in-Some.run' found.0
-    (has_disks g.S.SectorStore.size g.S.SectorStore.told m c.args.port.0 c.in-Some-index_mut.bay (whole_was g c)) (c.reserve-room.ensures.same o) found.1
+    (has_disks g.S.SectorStore.size g.S.SectorStore.told m c.args.port.0 c.in-Some-index_mut.bay (whole_was g c)) (c.reserve-room.ensures.device_is_kept o) found.1
 
 whole_part : (g : Over) (c : goal.Then-count-run g) →
     IsPart g.S.SectorStore.size g.S.SectorStore.told c.args.port c.args.slot c.args.most c.in-Some.run'.first c.clear-count.result
@@ -139,9 +139,9 @@ whole_part g c =
     let zeros = c.clear-count.ensures.zero in
     cut_part g.S.SectorStore.size g.S.SectorStore.told g.S.SectorStore.failures c.args.port c.args.slot c.args.most c.args.self.now (whole_mid g c)
     c.in-Some-index_mut.bay c.clear-count.new.self (whole_was g c) (whole_items g c) (whole_rest g c) (whole_lasts g c) c.reserve-room.new.self
-    c.in-Some.run'.first c.clear-count.result found.0 c.reserve-room.ensures.same
-    c.in-Some.run' c.cut-on_disk.result c.sectors.result refl found.1 c.sectors.ensures cut.inside cut.count cut.first zeros.count_is_allowed (whole_disk g c) (λ none. zeros.none_keeps_told none ∙ ap g.S.SectorStore.told (whole_store g c)) (zeros.size_is_kept ∙ ap g.S.SectorStore.size (whole_store g c))
-    c.clear.ensures.none (λ some o. c.clear.ensures.cleared some o found.0 found.1.works_on)
+    c.in-Some.run'.first c.clear-count.result found.0 c.reserve-room.ensures.device_is_kept
+    c.in-Some.run' c.cut-on_disk.result c.sectors.result refl found.1 c.sectors.ensures cut.inside cut.count cut.first zeros.count_is_allowed (whole_disk g c) (λ none. zeros.no_clear_keeps_sectors none ∙ ap g.S.SectorStore.told (whole_store g c)) (zeros.size_is_kept ∙ ap g.S.SectorStore.size (whole_store g c))
+    c.clear.ensures.none_changes_nothing (λ some o. c.clear.ensures.cleared some o found.0 found.1.works_on)
 
 -- all of it is
 all : (g : Over) (c : goal.Then-count-run g) →
@@ -164,7 +164,7 @@ all g c =
     let cleared = p.all some (omega (arith, whole, same)) in (
       cleared,
       record {
-        does_told_step = p.whole some;
+        does_asked_step = p.whole some;
         no_call_failed = λ _. store_fine m (whole_mid g c) c.args.port.0 a b (whole_was g c) (whole_items g c) (whole_rest g c) g.S.SectorStore.failures
             (c.clear-count.ensures.zero.no_call_failed (omega (arith, few, cut, same)) ∙ ap g.S.SectorStore.failures (whole_store g c));
         page_source_is = store_says m (whole_mid g c) c.args.port.0 a b (whole_was g c) (whole_items g c) (whole_rest g c) c.args.port.0;
@@ -191,12 +191,12 @@ returns-then-count-run-clause-answers g c =
         gains_own_pages = (whole_part g c).gains_own_pages;
         disks_are_kept = λ none. absurd (none (c.requires, taken_of found.0, whole_can g c));
         step_keeps = store_keeps m (whole_mid g c) c.args.port.0 a b (whole_was g c) (whole_items g c) (whole_rest g c) g.S.SectorStore.size (c.clear-count.ensures.zero.size_is_kept ∙ ap g.S.SectorStore.size (whole_store g c)) (whole_cached g c) refl refl;
-        starved = c.clear.ensures.starved ∙ c.reserve-room.ensures.starved;
+        starved_is_kept = c.clear.ensures.starved ∙ c.reserve-room.ensures.starved;
       },
     )
 
 pub returns-then-count-run-clause-left : goal.returns-then-count-run-clause-left
-returns-then-count-run-clause-left g c = λ _ n room. c.clear.ensures.left n (c.reserve-room.ensures.kept (n + 1) room)
+returns-then-count-run-clause-left g c = λ _ n room. c.clear.ensures.room_is_left n (c.reserve-room.ensures.room_is_kept (n + 1) room)
 
 -- ---- the command fails on the next one
 
@@ -217,10 +217,10 @@ then_store g c = ap (λ (x : Bay g.row.S.Denot). x.disk.store) c.reserve.ensures
 then_lasts : (g : Over) (c : goal.After-fail-failed g) → lasting_of g.S.SectorStore.told c.clear-count.new.self ≡ lasting_of g.S.SectorStore.told c.in-Some-index_mut.bay
 then_lasts g c =
     c.clear-count.ensures.lasting
-    ∙ (ap (lasting_of g.S.SectorStore.told) c.reserve.ensures.rest ∙ grown_lasts g.S.SectorStore.told c.in-Some-index_mut.bay c.reserve.new.self.cache c.reserve.ensures.same)
+    ∙ (ap (lasting_of g.S.SectorStore.told) c.reserve.ensures.rest ∙ grown_lasts g.S.SectorStore.told c.in-Some-index_mut.bay c.reserve.new.self.cache c.reserve.ensures.old_sectors_are_kept)
 
 then_cached : (g : Over) (c : goal.After-fail-failed g) → c.clear-count.new.self.cache.is_on ≡ c.in-Some-index_mut.bay.cache.is_on
-then_cached g c = c.clear-count.ensures.zero.cache_mode_is_kept ∙ c.reserve.ensures.same.is_on
+then_cached g c = c.clear-count.ensures.zero.cache_mode_is_kept ∙ c.reserve.ensures.old_sectors_are_kept.cache_mode_is_kept
 
 then_disk : (g : Over) (c : goal.After-fail-failed g) →
     disk_over c.in-Some-index_mut.bay.which (g.S.SectorStore.size c.clear-count.new.self.disk.store) (g.S.SectorStore.told c.clear-count.new.self.disk.store)
@@ -244,7 +244,7 @@ can g c =
     let o : AllMedia = all_media_at g.S.SectorStore.size g.S.SectorStore.told m in
     let found = c.in-Some.ensures.found in
     found_clear c.reserve-room.new.self o _ c.args.port.0 c.args.slot.0 c.args.most c.in-Some.run' found.0
-    (has_disks g.S.SectorStore.size g.S.SectorStore.told m c.args.port.0 c.in-Some-index_mut.bay (was g c)) (c.reserve-room.ensures.same o) found.1
+    (has_disks g.S.SectorStore.size g.S.SectorStore.told m c.args.port.0 c.in-Some-index_mut.bay (was g c)) (c.reserve-room.ensures.device_is_kept o) found.1
 
 part : (g : Over) (c : goal.After-fail-failed g) →
     IsPart g.S.SectorStore.size g.S.SectorStore.told c.args.port c.args.slot c.args.most c.in-Some.run'.first c.clear-count.result
@@ -255,9 +255,9 @@ part g c =
     let zeros = c.clear-count.ensures.zero in
     cut_part g.S.SectorStore.size g.S.SectorStore.told g.S.SectorStore.failures c.args.port c.args.slot c.args.most c.args.self.now (mid g c)
     c.in-Some-index_mut.bay c.clear-count.new.self (was g c) (items g c) (then_rest g c) (then_lasts g c) c.reserve-room.new.self
-    c.in-Some.run'.first c.clear-count.result found.0 c.reserve-room.ensures.same
-    c.in-Some.run' c.cut-on_disk.result c.sectors.result refl found.1 c.sectors.ensures cut.inside cut.count cut.first zeros.count_is_allowed (then_disk g c) (λ none. zeros.none_keeps_told none ∙ ap g.S.SectorStore.told (then_store g c)) (zeros.size_is_kept ∙ ap g.S.SectorStore.size (then_store g c))
-    c.clear.ensures.none (λ some o. c.clear.ensures.cleared some o found.0 found.1.works_on)
+    c.in-Some.run'.first c.clear-count.result found.0 c.reserve-room.ensures.device_is_kept
+    c.in-Some.run' c.cut-on_disk.result c.sectors.result refl found.1 c.sectors.ensures cut.inside cut.count cut.first zeros.count_is_allowed (then_disk g c) (λ none. zeros.no_clear_keeps_sectors none ∙ ap g.S.SectorStore.told (then_store g c)) (zeros.size_is_kept ∙ ap g.S.SectorStore.size (then_store g c))
+    c.clear.ensures.none_changes_nothing (λ some o. c.clear.ensures.cleared some o found.0 found.1.works_on)
 
 fewer : (g : Over) (c : goal.After-fail-failed g) → c.clear-count.result < next_run_length c.args.most (taken_of c.in-Some.ensures.found.0)
 fewer g c =
@@ -290,7 +290,7 @@ cause g c =
           let V : Bool → Type 0 = λ x. CallFails x true (on.first + count) (g.S.SectorStore.failures c.reserve.new.self.disk.store) (g.S.SectorStore.failures c.clear-count.new.self.disk.store) in
           let W : g.row.S.Denot → Type 0 = λ x. CallFails a.cache.is_on true (on.first + count) (g.S.SectorStore.failures x) (g.S.SectorStore.failures c.clear-count.new.self.disk.store) in
           let sector : on.first + count ≡ run.first + count = omega (arith, first) in
-          (inr (omega (arith, less, first, inside, size), error, subst Q sector (subst W (then_store g c) (subst V c.reserve.ensures.same.is_on (c.clear-count.ensures.zero.failure_is_noted less)))), omega (arith, error))
+          (inr (omega (arith, less, first, inside, size), error, subst Q sector (subst W (then_store g c) (subst V c.reserve.ensures.old_sectors_are_kept.cache_mode_is_kept (c.clear-count.ensures.zero.failure_is_noted less)))), omega (arith, error))
       | else-count-on_disk w ↦
           let most = w.if-count-on_disk.false in
           let error = w.error-is in
@@ -308,8 +308,8 @@ failed g c =
     is_failed g.S.SectorStore.size g.S.SectorStore.told g.S.SectorStore.failures c.args.port c.args.slot c.if-count-on_disk.error
     (record (taken_of c.in-Some.ensures.found.0) { cleared = c.in-Some.ensures.found.0.cleared + c.clear-count.result }) c.fail-failed.result
     (mid g c) c.fail-failed.new.self c.fail-failed.ensures (omega (arith, small, at)) c.requires
-    (record { taken = more.works.taken; running = more.works.working.running; is_byte = (cause g c).1; kept_bits_are_allowed = refl })
-    (c.clear.ensures.left 1 (c.reserve-room.ensures.room c.if-not-room.false))
+    (record { taken = more.works.taken; cr_is_set = more.works.working.cr_is_set; is_byte = (cause g c).1; kept_bits_are_allowed = refl })
+    (c.clear.ensures.room_is_left 1 (c.reserve-room.ensures.room c.if-not-room.false))
 
 has_failed : (g : Over) (c : goal.After-fail-failed g) →
     CommandFails g.S.SectorStore.size g.S.SectorStore.told g.S.SectorStore.failures (asked.Clear c.args.port c.args.slot c.args.most) c.args.self.now c.fail-failed.new.self
@@ -318,7 +318,7 @@ has_failed g c =
     let f = failed g c in
     part_fails g.S.SectorStore.size g.S.SectorStore.told g.S.SectorStore.failures c.args.port c.args.slot c.args.most c.args.self.now (mid g c)
     c.in-Some-index_mut.bay c.clear-count.new.self (was g c) (items g c) (then_rest g c) (then_lasts g c) c.reserve-room.new.self
-    c.in-Some.run'.first c.clear-count.result found.0 c.reserve-room.ensures.same c.requires (can g c) (part g c)
+    c.in-Some.run'.first c.clear-count.result found.0 c.reserve-room.ensures.device_is_kept c.requires (can g c) (part g c)
     (fewer g c) c.if-count-on_disk.error c.fail-failed.new.self
     (fine_on g.S.SectorStore.size g.S.SectorStore.told g.S.SectorStore.failures c.args.port c.args.slot c.if-count-on_disk.error _ _ _ f
     ∙ ap (bay_failures g.S.SectorStore.failures) (seated_here c.args.self.now (mid g c) c.args.port.0 c.in-Some-index_mut.bay c.clear-count.new.self (was g c) (items g c)))
@@ -368,19 +368,19 @@ returns-then-not-reserve-clause-answers g c =
     (let there = c.has_disks.ensures.there c.if-not-has_disks.false in let long = ap length c.as_slice.ensures.value in omega (arith, there, long))
     c.index_mut.ensures.value c.in-Some-index_mut.is in
     let has = found_clear c.reserve-room.new.self o _ c.args.port.0 c.args.slot.0 c.args.most c.in-Some.run' found.0
-    (has_disks g.S.SectorStore.size g.S.SectorStore.told m c.args.port.0 a push_bay) (c.reserve-room.ensures.same o) found.1 in
-    let size : ((device_at g.S.SectorStore.size g.S.SectorStore.told m).port c.args.port.0).disk.size ≡ c.sectors.result =
-    ap (λ x. (media_of g.S.SectorStore.size g.S.SectorStore.told x).disk.size) push_bay ∙ sym c.sectors.ensures in
+    (has_disks g.S.SectorStore.size g.S.SectorStore.told m c.args.port.0 a push_bay) (c.reserve-room.ensures.device_is_kept o) found.1 in
+    let size : ((device_at g.S.SectorStore.size g.S.SectorStore.told m).port c.args.port.0).disk.sector_count ≡ c.sectors.result =
+    ap (λ x. (media_of g.S.SectorStore.size g.S.SectorStore.told x).disk.sector_count) push_bay ∙ sym c.sectors.ensures in
     let cut : c.cut-on_disk.result.count ≡ min c.in-Some.run'.count (c.sectors.result - c.in-Some.run'.first) = c.cut-on_disk.ensures.count in
     let whole : c.in-Some.run'.count ≡ next_run_length c.args.most t = found.1.count_is in
     let start : c.in-Some.run'.first ≡ next_uncleared t = found.1.first_is in
-    let here : cleared_count_on_disk ((device_at g.S.SectorStore.size g.S.SectorStore.told m).port c.args.port.0).disk.size c.args.most t ≡ c.cut-on_disk.result.count =
+    let here : cleared_count_on_disk ((device_at g.S.SectorStore.size g.S.SectorStore.told m).port c.args.port.0).disk.sector_count c.args.most t ≡ c.cut-on_disk.result.count =
     sym (cut ∙ (λ i. min (whole i) (sym size i - start i))) in
     let lacks : LacksMemory (asked.Clear c.args.port c.args.slot c.args.most) (device_at g.S.SectorStore.size g.S.SectorStore.told m) m.hardware m.bays.items =
-    (t, has, λ _ old. c.reserve.ensures.lacked c.if-not-reserve.true (subst (HasRoomForOld a.cache) here (room_here m c.args.port.0 _ a push_bay old))) in
+    (t, has, λ _ old. c.reserve.ensures.lacked c.if-not-reserve.true (subst (HasRoomForOldSectors a.cache) here (room_here m c.args.port.0 _ a push_bay old))) in
     grown_left g.S.SectorStore.size g.S.SectorStore.told g.S.SectorStore.failures m _ c.args.port.0 a c.reserve.new.self.cache push_bay
     (ap (λ k. slice_set m.bays.items k (Some c.reserve.new.self)) c.from-place.ensures ∙ ap (λ (x : Bay g.row.S.Denot). slice_set m.bays.items c.args.port.0 (Some x)) c.reserve.ensures.rest)
-    c.reserve.ensures.same (asked.Clear c.args.port c.args.slot c.args.most) refl (c.reserve-room.ensures.same o) refl refl refl (λ _ _. (lacks, refl)) (λ _. refl)
+    c.reserve.ensures.old_sectors_are_kept (asked.Clear c.args.port c.args.slot c.args.most) refl (c.reserve-room.ensures.device_is_kept o) refl refl refl (λ _ _. (lacks, refl)) (λ _. refl)
     (λ _. inr ((c.requires, t, has), lacks))
 
 -- ---- old bytes for which there is still room
@@ -398,5 +398,5 @@ returns-then-count-run-clause-old_room g c = λ _ t taken n room.
     let same = c.if-count-run.true in
     room_there (whole_mid g c) c.args.port.0 n c.clear-count.new.self (seated_here m (whole_mid g c) c.args.port.0 a c.clear-count.new.self (whole_was g c) (whole_items g c))
     (c.clear-count.ensures.zero.cache_has_room n
-    (c.reserve.ensures.kept (c.cut-on_disk.result.count + n)
+    (c.reserve.ensures.room_is_kept (c.cut-on_disk.result.count + n)
     (less_room a.cache (next_run_length c.args.most t + n) (c.cut-on_disk.result.count + n) (omega (arith, whole, cut, few, same)) (room_here m c.args.port.0 (next_run_length c.args.most t + n) a (whole_was g c) room))))

@@ -3,7 +3,7 @@ use Rattle.std.specs.Global.{Vec}
 use Rattle.std.specs.List.{remove}
 use Rattle.adapter.specs.declared.access.DeviceStep.{DeviceStep}
 use Rattle.device_model.specs.StepEffects.{AnswersStep}
-use Rattle.device_model.specs.Queue.{DoesEach, due_steps, later_steps}
+use Rattle.device_model.specs.Queue.{AnswersEachStep, due_steps, later_steps}
 use Rattle.adapter.specs.declared.counting.AccessCounter.{AccessCounter}
 use Rattle.device_model.specs.declared.model.QueuedStep.{QueuedStep}
 use Rattle.device_model.proofs.Doing.{answers_queued, did_or_left_keeps}
@@ -16,32 +16,32 @@ loop-queued-init g c =
     let m = record c.args.self.now { accesses = c.add.new.self } in
     let items = c.args.self.now.queue.items in
     let ok = c.args.self.now.queue.ok.0 in
-    let P : ℕ → Type 0 = λ n. IsAt c.add.new.self.shown items items 0 n (DoneSo g.S.SectorStore.size g.S.SectorStore.told g.S.SectorStore.failures m m) in
+    let P : ℕ → Type 0 = λ n. IsAt c.add.new.self.saturating_count items items 0 n (DoneSo g.S.SectorStore.size g.S.SectorStore.told g.S.SectorStore.failures m m) in
     let all : length items ≡ c.len-queued-end.result - 0 = omega (arith, ok, c.len-queued-end.ensures) in
     record {
       same = refl;
-      at = subst P all (at_start c.add.new.self.shown items (DoneSo g.S.SectorStore.size g.S.SectorStore.told g.S.SectorStore.failures m m) (λ q. refl));
+      at = subst P all (at_start c.add.new.self.saturating_count items (DoneSo g.S.SectorStore.size g.S.SectorStore.told g.S.SectorStore.failures m m) (λ q. refl));
     }
 
 -- there is one at the place while some are left to look at
 pub index-requires : goal.index-requires
 index-requires g c =
     let m = c.loop-queued.self in
-    let inside = at_inside c.add.new.self.shown c.args.self.now.queue.items m.queue.items c.loop-queued.place _ _ c.loop-queued.invariant.at (omega (arith, c.loop-queued-test.true)) in
+    let inside = at_inside c.add.new.self.saturating_count c.args.self.now.queue.items m.queue.items c.loop-queued.place _ _ c.loop-queued.invariant.at (omega (arith, c.loop-queued-test.true)) in
     let ok = m.queue.ok.0 in
     omega (arith, inside, ok)
 
 pub remove-requires : goal.remove-requires
 remove-requires g c =
     let m = c.loop-queued.self in
-    let inside = at_inside c.add.new.self.shown c.args.self.now.queue.items m.queue.items c.loop-queued.place _ _ c.loop-queued.invariant.at (omega (arith, c.loop-queued-test.true)) in
+    let inside = at_inside c.add.new.self.saturating_count c.args.self.now.queue.items m.queue.items c.loop-queued.place _ _ c.loop-queued.invariant.at (omega (arith, c.loop-queued-test.true)) in
     let ok = m.queue.ok.0 in
     omega (arith, inside, ok)
 
 pub overflow_add-place : goal.overflow_add-place
 overflow_add-place g c =
     let m = c.loop-queued.self in
-    let inside = at_inside c.add.new.self.shown c.args.self.now.queue.items m.queue.items c.loop-queued.place _ _ c.loop-queued.invariant.at (omega (arith, c.loop-queued-test.true)) in
+    let inside = at_inside c.add.new.self.saturating_count c.args.self.now.queue.items m.queue.items c.loop-queued.place _ _ c.loop-queued.invariant.at (omega (arith, c.loop-queued-test.true)) in
     let ok = m.queue.ok in
     let small = m.queue.small in
     omega (arith, inside, ok.0, ok.1, small)
@@ -49,7 +49,7 @@ overflow_add-place g c =
 pub loop-queued-preserved : goal.loop-queued-preserved
 loop-queued-preserved g c =
     let m = c.loop-queued.self in
-    let access : ℕ = c.add.new.self.shown in
+    let access : ℕ = c.add.new.self.saturating_count in
     let first = record c.args.self.now { accesses = c.add.new.self } in
     let left : ℕ = c.len-queued-end.result - (c.loop-queued._queued + 1) in
     let next : c.len-queued-end.result - c.loop-queued._queued ≡ suc left = omega (arith, c.loop-queued-test.true) in
@@ -57,7 +57,7 @@ loop-queued-preserved g c =
     let P : ℕ → Type 0 = λ n. IsAt access c.args.self.now.queue.items m.queue.items c.loop-queued.place n Was in
     let at = subst P next c.loop-queued.invariant.at in
     let x : QueuedStep = c.index.result.now in
-    let same = ap (λ (a : AccessCounter). a.shown) c.loop-queued.invariant.same in
+    let same = ap (λ (a : AccessCounter). a.saturating_count) c.loop-queued.invariant.same in
     elim c.if-queued-self.branch [
       | then-queued-self w ↦
           let late : access < (slice_index_or m.queue.items c.loop-queued.place x).access =
@@ -93,16 +93,16 @@ loop-queued-preserved g c =
 pub returns : goal.returns
 returns g c =
     let m = c.loop-queued.self in
-    let access : ℕ = c.add.new.self.shown in
+    let access : ℕ = c.add.new.self.saturating_count in
     let items = c.args.self.now.queue.items in
     let first = record c.args.self.now { accesses = c.add.new.self } in
     let none : c.len-queued-end.result - c.loop-queued._queued ≡ 0 = omega (arith, c.loop-queued-test.false) in
     let DidStep : List DeviceStep → Type 0 = DoneSo g.S.SectorStore.size g.S.SectorStore.told g.S.SectorStore.failures first m in
     let P : ℕ → Type 0 = λ n. IsAt access items m.queue.items c.loop-queued.place n DidStep in
     let at = subst P none c.loop-queued.invariant.at in
-    let same = ap (λ (a : AccessCounter). a.shown) c.loop-queued.invariant.same in
+    let same = ap (λ (a : AccessCounter). a.saturating_count) c.loop-queued.invariant.same in
     let Q : AccessCounter → Type 0 = λ a.
-    DoesEach g.S.SectorStore.size g.S.SectorStore.told g.S.SectorStore.failures (due_steps a.shown items) (record c.args.self.now { accesses = a; queue = m.queue }) m in
+    AnswersEachStep g.S.SectorStore.size g.S.SectorStore.told g.S.SectorStore.failures (due_steps a.saturating_count items) (record c.args.self.now { accesses = a; queue = m.queue }) m in
     record {
       access_is_counted = same ∙ c.add.ensures.shown;
       made_is = ap (λ (a : AccessCounter). a.count.made) c.loop-queued.invariant.same ∙ c.add.ensures.made;

@@ -7,10 +7,10 @@ pub returns : goal.returns
 returns g c =
     let f = c.in-Some.ensures in
     done_answers g.S.SectorStore.size g.S.SectorStore.told g.S.SectorStore.failures c.args.self.now c.done.new.self c.args.port c.args.slot (operation_of_kind c.in-Some.command_kind) c.note_end_of.new.bays
-    (omega (arith, c.if-port-ge4.false)) (omega (arith, c.if-slot-ge32.false)) (f.did _) f.fed (rw c.from.ensures at c.note_end_of.ensures)
+    (omega (arith, c.if-port-ge4.false)) (omega (arith, c.if-slot-ge32.false)) (f.did _) f.starved_is_kept (rw c.from.ensures at c.note_end_of.ensures)
 
 pub returns-in_default : goal.returns-in_default
 returns-in_default g c =
     let f = c.in_default.ensures in
     done_left g.S.SectorStore.size g.S.SectorStore.told g.S.SectorStore.failures c.args.self.now c.done.new.self c.args.port c.args.slot
-    (omega (arith, c.if-port-ge4.false)) (omega (arith, c.if-slot-ge32.false)) (f.refused refl _) (f.left refl _)
+    (omega (arith, c.if-port-ge4.false)) (omega (arith, c.if-slot-ge32.false)) (f.refused refl _) (f.step_is_skipped refl _)

@@ -27,8 +27,8 @@ returns-then-not-abort_invalid g c =
     let not : c.abort_invalid.result ≡ false = c.if-not-abort_invalid.true in
     let Q : Hardware → Type 0 = λ h. IsStepSkipped h c.abort_invalid.new.self (Can (FetchFault c.args.port.0 c.args.slot.0 false 0) (device_of h o)) in
     senseless_answers g.S.SectorStore.size g.S.SectorStore.told g.S.SectorStore.failures m c.abort_invalid.new.self c.args.port c.args.slot
-    false (omega (arith, c.if-port-ge4.false)) (omega (arith, c.if-slot-ge32.false)) (c.fetch.ensures.only c.if-fetch.false o)
-    (λ e. absurd (cc e)) (λ _. f.refused not o ∙ ap (λ (h : Hardware). device_of h o) kept) (λ _. subst Q kept (f.left not o)) (λ e. absurd (cc e))
+    false (omega (arith, c.if-port-ge4.false)) (omega (arith, c.if-slot-ge32.false)) (c.fetch.ensures.complete c.if-fetch.false o)
+    (λ e. absurd (cc e)) (λ _. f.refused not o ∙ ap (λ (h : Hardware). device_of h o) kept) (λ _. subst Q kept (f.step_is_skipped not o)) (λ e. absurd (cc e))
 
 -- what is issued means no command, and failed for that
 pub returns : goal.returns
@@ -44,6 +44,6 @@ returns g c =
     let sent : SendsFault false c.args.port.0 (device_of c.abort_invalid.new.self o) new =
     subst (λ (q : ℕ). SendsFault false q (device_of c.abort_invalid.new.self o) new) c.from.ensures (c.send_fault.ensures.sent o) in
     senseless_answers g.S.SectorStore.size g.S.SectorStore.told g.S.SectorStore.failures m c.send_fault.new.self c.args.port c.args.slot
-    true (omega (arith, c.if-port-ge4.false)) (omega (arith, c.if-slot-ge32.false)) (c.fetch.ensures.only c.if-fetch.false o)
+    true (omega (arith, c.if-port-ge4.false)) (omega (arith, c.if-slot-ge32.false)) (c.fetch.ensures.complete c.if-fetch.false o)
     (λ _. subst P kept (did.0, subst (λ (d : Device). SendsFault false c.args.port.0 d new) did.1 sent)) (λ e. absurd (cc e)) (λ e. absurd (cc e))
-    (λ _. ap (λ (h : Hardware). h.starved) c.send_fault.ensures.rest ∙ (f.fed c.if-not-abort_invalid.false ∙ ap (λ (h : Hardware). h.starved) kept))
+    (λ _. ap (λ (h : Hardware). h.starved) c.send_fault.ensures.rest ∙ (f.starved_is_kept c.if-not-abort_invalid.false ∙ ap (λ (h : Hardware). h.starved) kept))

@@ -1,8 +1,8 @@
 use Rattle.std.proofs.Common.{◌≡◌, ◌+◌, ◌-◌, true, false, IfSome}
-use Rattle.adapter.specs.ToldSteps.{SlotGoesOn}
+use Rattle.adapter.specs.AskedSteps.{SlotGoesOn}
 use Rattle.adapter.specs.declared.access.DeviceStep.TheVariants as asked
 use Rattle.device_model.specs.Disks.{numbered_disk}
-use Rattle.device_model.specs.StepEffects.{AsksStore, NoCallFailed}
+use Rattle.device_model.specs.StepEffects.{MayAskStore, NoCallFailed}
 use Rattle.device_model.specs.Finishing.{TapeHasRoom, IsInProgress}
 use Rattle.device_model.specs.ModelState.{device_at}
 use Rattle.device_model.specs.SentFises.{SendsEnd}
@@ -19,11 +19,11 @@ invariant-loop-piece g l = record {
       (device_at g.S.SectorStore.size g.S.SectorStore.told l.fn.self) (device_at g.S.SectorStore.size g.S.SectorStore.told l.self);
   refused : l.did ≡ false →
       device_at g.S.SectorStore.size g.S.SectorStore.told l.self ≡ device_at g.S.SectorStore.size g.S.SectorStore.told l.fn.self;
-  size : (device_at g.S.SectorStore.size g.S.SectorStore.told l.self).size ≡ (device_at g.S.SectorStore.size g.S.SectorStore.told l.fn.self).size;
-  room : TapeHasRoom l.self.hardware (l.rest.left - l.piece + l.rest.clears + 1);
-  going : IsInProgress (device_at g.S.SectorStore.size g.S.SectorStore.told l.self) l.port.0 l.slot.0 (l.rest.left - l.piece) l.rest.clears;
-  ahead : RoomAhead g.S.SectorStore.size g.S.SectorStore.told l.self l.port.0 l.slot.0 (l.rest.left - l.piece);
-  disks : (AsksStore (asked.Finish l.port l.slot) (device_at g.S.SectorStore.size g.S.SectorStore.told l.fn.self) → ⊥) → (which : DiskIndex) →
+  size : (device_at g.S.SectorStore.size g.S.SectorStore.told l.self).memory_size ≡ (device_at g.S.SectorStore.size g.S.SectorStore.told l.fn.self).memory_size;
+  room : TapeHasRoom l.self.hardware (l.remaining.moves - l.piece + l.remaining.clears + 1);
+  going : IsInProgress (device_at g.S.SectorStore.size g.S.SectorStore.told l.self) l.port.0 l.slot.0 (l.remaining.moves - l.piece) l.remaining.clears;
+  ahead : RoomAhead g.S.SectorStore.size g.S.SectorStore.told l.self l.port.0 l.slot.0 (l.remaining.moves - l.piece);
+  disks : (MayAskStore (asked.Finish l.port l.slot) (device_at g.S.SectorStore.size g.S.SectorStore.told l.fn.self) → ⊥) → (which : DiskIndex) →
       numbered_disk l.self l.port.0 which ≡ numbered_disk l.fn.self l.port.0 which;
   untouched : l.did ≡ false → (which : DiskIndex) → numbered_disk l.self l.port.0 which ≡ numbered_disk l.fn.self l.port.0 which;
   fine : NoCallFailed g.S.SectorStore.failures l.fn.self l.self;
@@ -40,7 +40,7 @@ invariant-loop-run g l = record {
   room : TapeHasRoom l.self.hardware (l._run-end - l._run + 1);
   going : IsInProgress (device_at g.S.SectorStore.size g.S.SectorStore.told l.self) l.port.0 l.slot.0 0 (l._run-end - l._run);
   ahead : RoomAhead g.S.SectorStore.size g.S.SectorStore.told l.self l.port.0 l.slot.0 0;
-  disks : (AsksStore (asked.Finish l.port l.slot) (device_at g.S.SectorStore.size g.S.SectorStore.told l.fn.self) → ⊥) → (which : DiskIndex) →
+  disks : (MayAskStore (asked.Finish l.port l.slot) (device_at g.S.SectorStore.size g.S.SectorStore.told l.fn.self) → ⊥) → (which : DiskIndex) →
       numbered_disk l.self l.port.0 which ≡ numbered_disk l.fn.self l.port.0 which;
   untouched : l.did ≡ false → (which : DiskIndex) → numbered_disk l.self l.port.0 which ≡ numbered_disk l.fn.self l.port.0 which;
   fine : NoCallFailed g.S.SectorStore.failures l.fn.self l.self;

@@ -1,24 +1,17 @@
-use Rattle.std.proofs.Common.{rules, ℕ, Some, ◌<◌, ◌∙◌, length, refl, sym, ap, inl, inr, arith}
+use Rattle.std.proofs.Common.{Some, ◌∙◌, refl, sym, ap, inl, inr, arith}
 use Rattle.std.specs.Prelude.{slice_set}
 use Rattle.adapter.specs.Device.{Device}
 use Rattle.device_model.specs.ModelState.{all_media_at}
 use Rattle.device_model.specs.WholeAdapter.{AllMedia}
-use Rattle.device_model.proofs.Absurd.{true-false}
 use Rattle.device_model.proofs.Doing.{left_same}
 use Rattle.device_model.proofs.Losing.{did_lose, lose_left}
-use Rattle.device_model.proofs.SlotLemmas.{at_port}
-use Rattle.device_model.proofs.TwoDisks.{has_disks, seat_is}
+use Rattle.device_model.proofs.TwoDisks.{seat_is}
 use Rattle.device_model.proofs.model.Model.lose_plug.Goals as goal
 
--- a disk is in
-pub returns-then-self-place : goal.returns-then-self-place
-returns-then-self-place g c =
-    let m = c.args.self.now in
-    let p : ℕ = c.from-place.result in
-    let long : p < length m.hardware.ports = search rules in
-    let here = rw (at_port m.hardware.ports p c.index-self-place.result long) at c.if-self-place.true in
-    let in_it = rw c.from-place.ensures at here in
-    left_same g.S.SectorStore.size g.S.SectorStore.told g.S.SectorStore.failures _ m (λ may. true-false in_it may.2)
+-- no disk may be put in
+pub returns-then-not-may_plug : goal.returns-then-not-may_plug
+returns-then-not-may_plug g c =
+    left_same g.S.SectorStore.size g.S.SectorStore.told g.S.SectorStore.failures _ c.args.self.now (c.may_plug.ensures.no c.if-not-may_plug.true)
 
 -- the tape had no memory for it
 pub returns-then-not-plug : goal.returns-then-not-plug
@@ -26,21 +19,18 @@ returns-then-not-plug g c =
     let m = c.args.self.now in
     let o : AllMedia = all_media_at g.S.SectorStore.size g.S.SectorStore.told m in
     let a = c.in-Some.bay in
-    let p : ℕ = c.from-place.result in
-    let long : p < length m.hardware.ports = search rules in
-    let here = rw (at_port m.hardware.ports p c.index-self-place.result long) at c.if-self-place.false in
-    let free = rw c.from-place.ensures at here in
-    let small = c.if-place-ge-PORTS.false in
     let at = c.from-place.ensures in
-    let was = seat_is m c.from-place.result c.args.port.0 c.index_mut.result.now a c.from-place.ensures
-    (let there = c.has_disks.ensures.there c.if-not-has_disks.false in let size = ap length c.as_slice.ensures.value in omega (arith, there, size))
+    let may = c.may_plug.ensures.yes c.if-not-may_plug.false in
+    let there = may.0 in
+    let free = may.1.2 in
+    let was = seat_is m c.from-place.result c.args.port.0 c.index_mut.result.now a c.from-place.ensures (omega (arith, there, at))
     c.index_mut.ensures.value c.in-Some.is in
-    elim (c.plug.ensures.left c.if-not-plug.true o) [
+    elim (c.plug.ensures.step_is_skipped c.if-not-plug.true o) [
       | inl never ↦ absurd (never.0 free)
       | inr missed ↦
           lose_left g.S.SectorStore.size g.S.SectorStore.told g.S.SectorStore.failures m _ c.args.port refl refl refl a a was
           (ap (λ k. slice_set m.bays.items k (Some a)) c.from-place.ensures) refl (c.plug.ensures.refused c.if-not-plug.true)
-          (omega (arith, small, at), has_disks g.S.SectorStore.size g.S.SectorStore.told m c.args.port.0 a was, free)
+          may.1
           missed.1 missed.2
     ]
 
@@ -49,14 +39,14 @@ returns g c =
     let m = c.args.self.now in
     let a = c.in-Some.bay in
     let b = c.plug_after_cache_loss.new.self in
-    let small = c.if-place-ge-PORTS.false in
     let at = c.from-place.ensures in
-    let was = seat_is m c.from-place.result c.args.port.0 c.index_mut.result.now a c.from-place.ensures
-    (let there = c.has_disks.ensures.there c.if-not-has_disks.false in let size = ap length c.as_slice.ensures.value in omega (arith, there, size))
+    let may = c.may_plug.ensures.yes c.if-not-may_plug.false in
+    let there = may.0 in
+    let was = seat_is m c.from-place.result c.args.port.0 c.index_mut.result.now a c.from-place.ensures (omega (arith, there, at))
     c.index_mut.ensures.value c.in-Some.is in
     let yes = c.if-not-plug.false in
     did_lose g.S.SectorStore.size g.S.SectorStore.told g.S.SectorStore.failures m _ c.args.port refl refl refl a b was
     (ap (λ k. slice_set m.bays.items k (Some b)) c.from-place.ensures) c.plug_after_cache_loss.ensures.loses c.plug_after_cache_loss.ensures.rest c.plug_after_cache_loss.ensures.later
-    (omega (arith, small, at))
-    (λ d is. ap (λ (x : Device). (x.port c.args.port.0).present) is ∙ c.plug.ensures.free yes (all_media_at g.S.SectorStore.size g.S.SectorStore.told m))
-    g.met.S.SectorStore.tells_sectors (λ o disk name same. c.plug.ensures.did yes o disk (name ∙ sym c.number.ensures) same) (c.plug.ensures.fed yes)
+    may.1.0
+    (λ d is. ap (λ (x : Device). (x.port c.args.port.0).present) is ∙ c.plug.ensures.no_disk_was_in yes (all_media_at g.S.SectorStore.size g.S.SectorStore.told m))
+    g.met.S.SectorStore.tells_sectors (λ o disk name same. c.plug.ensures.did yes o disk (name ∙ sym c.number.ensures) same) (c.plug.ensures.starved_is_kept yes)

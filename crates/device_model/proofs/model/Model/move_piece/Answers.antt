@@ -3,7 +3,7 @@ use Rattle.std.specs.Prelude.{IfSome, option_map, slice_set}
 use Rattle.std.specs.Vec.{with_item}
 use Rattle.std.proofs.Common.{Bool, Some, Option, refl, ◌++◌, ℕ, true, false, ◌≡◌, ◌<◌, ◌≤◌, ◌∙◌, ◌+◌, ◌^◌, ◌∷◌, [], length, sym, ap, subst, arith, inl, inr}
 use Rattle.device_model.proofs.Absurd.{some_one, true-false}
-use Rattle.adapter.specs.ToldSteps.{DoesMove}
+use Rattle.adapter.specs.AskedSteps.{DoesMove}
 use Rattle.adapter.specs.Commands.{is_ranged, reads_memory}
 use Rattle.adapter.specs.Device.{Device, FetchedCommand}
 use Rattle.adapter.specs.Steps.{next_place, next_sector, Can, device_after, move_of}
@@ -13,7 +13,7 @@ use Rattle.adapter.specs.declared.tape.Entry.TheVariants as entry
 use Rattle.sector_store.specs.declared.store.Failures.{Failures}
 use Rattle.adapter.specs.declared.access.DeviceStep.TheVariants as asked
 use Rattle.device_model.specs.Disks.{bay_of, port_has_cache, disk_in_bay, bay_failures, disk_failures, has_cache, lasting_of}
-use Rattle.device_model.specs.WriteCaches.{CallFails, HasRoomForOld}
+use Rattle.device_model.specs.WriteCaches.{CallFails, HasRoomForOldSectors}
 use Rattle.device_model.specs.StepEffects.{Completes, CommandFails, LacksMemory}
 use Rattle.device_model.specs.PieceTransfers.{TransfersPiece, piece_of}
 use Rattle.device_model.specs.Finishing.{HasMove}
@@ -57,7 +57,7 @@ returns-in_default-next_move-clause-answers g c =
     (omega (arith, c.if-place-len.false, c.len.ensures)) c.index_mut.ensures.value c.in-Some.is in
     grown_left g.S.SectorStore.size g.S.SectorStore.told g.S.SectorStore.failures m _ c.args.port.0 a a.cache was
     (ap (λ k. slice_set m.bays.items k (Some a)) c.from-place.ensures)
-    (record { is_on = refl; old_sectors_are = refl }) (asked.Move c.args.port c.args.slot) refl refl refl refl refl
+    (record { cache_mode_is_kept = refl; old_sectors_are = refl }) (asked.Move c.args.port c.args.slot) refl refl refl refl refl
     (λ served may.
     absurd (
     let few : length m.hardware.memory.items ≤ 2 ^ 32 = served in
@@ -81,7 +81,7 @@ returns-then-not-room-clause-answers g c =
     (taken_of found.0, fits, λ room _. true-false (c.reserve-room.ensures.enough room) c.if-not-room.true) in
     grown_left g.S.SectorStore.size g.S.SectorStore.told g.S.SectorStore.failures m _ c.args.port.0 a a.cache was
     (ap (λ k. slice_set m.bays.items k (Some a)) c.from-place.ensures)
-    (record { is_on = refl; old_sectors_are = refl }) (asked.Move c.args.port c.args.slot) refl (c.reserve-room.ensures.same o) refl refl refl
+    (record { cache_mode_is_kept = refl; old_sectors_are = refl }) (asked.Move c.args.port c.args.slot) refl (c.reserve-room.ensures.device_is_kept o) refl refl refl
     (λ _ _. (lacks, refl)) (λ _. refl) (λ _. inr ((c.requires.small, taken_of found.0, fits), lacks))
 
 -- ---- the bay of the port, as the piece is moved
@@ -102,10 +102,10 @@ exchanged g c =
     subst P c.reserve.ensures.rest c.transfer_piece.ensures.exchanges
 
 lasts : (g : Over) (c : goal.After-note_move g) → lasting_of g.S.SectorStore.told c.transfer_piece.new.self ≡ lasting_of g.S.SectorStore.told c.in-Some.bay
-lasts g c = (exchanged g c).lasting_is_kept ∙ grown_lasts g.S.SectorStore.told c.in-Some.bay c.reserve.new.self.cache c.reserve.ensures.same
+lasts g c = (exchanged g c).lasting_is_kept ∙ grown_lasts g.S.SectorStore.told c.in-Some.bay c.reserve.new.self.cache c.reserve.ensures.old_sectors_are_kept
 
 cached : (g : Over) (c : goal.After-note_move g) → c.transfer_piece.new.self.cache.is_on ≡ c.in-Some.bay.cache.is_on
-cached g c = (exchanged g c).cache_mode_is_kept ∙ c.reserve.ensures.same.is_on
+cached g c = (exchanged g c).cache_mode_is_kept ∙ c.reserve.ensures.old_sectors_are_kept.cache_mode_is_kept
 
 -- the model afterwards
 abbrev moved_model : (g : Over) (c : goal.After-note_move g) → Model g.row.S.Denot
@@ -120,7 +120,7 @@ fits g c =
     let m = c.args.self.now in
     let o : AllMedia = all_media_at g.S.SectorStore.size g.S.SectorStore.told m in
     next_has_move c.reserve-room.new.self o _ c.args.port.0 c.args.slot.0 c.in-Some-next_move.next (grow c.args.port.0 c.args.slot.0 c.reserve-room.ensures.rest c.in-Some-next_move.ensures.found).0
-    (has_disks g.S.SectorStore.size g.S.SectorStore.told m c.args.port.0 c.in-Some.bay (was g c)) (c.reserve-room.ensures.same o) (grow c.args.port.0 c.args.slot.0 c.reserve-room.ensures.rest c.in-Some-next_move.ensures.found).1
+    (has_disks g.S.SectorStore.size g.S.SectorStore.told m c.args.port.0 c.in-Some.bay (was g c)) (c.reserve-room.ensures.device_is_kept o) (grow c.args.port.0 c.args.slot.0 c.reserve-room.ensures.rest c.in-Some-next_move.ensures.found).1
 
 moved : (g : Over) (c : goal.After-note_move g) →
     DoesMove c.args.port.0 c.args.slot.0 (device_at g.S.SectorStore.size g.S.SectorStore.told c.args.self.now)
@@ -144,17 +144,17 @@ moved g c =
     record {
       fetched_command = taken_of r;
       bytes = bytes;
-      can = subst R (c.reserve-room.ensures.same o)
+      can = subst R (c.reserve-room.ensures.device_is_kept o)
           (may_move h o c.args.port.0 c.args.slot.0 c.in-Some-next_move.next r bytes is (exchanged g c).bytes_are_sector
           (subst (λ (x : Media). is_ranged (operation_of_kind c.in-Some-next_move.next.command_kind) ≡ true →
-          c.in-Some-next_move.next.sector < x.disk.size) at ((exchanged g c).inside did))
+          c.in-Some-next_move.next.sector < x.disk.sector_count) at ((exchanged g c).sector_on_disk did))
           (subst (λ (x : Media). is_ranged (operation_of_kind c.in-Some-next_move.next.command_kind) ≡ true → reads_memory (operation_of_kind c.in-Some-next_move.next.command_kind) ≡ false →
           IfSome x.disk.sectors (λ f. bytes ≡ f c.in-Some-next_move.next.sector)) at ((exchanged g c).read_gives_told did))
           (exchanged g c).write_keeps_bytes);
       effect = ap (λ (x : AllMedia). device_of c.note_move.new.self x) behind
           ∙ (c.note_move.ensures.moved h o r c.transfer_piece.ensures.memory is
           ∙ ap (λ (d : Device). device_after (Move c.args.port.0 c.args.slot.0 (taken_of r) bytes) d)
-          (c.reserve-room.ensures.same o));
+          (c.reserve-room.ensures.device_is_kept o));
     }
 
 whole : (g : Over) (c : goal.After-note_move g) →
@@ -163,7 +163,7 @@ whole g c =
     let m = c.args.self.now in
     let a = c.in-Some.bay in
     record {
-      does_told_step = moved g c;
+      does_asked_step = moved g c;
       no_call_failed = λ _. store_fine m (moved_model g c) c.args.port.0 a c.transfer_piece.new.self (was g c) (items g c)
           (exchanged g c).rest_is_kept g.S.SectorStore.failures
           ((exchanged g c).no_call_failed c.if-not-transfer_piece.false);
@@ -197,7 +197,7 @@ returns-clause-answers g c =
         gains_own_pages = gains_moved g.S.SectorStore.size m _ a found.0.command_kind
             (move_of c.args.port.0 c.args.slot.0 (taken_of found.0) bytes) (was g c)
             (ap (λ (d : Device). d.tape) noted ∙ ap (λ (d : Device). d.tape ++ entry ∷ [])
-            (c.reserve-room.ensures.same o)) refl
+            (c.reserve-room.ensures.device_is_kept o)) refl
             (λ identify. (exchanged g c).identify_page_is_sent c.if-not-transfer_piece.false (found.1.kind_is ∙ identify))
             (λ log. (exchanged g c).log_page_is_sent c.if-not-transfer_piece.false (found.1.kind_is ∙ log));
         disks_are_kept = λ none w.
@@ -205,10 +205,10 @@ returns-clause-answers g c =
             (ap (λ (x : Bay g.row.S.Denot). Some (disk_in_bay x w))
             ((exchanged g c).bay_is_kept
             (next_unranged c.reserve-room.new.self o _ c.args.port c.args.slot c.in-Some-next_move.next (grow c.args.port.0 c.args.slot.0 c.reserve-room.ensures.rest c.in-Some-next_move.ensures.found).0 disks c.requires.small
-            (c.reserve-room.ensures.same o) (grow c.args.port.0 c.args.slot.0 c.reserve-room.ensures.rest c.in-Some-next_move.ensures.found).1 none))) c.args.port.0;
+            (c.reserve-room.ensures.device_is_kept o) (grow c.args.port.0 c.args.slot.0 c.reserve-room.ensures.rest c.in-Some-next_move.ensures.found).1 none))) c.args.port.0;
         step_keeps = store_keeps m (moved_model g c) c.args.port.0 a b (was g c) (items g c)
             (exchanged g c).rest_is_kept g.S.SectorStore.size (exchanged g c).size_is_kept (cached g c) refl refl;
-        starved = c.note_move.ensures.starved ∙ (starved_over c.transfer_piece.ensures.memory
+        starved_is_kept = c.note_move.ensures.starved ∙ (starved_over c.transfer_piece.ensures.memory
             ∙ c.reserve-room.ensures.starved);
       },
     )
@@ -235,7 +235,7 @@ past_same g c =
     let a = c.in-Some.bay in
     ap (λ (x : AllMedia). device_of c.reserve-room.new.self x)
     (outside_kept m (past_model g c) c.args.port.0 a a (was_past g c) (past_items g c) refl g.S.SectorStore.size g.S.SectorStore.told refl refl refl)
-    ∙ c.reserve-room.ensures.same (all_media_at g.S.SectorStore.size g.S.SectorStore.told m)
+    ∙ c.reserve-room.ensures.device_is_kept (all_media_at g.S.SectorStore.size g.S.SectorStore.told m)
 
 past_fits : (g : Over) (c : goal.After-fail-failed g) →
     HasMove (device_at g.S.SectorStore.size g.S.SectorStore.told c.args.self.now) c.args.port.0 c.args.slot.0 (taken_of (grow c.args.port.0 c.args.slot.0 c.reserve-room.ensures.rest c.in-Some-next_move.ensures.found).0)
@@ -243,7 +243,7 @@ past_fits g c =
     let m = c.args.self.now in
     next_has_move c.reserve-room.new.self (all_media_at g.S.SectorStore.size g.S.SectorStore.told m) _ c.args.port.0 c.args.slot.0 c.in-Some-next_move.next (grow c.args.port.0 c.args.slot.0 c.reserve-room.ensures.rest c.in-Some-next_move.ensures.found).0
     (has_disks g.S.SectorStore.size g.S.SectorStore.told m c.args.port.0 c.in-Some.bay (was_past g c))
-    (c.reserve-room.ensures.same (all_media_at g.S.SectorStore.size g.S.SectorStore.told m)) (grow c.args.port.0 c.args.slot.0 c.reserve-room.ensures.rest c.in-Some-next_move.ensures.found).1
+    (c.reserve-room.ensures.device_is_kept (all_media_at g.S.SectorStore.size g.S.SectorStore.told m)) (grow c.args.port.0 c.args.slot.0 c.reserve-room.ensures.rest c.in-Some-next_move.ensures.found).1
 
 past : (g : Over) (c : goal.After-fail-failed g) →
     IsFailed g.S.SectorStore.size g.S.SectorStore.told g.S.SectorStore.failures c.args.port c.args.slot 0x10 (taken_of (grow c.args.port.0 c.args.slot.0 c.reserve-room.ensures.rest c.in-Some-next_move.ensures.found).0)
@@ -256,7 +256,7 @@ past g c =
     let at = c.from-place.ensures in
     is_failed g.S.SectorStore.size g.S.SectorStore.told g.S.SectorStore.failures c.args.port c.args.slot 0x10 (taken_of found.0) c.fail-failed.result
     (past_model g c) c.fail-failed.new.self c.fail-failed.ensures (omega (arith, small, at)) c.requires.small
-    (record { taken = works.taken; running = works.working.running; is_byte = omega arith; kept_bits_are_allowed = refl }) (c.reserve-room.ensures.room c.if-not-room.false)
+    (record { taken = works.taken; cr_is_set = works.working.cr_is_set; is_byte = omega arith; kept_bits_are_allowed = refl }) (c.reserve-room.ensures.room c.if-not-room.false)
 
 -- it names one
 past_ranged : (g : Over) (c : goal.After-fail-failed g) → (next_sector (taken_of (grow c.args.port.0 c.args.slot.0 c.reserve-room.ensures.rest c.in-Some-next_move.ensures.found).0) ≡ c.in-Some-next_move.next.sector)
@@ -288,8 +288,8 @@ past_failed g c =
     let a = c.in-Some.bay in
     let found = (grow c.args.port.0 c.args.slot.0 c.reserve-room.ensures.rest c.in-Some-next_move.ensures.found) in
     let is = past_ranged g c in
-    let size : ((device_at g.S.SectorStore.size g.S.SectorStore.told m).port c.args.port.0).disk.size ≡ g.S.SectorStore.size a.disk.store =
-    ap (λ x. (media_of g.S.SectorStore.size g.S.SectorStore.told x).disk.size) (was_past g c) in
+    let size : ((device_at g.S.SectorStore.size g.S.SectorStore.told m).port c.args.port.0).disk.sector_count ≡ g.S.SectorStore.size a.disk.store =
+    ap (λ x. (media_of g.S.SectorStore.size g.S.SectorStore.told x).disk.sector_count) (was_past g c) in
     let sector = is.0 in
     let below = is.2 in
     let calls : disk_failures g.S.SectorStore.failures (past_model g c) c.args.port.0 ≡ disk_failures g.S.SectorStore.failures m c.args.port.0 =
@@ -335,10 +335,10 @@ exchanged_so g c =
     subst P c.reserve.ensures.rest c.transfer_piece.ensures.exchanges
 
 lasts_so : (g : Over) (c : goal.After-fail-failed-then-not-transfer_piece g) → lasting_of g.S.SectorStore.told c.transfer_piece.new.self ≡ lasting_of g.S.SectorStore.told c.in-Some.bay
-lasts_so g c = (exchanged_so g c).lasting_is_kept ∙ grown_lasts g.S.SectorStore.told c.in-Some.bay c.reserve.new.self.cache c.reserve.ensures.same
+lasts_so g c = (exchanged_so g c).lasting_is_kept ∙ grown_lasts g.S.SectorStore.told c.in-Some.bay c.reserve.new.self.cache c.reserve.ensures.old_sectors_are_kept
 
 cached_so : (g : Over) (c : goal.After-fail-failed-then-not-transfer_piece g) → c.transfer_piece.new.self.cache.is_on ≡ c.in-Some.bay.cache.is_on
-cached_so g c = (exchanged_so g c).cache_mode_is_kept ∙ c.reserve.ensures.same.is_on
+cached_so g c = (exchanged_so g c).cache_mode_is_kept ∙ c.reserve.ensures.old_sectors_are_kept.cache_mode_is_kept
 
 abbrev store_model : (g : Over) (c : goal.After-fail-failed-then-not-transfer_piece g) → Model g.row.S.Denot
 store_model g c = record c.args.self.now {
@@ -357,7 +357,7 @@ store_fits g c =
     let m = c.args.self.now in
     next_has_move c.reserve-room.new.self (all_media_at g.S.SectorStore.size g.S.SectorStore.told m) _ c.args.port.0 c.args.slot.0 c.in-Some-next_move.next (grow c.args.port.0 c.args.slot.0 c.reserve-room.ensures.rest c.in-Some-next_move.ensures.found).0
     (has_disks g.S.SectorStore.size g.S.SectorStore.told m c.args.port.0 c.in-Some.bay (was_store g c))
-    (c.reserve-room.ensures.same (all_media_at g.S.SectorStore.size g.S.SectorStore.told m)) (grow c.args.port.0 c.args.slot.0 c.reserve-room.ensures.rest c.in-Some-next_move.ensures.found).1
+    (c.reserve-room.ensures.device_is_kept (all_media_at g.S.SectorStore.size g.S.SectorStore.told m)) (grow c.args.port.0 c.args.slot.0 c.reserve-room.ensures.rest c.in-Some-next_move.ensures.found).1
 
 store : (g : Over) (c : goal.After-fail-failed-then-not-transfer_piece g) →
     IsFailed g.S.SectorStore.size g.S.SectorStore.told g.S.SectorStore.failures c.args.port c.args.slot 0x40 (taken_of (grow c.args.port.0 c.args.slot.0 c.reserve-room.ensures.rest c.in-Some-next_move.ensures.found).0)
@@ -372,7 +372,7 @@ store g c =
     let at = c.from-place.ensures in
     is_failed g.S.SectorStore.size g.S.SectorStore.told g.S.SectorStore.failures c.args.port c.args.slot 0x40 (taken_of found.0) c.fail-failed-then-not-transfer_piece.result
     mid c.fail-failed-then-not-transfer_piece.new.self c.fail-failed-then-not-transfer_piece.ensures (omega (arith, small, at)) c.requires.small
-    (record { taken = works.taken; running = works.working.running; is_byte = omega arith; kept_bits_are_allowed = refl })
+    (record { taken = works.taken; cr_is_set = works.working.cr_is_set; is_byte = omega arith; kept_bits_are_allowed = refl })
     (room_over 1 c.transfer_piece.ensures.memory (c.reserve-room.ensures.room c.if-not-room.false))
 
 -- it is as it was, but for the store
@@ -386,7 +386,7 @@ store_same g c =
     g.S.SectorStore.size g.S.SectorStore.told (exchanged_so g c).size_is_kept
     ((exchanged_so g c).told_is_kept c.if-not-transfer_piece.true) (lasts_so g c))
     ∙ (c.transfer_piece.ensures.stays c.if-not-transfer_piece.true (all_media_at g.S.SectorStore.size g.S.SectorStore.told m)
-    ∙ c.reserve-room.ensures.same (all_media_at g.S.SectorStore.size g.S.SectorStore.told m))
+    ∙ c.reserve-room.ensures.device_is_kept (all_media_at g.S.SectorStore.size g.S.SectorStore.told m))
 
 store_failed : (g : Over) (c : goal.After-fail-failed-then-not-transfer_piece g) →
     CommandFails g.S.SectorStore.size g.S.SectorStore.told g.S.SectorStore.failures (asked.Move c.args.port c.args.slot) c.args.self.now c.fail-failed-then-not-transfer_piece.new.self
@@ -398,13 +398,13 @@ store_failed g c =
     let ranged = (exchanged_so g c).only_ranged_fails c.if-not-transfer_piece.true in
     let here = c.is_within_disk.ensures.0 c.if-not-is_within_disk.false ranged in
     let listed = c.sectors.ensures in
-    let on : c.reserve.new.self.cache.is_on ≡ port_has_cache m c.args.port.0 = c.reserve.ensures.same.is_on ∙ sym (ap has_cache (was_store g c)) in
+    let on : c.reserve.new.self.cache.is_on ≡ port_has_cache m c.args.port.0 = c.reserve.ensures.old_sectors_are_kept.cache_mode_is_kept ∙ sym (ap has_cache (was_store g c)) in
     let Q : Bool → ℕ → Type 0 = λ writes sector. CallFails (port_has_cache m c.args.port.0) writes sector (g.S.SectorStore.failures a.disk.store) (g.S.SectorStore.failures b.disk.store) in
     let O : Bool → Type 0 = λ x. CallFails x (reads_memory (operation_of_kind c.in-Some-next_move.next.command_kind)) c.in-Some-next_move.next.sector (g.S.SectorStore.failures a.disk.store) (g.S.SectorStore.failures b.disk.store) in
     let failed = subst O on ((exchanged_so g c).failure_is_noted c.if-not-transfer_piece.true (omega (arith, here, listed))) in
     let writes = ap (λ (k : CommandKind). reads_memory (operation_of_kind k)) next.1.kind_is in
-    let size : ((device_at g.S.SectorStore.size g.S.SectorStore.told m).port c.args.port.0).disk.size ≡ g.S.SectorStore.size a.disk.store =
-    ap (λ x. (media_of g.S.SectorStore.size g.S.SectorStore.told x).disk.size) (was_store g c) in
+    let size : ((device_at g.S.SectorStore.size g.S.SectorStore.told m).port c.args.port.0).disk.sector_count ≡ g.S.SectorStore.size a.disk.store =
+    ap (λ x. (media_of g.S.SectorStore.size g.S.SectorStore.told x).disk.sector_count) (was_store g c) in
     let sector : c.in-Some-next_move.next.sector ≡ next_sector (taken_of next.0) = next.1.sector_is in
     let before : disk_failures g.S.SectorStore.failures m c.args.port.0 ≡ g.S.SectorStore.failures a.disk.store = ap (bay_failures g.S.SectorStore.failures) (was_store g c) in
     let now : disk_failures g.S.SectorStore.failures (store_model g c) c.args.port.0 ≡ g.S.SectorStore.failures b.disk.store =
@@ -454,7 +454,7 @@ pub returns-clause-readies : goal.returns-clause-readies
 returns-clause-readies g c = λ _.
     record {
       tape_has_room = λ n room.
-          c.note_move.ensures.left n (room_over (n + 1) c.transfer_piece.ensures.memory (c.reserve-room.ensures.kept (n + 1) room));
+          c.note_move.ensures.room_is_left n (room_over (n + 1) c.transfer_piece.ensures.memory (c.reserve-room.ensures.room_is_kept (n + 1) room));
       cache_has_room = λ t taken n room.
           let m = c.args.self.now in
           let a = c.in-Some.bay in
@@ -463,10 +463,10 @@ returns-clause-readies g c = λ _.
           let one : t ≡ taken_of found.0 = some_one (sym taken ∙ (fits g c).works.taken) in
           let kind : written_ahead t.meaning.operation 1 ≡ written_ahead (operation_of_kind c.in-Some-next_move.next.command_kind) 1 =
           ap (λ (x : FetchedCommand). written_ahead x.meaning.operation 1) one ∙ ap (λ (k : CommandKind). written_ahead (operation_of_kind k) 1) (sym found.1.kind_is) in
-          let P : ℕ → Type 0 = λ k. HasRoomForOld a.cache (k + n) in
+          let P : ℕ → Type 0 = λ k. HasRoomForOldSectors a.cache (k + n) in
           room_there (moved_model g c) c.args.port.0 n c.transfer_piece.new.self (seated_here m (moved_model g c) c.args.port.0 a c.transfer_piece.new.self (was g c) (items g c))
           ((exchanged g c).cache_has_room n
-          (c.reserve.ensures.kept (written_ahead (operation_of_kind c.in-Some-next_move.next.command_kind) 1 + n)
+          (c.reserve.ensures.room_is_kept (written_ahead (operation_of_kind c.in-Some-next_move.next.command_kind) 1 + n)
           (subst P kind (room_here m c.args.port.0 (written_ahead t.meaning.operation 1 + n) a (was g c) room))));
       next_move_is = c.note_move.ensures.after;
     }
@@ -485,7 +485,7 @@ returns-in_default-next_move-clause-page g c = λ t taken sends _ move low _.
 -- ---- the cache had no memory for what the sector holds, and that is told
 
 pub transfer_piece-requires-clause-room : goal.transfer_piece-requires-clause-room
-transfer_piece-requires-clause-room g c = subst (HasRoomForOld c.reserve.new.self.cache) c.written.ensures (c.reserve.ensures.room c.if-not-reserve.false)
+transfer_piece-requires-clause-room g c = subst (HasRoomForOldSectors c.reserve.new.self.cache) c.sectors_to_write.ensures (c.reserve.ensures.room c.if-not-reserve.false)
 
 pub returns-then-not-reserve-clause-answers : goal.returns-then-not-reserve-clause-answers
 returns-then-not-reserve-clause-answers g c =
@@ -499,17 +499,17 @@ returns-then-not-reserve-clause-answers g c =
     c.index_mut.ensures.value c.in-Some.is in
     let fits : HasMove (device_at g.S.SectorStore.size g.S.SectorStore.told m) c.args.port.0 c.args.slot.0 (taken_of r) =
     next_has_move c.reserve-room.new.self o _ c.args.port.0 c.args.slot.0 c.in-Some-next_move.next r (has_disks g.S.SectorStore.size g.S.SectorStore.told m c.args.port.0 a was)
-    (c.reserve-room.ensures.same o) found.1 in
-    let changes : written_ahead (operation_of_kind r.command_kind) 1 ≡ c.written.result = ap (λ (k : CommandKind). written_ahead (operation_of_kind k) 1) (sym found.1.kind_is) ∙ sym c.written.ensures in
+    (c.reserve-room.ensures.device_is_kept o) found.1 in
+    let changes : written_ahead (operation_of_kind r.command_kind) 1 ≡ c.sectors_to_write.result = ap (λ (k : CommandKind). written_ahead (operation_of_kind k) 1) (sym found.1.kind_is) ∙ sym c.sectors_to_write.ensures in
     let lacks : LacksMemory (asked.Move c.args.port c.args.slot) (device_at g.S.SectorStore.size g.S.SectorStore.told m) m.hardware m.bays.items = (
       taken_of r,
       fits,
       λ _ old. c.reserve.ensures.lacked c.if-not-reserve.true
-          (subst (HasRoomForOld a.cache) changes (room_here m c.args.port.0 (written_ahead (operation_of_kind r.command_kind) 1) a was old)),
+          (subst (HasRoomForOldSectors a.cache) changes (room_here m c.args.port.0 (written_ahead (operation_of_kind r.command_kind) 1) a was old)),
     ) in
     grown_left g.S.SectorStore.size g.S.SectorStore.told g.S.SectorStore.failures m _ c.args.port.0 a c.reserve.new.self.cache was
     (ap (λ k. slice_set m.bays.items k (Some c.reserve.new.self)) c.from-place.ensures ∙ ap (λ (x : Bay g.row.S.Denot). slice_set m.bays.items c.args.port.0 (Some x)) c.reserve.ensures.rest)
-    c.reserve.ensures.same (asked.Move c.args.port c.args.slot) refl (c.reserve-room.ensures.same o) refl refl refl (λ _ _. (lacks, refl)) (λ _. refl)
+    c.reserve.ensures.old_sectors_are_kept (asked.Move c.args.port c.args.slot) refl (c.reserve-room.ensures.device_is_kept o) refl refl refl (λ _ _. (lacks, refl)) (λ _. refl)
     (λ _. inr ((c.requires.small, taken_of r, fits), lacks))
 
 -- a page changes no sector
@@ -520,9 +520,9 @@ returns-then-not-reserve-clause-page g c = λ t taken sends _ _ _ _.
     let o : AllMedia = all_media_at g.S.SectorStore.size g.S.SectorStore.told m in
     let found = (grow c.args.port.0 c.args.slot.0 c.reserve-room.ensures.rest c.in-Some-next_move.ensures.found) in
     let P : Device → Type 0 = λ d. (d.port c.args.port.0).taken c.args.slot.0 ≡ Some (taken_of found.0) in
-    let here = subst P (c.reserve-room.ensures.same o) (found.1.works_on.works (o.media c.args.port.0)).taken in
+    let here = subst P (c.reserve-room.ensures.device_is_kept o) (found.1.works_on.works (o.media c.args.port.0)).taken in
     let one : t ≡ taken_of found.0 = some_one (sym taken ∙ here) in
     let none : written_ahead (operation_of_kind found.0.command_kind) 1 ≡ 0 =
     ap (λ (x : FetchedCommand). written_ahead x.meaning.operation 1) (sym one) ∙ page_unwritten t.meaning.operation 1 sends in
-    let changes : written_ahead (operation_of_kind found.0.command_kind) 1 ≡ c.written.result = ap (λ (k : CommandKind). written_ahead (operation_of_kind k) 1) (sym found.1.kind_is) ∙ sym c.written.ensures in
-    c.reserve.ensures.lacked c.if-not-reserve.true (subst (HasRoomForOld a.cache) (sym none ∙ changes) (no_room a.cache))
+    let changes : written_ahead (operation_of_kind found.0.command_kind) 1 ≡ c.sectors_to_write.result = ap (λ (k : CommandKind). written_ahead (operation_of_kind k) 1) (sym found.1.kind_is) ∙ sym c.sectors_to_write.ensures in
+    c.reserve.ensures.lacked c.if-not-reserve.true (subst (HasRoomForOldSectors a.cache) (sym none ∙ changes) (no_room a.cache))

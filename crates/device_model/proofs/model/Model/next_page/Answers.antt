@@ -15,9 +15,9 @@ use Rattle.device_model.proofs.model.Model.next_page.Goals.{then-not-left_out-fr
 
 -- what was found is of the port that it names
 named : (h : Hardware) (o : AllMedia) (port : ℕ) (r : Option PendingPage) → IfSome r (λ found. found.port ≡ port) →
-    IfSome r (λ found. (o : AllMedia) → FindsPageCommand (device_of h o) port found.slot (Some found.ends)) → IfSome r (λ found. FindsPageCommand (device_of h o) found.port found.slot (Some found.ends))
+    IfSome r (λ found. (o : AllMedia) → FindsPageCommand (device_of h o) port found.slot (Some found.can_end)) → IfSome r (λ found. FindsPageCommand (device_of h o) found.port found.slot (Some found.can_end))
 named h o port None at found = found
-named h o port (Some f) at found = subst (λ q. FindsPageCommand (device_of h o) q f.slot (Some f.ends)) (sym at) (found o)
+named h o port (Some f) at found = subst (λ q. FindsPageCommand (device_of h o) q f.slot (Some f.can_end)) (sym at) (found o)
 
 pub returns-then-is_some-clause-found : goal.returns-then-is_some-clause-found
 returns-then-is_some-clause-found g c =

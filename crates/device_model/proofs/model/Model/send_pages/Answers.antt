@@ -28,7 +28,7 @@ loop-found-preserved-then-lacks g c =
     let stuck : c.loop-found.lacks ≡ false → MayTakePage d p.0 s.0 × (HasPageCommand d p.0 s.0 → ⊥) =
     λ (fed : c.loop-found.lacks ≡ false).
     elim c.if-lacks.either [
-      | inl ends ↦ found_stuck d p.0 s.0 c.in-Some.found.ends ends c.in-Some.ensures.found
+      | inl ends ↦ found_stuck d p.0 s.0 c.in-Some.found.can_end ends c.in-Some.ensures.found
       | inr lacks ↦ true-false lacks.1 fed
     ] in
     let P : ℕ → Type 0 = λ k. IsSoFar g.S.SectorStore.size g.S.SectorStore.told g.S.SectorStore.failures c.args.self.now c.take_page.new.self
@@ -56,7 +56,7 @@ loop-found-preserved-then-not-finish g c =
     let s : Slot = record { 0 = c.in-Some.found.slot } in
     let d : Device = device_at g.S.SectorStore.size g.S.SectorStore.told m in
     let found = c.in-Some.ensures.port in
-    let has = found_ends d p.0 s.0 c.in-Some.found.ends c.if-lacks.false.0 c.in-Some.ensures.found in
+    let has = found_ends d p.0 s.0 c.in-Some.found.can_end c.if-lacks.false.0 c.in-Some.ensures.found in
     let P : ℕ → Type 0 = λ k. IsSoFar g.S.SectorStore.size g.S.SectorStore.told g.S.SectorStore.failures c.args.self.now c.take_page-then-not-finish.new.self
     (slice_set c.loop-found.left_out k true) true in
     subst P (sym c.from-then-not-finish.ensures)
@@ -73,7 +73,7 @@ loop-found-smaller g c =
     let s : Slot = record { 0 = c.in-Some.found.slot } in
     let d : Device = device_at g.S.SectorStore.size g.S.SectorStore.told m in
     let found = c.in-Some.ensures.port in
-    let has = found_ends d p.0 s.0 c.in-Some.found.ends c.if-lacks.false.0 c.in-Some.ensures.found in
+    let has = found_ends d p.0 s.0 c.in-Some.found.can_end c.if-lacks.false.0 c.in-Some.ensures.found in
     let less = fewer g.S.SectorStore.size g.S.SectorStore.told g.S.SectorStore.failures c.args.self.now m c.loop-found.left_out c.loop-found.lacks c.loop-found.invariant p s
     found.0 c.in-Some.ensures.small found.1 found.2 c.finish.new.self c.finish.result c.finish.ensures.answers has c.if-not-finish.false
     ((c.finish.ensures.sends found.2 has).0 c.if-not-finish.false) in
@@ -86,7 +86,7 @@ loop-found-preserved g c =
     let s : Slot = record { 0 = c.in-Some.found.slot } in
     let d : Device = device_at g.S.SectorStore.size g.S.SectorStore.told m in
     let found = c.in-Some.ensures.port in
-    let has = found_ends d p.0 s.0 c.in-Some.found.ends c.if-lacks.false.0 c.in-Some.ensures.found in
+    let has = found_ends d p.0 s.0 c.in-Some.found.can_end c.if-lacks.false.0 c.in-Some.ensures.found in
     so_far_done g.S.SectorStore.size g.S.SectorStore.told g.S.SectorStore.failures c.args.self.now m c.loop-found.left_out c.loop-found.lacks c.loop-found.invariant p s
     found.0 c.in-Some.ensures.small found.1 found.2 c.finish.new.self c.finish.result c.finish.ensures.answers has c.if-lacks.false.1 c.if-not-finish.false
 

@@ -1,7 +1,7 @@
 use Rattle.std.proofs.Common.{ℕ, List, true, false, ◌≡◌, ◌≤◌, ◌+◌, ◌∙◌, ap, inl, refl, subst}
 use Rattle.std.specs.Global.{Vec}
 use Rattle.std.specs.Vec.{vec_len, vec_capacity}
-use Rattle.adapter.specs.ToldSteps.{DoesFetch, SlotGoesOn}
+use Rattle.adapter.specs.AskedSteps.{DoesFetch, SlotGoesOn}
 use Rattle.adapter.specs.Commands.{Meaning}
 use Rattle.adapter.specs.Device.{Device}
 use Rattle.adapter.specs.Steps.{Can}
@@ -31,14 +31,14 @@ returns g c =
     let fetched : did ≡ true → DoesFetch port slot old new = λ (e : did ≡ true). c.fetch-taken.ensures.did e o in
     let same : did ≡ false → new ≡ old = λ (e : did ≡ false). ap (λ (h : Hardware). device_of h o) (c.fetch-taken.ensures.refused e) in
     let never : did ≡ false → (m : Meaning) (places : List ℕ) → Can (Fetch port slot m places) old → ⊥ =
-    λ (e : did ≡ false). c.fetch-taken.ensures.only e o in
+    λ (e : did ≡ false). c.fetch-taken.ensures.complete e o in
     let went : did ≡ true → SlotGoesOn (SendsEnd slot) port slot old new = λ (e : did ≡ true). goes_one (SendsEnd slot) port slot old new (inl (fetched e)) in
     let apart = fetched_apart port slot did old new fetched same in
     record {
       by_own_steps = λ held loose. (own_gone BringsPage (λ o places is. is) held port slot loose did old new went same (found_only old port slot c.requires.there)).0;
       stays_settled = gone_settled port slot did old new went same;
       has_taken_command = fetched_busy port slot did old new fetched never same c.requires.there;
-      page_is_stuck_before = λ may k has. fetched_has port slot k did old new fetched never may has;
+      finishable_was_finishable = λ may k has. fetched_has port slot k did old new fetched never may has;
       as_much_is_left = λ has. fetched_left port slot did old new has fetched same never;
       other_ports_are_kept = apart.1;
       size_is_kept = apart.0;
@@ -53,6 +53,6 @@ returns g c =
       tape_had_room = λ n room.
           let R : Vec Entry → Type 0 = λ tape. vec_len tape + n ≤ vec_capacity tape in
           subst R c.fetch-taken.ensures.tape room;
-      starved = c.fetch-taken.ensures.starved;
+      starved_is_kept = c.fetch-taken.ensures.starved;
       disks_are_kept = λ _ _. refl;
     }

@@ -12,7 +12,7 @@ returns g c =
     let is = c.in_ok-bays_for.ensures in
     record {
       adapter_is_new = record {
-        memory = search rules;
+        memory_size_is = search rules;
         cap = search rules;
         pi = search rules;
         ports_are_new = λ port.
@@ -20,7 +20,7 @@ returns g c =
             (ports_are (λ k p. p.present ≡ is_some (disks_given_for c.args.disks k)) c.in_ok-port0.port0 c.in_ok-port1.port1 c.in_ok-port2.port2 c.in_ok-port3.port3 (c.in_ok-port0.ensures.present ∙ c.is_some.ensures)
             (c.in_ok-port1.ensures.present ∙ c.is_some-2.ensures) (c.in_ok-port2.ensures.present ∙ c.is_some-3.ensures)
             (c.in_ok-port3.ensures.present ∙ c.is_some-4.ensures) port (λ past. sym (ap is_some (past_given c.args.disks port past))))
-            (ports_are (λ _ p. p.lasting_at ≡ 0) _ _ _ _ c.in_ok-port0.ensures.lasting c.in_ok-port1.ensures.lasting c.in_ok-port2.ensures.lasting c.in_ok-port3.ensures.lasting port (λ _. refl)) (is.media port);
+            (ports_are (λ _ p. p.lasting_tape_length ≡ 0) _ _ _ _ c.in_ok-port0.ensures.lasting c.in_ok-port1.ensures.lasting c.in_ok-port2.ensures.lasting c.in_ok-port3.ensures.lasting port (λ _. refl)) (is.media port);
         tape_is_empty = search rules;
         ae_is_clear = refl;
         ie_is_clear = refl;
@@ -39,9 +39,9 @@ returns g c =
       };
       telling_is = is.tells;
       bays_are_new = is.bays;
-      held = search rules;
-      queue = search rules;
-      accesses = c.none.ensures.shown;
+      none_is_held = search rules;
+      queue_is_empty = search rules;
+      access_count_is_zero = c.none.ensures.shown;
       no_access_was_made = c.none.ensures.made;
       is_not_starved = refl;
     }

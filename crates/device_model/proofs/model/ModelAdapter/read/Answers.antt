@@ -6,7 +6,7 @@ use Rattle.adapter.specs.Device.{Device}
 use Rattle.adapter.specs.declared.tape.Entry.{Entry}
 use Rattle.device_model.specs.Finishing.{HasPageCommand, MayTakePage}
 use Rattle.device_model.specs.HeldPorts.{IsPortHeld}
-use Rattle.device_model.specs.ModelOwnSteps.{DoesOwn, EndsReset, IsSettled}
+use Rattle.device_model.specs.ModelOwnSteps.{DoesSpontaneousSteps, EndsResetUnlessHeld, IsSettled}
 use Rattle.device_model.specs.ModelState.{device_at, all_media_at}
 use Rattle.device_model.specs.WholeAdapter.{HasDisks, AllMedia, device_of}
 use Rattle.device_model.proofs.TwoDisks.{disks_kept, identity_kept}
@@ -20,8 +20,8 @@ use Rattle.device_model.proofs.model.ModelAdapter.read.Goals as goal
 pub shown-value-requires : goal.shown-value-requires
 shown-value-requires g c = has_port_read c.args.r _ c.requires
 
-pub note-requires : goal.note-requires
-note-requires g c = has_port_read c.args.r _ c.requires
+pub note_reading-requires : goal.note_reading-requires
+note_reading-requires g c = has_port_read c.args.r _ c.requires
 
 pub returns-clause-reads : goal.returns-clause-reads
 returns-clause-reads g c =
@@ -29,11 +29,11 @@ returns-clause-reads g c =
     let last : AllMedia = all_media_at g.S.SectorStore.size g.S.SectorStore.told c.send_pages.new.self in
     let settled = c.settle_state.ensures.own o in
     record {
-      mid = device_of c.send_pages.new.self.hardware last;
+      at_access = device_of c.send_pages.new.self.hardware last;
       steps = Steps-trans (begins_steps g.S.SectorStore.size g.S.SectorStore.told g.S.SectorStore.failures _ _ c.do_queued_steps.ensures)
           (Steps-trans (reset_steps _ _ _ _ settled.1) (Steps-trans (own_steps _ _ _ settled.2) (own_steps _ _ _ c.send_pages.ensures.own)));
       shows = c.shown-value.ensures last;
-      effect = c.note.ensures.notes last;
+      effect = c.note_reading.ensures.notes last;
     }
 
 pub returns-clause-settled : goal.returns-clause-settled
@@ -42,49 +42,49 @@ returns-clause-settled g c =
     let last : AllMedia = all_media_at g.S.SectorStore.size g.S.SectorStore.told c.send_pages.new.self in
     let P : Device → Type 0 = λ d. IsSettled c.send_pages.new.self.held d in
     let Q : List Bool → Type 0 = λ held. IsSettled held (device_of c.send_pages.new.self.hardware last) in
-    subst P (sym (c.note.ensures.notes last))
+    subst P (sym (c.note_reading.ensures.notes last))
     (noted_settled c.args.r c.shown-value.result (device_of c.send_pages.new.self.hardware last) _
     (subst Q (sym c.send_pages.ensures.rest.held_ports_are) (c.send_pages.ensures.settled _ (c.settle_state.ensures.settled o))))
 
-pub returns-clause-left : goal.returns-clause-left
-returns-clause-left g c =
+pub returns-clause-no_page_is_left : goal.returns-clause-no_page_is_left
+returns-clause-no_page_is_left g c =
     let last : AllMedia = all_media_at g.S.SectorStore.size g.S.SectorStore.told c.send_pages.new.self in
     let Q : ℕ → Bool → Type 0 = λ port starved. IsPortHeld c.send_pages.new.self.held port ⊎ (starved ≡ true) in
     let sent : Device = device_of c.send_pages.new.self.hardware last in
-    let had : (port : ℕ) → HasDisks (device_of c.note.new.self last) port → HasDisks sent port =
-    λ (port : ℕ) (has : HasDisks (device_of c.note.new.self last) port).
-    disks_kept g.S.SectorStore.size g.S.SectorStore.told (record c.send_pages.new.self { hardware = c.note.new.self }) c.send_pages.new.self port refl has in
+    let had : (port : ℕ) → HasDisks (device_of c.note_reading.new.self last) port → HasDisks sent port =
+    λ (port : ℕ) (has : HasDisks (device_of c.note_reading.new.self last) port).
+    disks_kept g.S.SectorStore.size g.S.SectorStore.told (record c.send_pages.new.self { hardware = c.note_reading.new.self }) c.send_pages.new.self port refl has in
     record {
       none_may_be_taken = λ port slot small low disks may.
           let P : Device → Type 0 = λ d. MayTakePage d port slot in
           c.send_pages.ensures.left.none_may_be_taken port slot small low (had port disks)
-          (noted_may c.args.r c.shown-value.result sent port slot (subst P (c.note.ensures.notes last) may));
+          (noted_may c.args.r c.shown-value.result sent port slot (subst P (c.note_reading.ensures.notes last) may));
       none_may_be_finished = λ port slot small low disks has.
           let P : Device → Type 0 = λ d. HasPageCommand d port slot in
-          subst (Q port) (sym c.note.ensures.starved)
+          subst (Q port) (sym c.note_reading.ensures.starved)
           (c.send_pages.ensures.left.none_may_be_finished port slot small low (had port disks)
-          (noted_page c.args.r c.shown-value.result sent port slot (subst P (c.note.ensures.notes last) has)));
+          (noted_page c.args.r c.shown-value.result sent port slot (subst P (c.note_reading.ensures.notes last) has)));
     }
 
-pub returns-clause-alone : goal.returns-clause-alone
-returns-clause-alone g c =
+pub returns-clause-does_read : goal.returns-clause-does_read
+returns-clause-does_read g c =
     let mid = c.do_queued_steps.new.self in
     let o : AllMedia = all_media_at g.S.SectorStore.size g.S.SectorStore.told mid in
     let last : AllMedia = all_media_at g.S.SectorStore.size g.S.SectorStore.told c.send_pages.new.self in
     let after = record mid { hardware = c.settle_state.new.self; held = c.settle_state.new.held } in
     let settled = c.settle_state.ensures.own o in
     let own = c.send_pages.ensures.rest in
-    let P : List Bool → Type 0 = λ held. EndsReset mid.held held (device_at g.S.SectorStore.size g.S.SectorStore.told mid) settled.0 in
-    let Q : List Bool → Type 0 = λ held. DoesOwn held settled.0 (device_of c.send_pages.new.self.hardware last) in
+    let P : List Bool → Type 0 = λ held. EndsResetUnlessHeld mid.held held (device_at g.S.SectorStore.size g.S.SectorStore.told mid) settled.0 in
+    let Q : List Bool → Type 0 = λ held. DoesSpontaneousSteps held settled.0 (device_of c.send_pages.new.self.hardware last) in
     record {
-      mid = mid;
+      after_begin = mid;
       begins_access = c.do_queued_steps.ensures;
-      reset = settled.0;
+      after_reset_end = settled.0;
       ends_reset = subst P (sym own.held_ports_are) settled.1;
-      last = device_of c.send_pages.new.self.hardware last;
+      after_own_steps = device_of c.send_pages.new.self.hardware last;
       does_own_steps = subst Q (sym own.held_ports_are) (record { settled = device_of c.settle_state.new.self o; settles_ports = settled.2; sends_pages = c.send_pages.ensures.own });
       shows = c.shown-value.ensures last;
-      effect = c.note.ensures.notes last;
+      effect = c.note_reading.ensures.notes last;
       page_source_is = own.page_source_is;
       disk_index_is = own.disk_index_is;
       gains_own_pages = gains_on g.S.SectorStore.size mid after _ (λ _. refl) (λ _. refl)
@@ -92,7 +92,7 @@ returns-clause-alone g c =
           (gains_on g.S.SectorStore.size after c.send_pages.new.self _ own.page_source_is
           (λ q. identity_kept g.S.SectorStore.size after c.send_pages.new.self q (own.disk_index_is q) (own.step_keeps.identities_are_kept q)) own.gains_own_pages
           (gains_none g.S.SectorStore.size c.send_pages.new.self _
-          (ap (λ (d : Device). d.tape) (c.note.ensures.notes last) ∙ noted_tape c.args.r c.shown-value.result (device_of c.send_pages.new.self.hardware last))));
+          (ap (λ (d : Device). d.tape) (c.note_reading.ensures.notes last) ∙ noted_tape c.args.r c.shown-value.result (device_of c.send_pages.new.self.hardware last))));
       disks_are_kept = c.send_pages.ensures.disks;
       step_keeps = record {
         absent_disks_are_kept = own.step_keeps.absent_disks_are_kept;
@@ -102,11 +102,11 @@ returns-clause-alone g c =
         access_count_is_kept = own.step_keeps.access_count_is_kept;
       };
       starves_for_want = λ now.
-          elim (c.send_pages.ensures.told (sym c.note.ensures.starved ∙ now)) [
+          elim (c.send_pages.ensures.told (sym c.note_reading.ensures.starved ∙ now)) [
             | inl before ↦ inl (sym c.settle_state.ensures.starved ∙ before)
             | inr one ↦
-                let R : Vec Entry → Type 0 = λ tape. vec_len tape + (one.5.left + 1) ≤ vec_capacity tape in
-                inr (one.0, one.1, one.2, one.3, one.4, one.5, λ room. one.6 (subst R c.note.ensures.tape room))
+                let R : Vec Entry → Type 0 = λ tape. vec_len tape + (one.5.moves_left + 1) ≤ vec_capacity tape in
+                inr (one.0, one.1, one.2, one.3, one.4, one.5, λ room. one.6 (subst R c.note_reading.ensures.tape room))
           ];
-      stays_starved = λ told. c.note.ensures.starved ∙ own.stays_starved (c.settle_state.ensures.starved ∙ told);
+      stays_starved = λ told. c.note_reading.ensures.starved ∙ own.stays_starved (c.settle_state.ensures.starved ∙ told);
     }

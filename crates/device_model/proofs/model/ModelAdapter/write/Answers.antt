@@ -7,13 +7,13 @@ pub write-requires : goal.write-requires
 write-requires g c = has_port_write c.args.r c.args.v _ (c.requires _ (begins_steps g.S.SectorStore.size g.S.SectorStore.told g.S.SectorStore.failures _ _ c.do_queued_steps.ensures))
 
 pub returns-clause-writes : goal.returns-clause-writes
-returns-clause-writes g c = record { mid = _; steps = begins_steps g.S.SectorStore.size g.S.SectorStore.told g.S.SectorStore.failures _ _ c.do_queued_steps.ensures; effect = c.write.ensures.written _ }
+returns-clause-writes g c = record { at_access = _; steps = begins_steps g.S.SectorStore.size g.S.SectorStore.told g.S.SectorStore.failures _ _ c.do_queued_steps.ensures; effect = c.write.ensures.written _ }
 
-pub returns-clause-alone : goal.returns-clause-alone
-returns-clause-alone g c = record {
-  mid = c.do_queued_steps.new.self;
+pub returns-clause-applies_effect : goal.returns-clause-applies_effect
+returns-clause-applies_effect g c = record {
+  after_begin = c.do_queued_steps.new.self;
   begins_access = c.do_queued_steps.ensures;
   effect_is = c.write.ensures.written _;
   rest_is_kept = refl;
-  starved = c.write.ensures.starved;
+  starved_is_kept = c.write.ensures.starved;
 }

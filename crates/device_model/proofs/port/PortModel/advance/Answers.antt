@@ -25,7 +25,7 @@ returns-then-is_trim-clause-moved c = λ m t held.
     let bytes : List ℕ = c.args.bytes.now in
     let u : TakenCommand = record t { moved = t.moved + 1; block = Some (snapshot_of_bytes bytes) } in
     let kind : t.command_kind ≡ Trim =
-    same_kind (was slot) c.requires.held.0 t c.args.command_kind c.requires.held.1 c.requires.held.2 held ∙ c.is_trim.ensures.0 c.if-is_trim.true in
+    same_kind (was slot) c.requires.slot_has_command.0 t c.args.command_kind c.requires.slot_has_command.1 c.requires.slot_has_command.2 held ∙ c.is_trim.ensures.0 c.if-is_trim.true in
     let kept : block_after (operation_of_kind t.command_kind) bytes (brought t.block) ≡ bytes = ap (λ (k : CommandKind). block_after (operation_of_kind k) bytes (brought t.block)) kind in
     ap (λ (f : ℕ → Option FetchedCommand). record (port_of c.args.self.now (media_after_move m (taken_of t) bytes)) { taken = f })
     (ap taken_slots (c.add_block.ensures t held)
@@ -38,7 +38,7 @@ returns-else-is_trim-clause-moved c = λ m t held.
     let was : ℕ → Option TakenCommand = taken_in c.args.self.now.taken in
     let slot : ℕ = c.args.slot in
     let bytes : List ℕ = c.args.bytes.now in
-    let kind = same_kind (was slot) c.requires.held.0 t c.args.command_kind c.requires.held.1 c.requires.held.2 held in
+    let kind = same_kind (was slot) c.requires.slot_has_command.0 t c.args.command_kind c.requires.slot_has_command.1 c.requires.slot_has_command.2 held in
     let other : t.command_kind ≡ Trim → ⊥ = λ (trim : t.command_kind ≡ Trim). true-false (c.is_trim.ensures.1 (sym kind ∙ trim)) c.if-is_trim.false in
     ap (λ (f : ℕ → Option FetchedCommand). record (port_of c.args.self.now (media_after_move m (taken_of t) bytes)) { taken = f })
     (ap taken_slots (c.add_moved.ensures t held)

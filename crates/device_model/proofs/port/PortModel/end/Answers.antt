@@ -1,7 +1,7 @@
 use Rattle.std.proofs.Common.{ℕ, Bool, true, false, ◌≡◌, ◌∙◌, None, refl, sym, ap}
 use Rattle.std.specs.Prelude.{bit_and, if◌then◌else◌}
 use Rattle.adapter.specs.Commands.{is_queued}
-use Rattle.adapter.specs.Device.{Lasting, DevicePort}
+use Rattle.adapter.specs.Device.{DurableState, DevicePort}
 use Rattle.adapter.specs.Device.Halt.{NotHalted}
 use Rattle.adapter.specs.Memory.{changed}
 use Rattle.adapter.specs.Steps.{lasting_after, port_after_done, port_after_flush}
@@ -16,7 +16,7 @@ use Rattle.device_model.proofs.port.PortModel.end.Goals as goal
 
 -- what is lasting then
 ended_lasting : (o : Operation) (m : Media) (was here since : ℕ) → since ≡ (lasting_after o (record { sectors = m.lasting; tape_length = was }) m.disk here).tape_length →
-    ◌≡◌ {A = Lasting} (record { sectors = lasting_sectors o m; tape_length = since }) (lasting_after o (record { sectors = m.lasting; tape_length = was }) m.disk here)
+    ◌≡◌ {A = DurableState} (record { sectors = lasting_sectors o m; tape_length = since }) (lasting_after o (record { sectors = m.lasting; tape_length = was }) m.disk here)
 ended_lasting operation.Flush m was here since e = λ i. record { sectors = m.disk.sectors; tape_length = e i }
 ended_lasting operation.Identify m was here since e = λ i. record { sectors = m.lasting; tape_length = e i }
 ended_lasting operation.ReadLog m was here since e = λ i. record { sectors = m.lasting; tape_length = e i }
@@ -33,7 +33,7 @@ returns-then-is_queued c = λ m.
     let k : CommandKind = c.args.command_kind in
     let slot : ℕ = c.args.slot in
     let state : DevicePort = port_after_flush (port_after_done (port_of p m) slot (cause_of k) (operation_of_kind k)) (operation_of_kind k) c.args.here in
-    let lasting = ended_lasting (operation_of_kind k) m p.lasting_at c.args.here c.lasting_at-self.result (c.lasting_at-self.ensures (record { sectors = m.lasting; tape_length = p.lasting_at }) m.disk refl) in
+    let lasting = ended_lasting (operation_of_kind k) m p.lasting_tape_length c.args.here c.lasting_at-self.result (c.lasting_at-self.ensures (record { sectors = m.lasting; tape_length = p.lasting_tape_length }) m.disk refl) in
     let queued : true ≡ is_queued (operation_of_kind k) = sym c.if-is_queued.true ∙ c.is_queued.ensures in
     let taken = ap taken_slots c.remove.ensures ∙ slots_changed (taken_in p.taken) slot None in
     let is : word_bits c.with_bit_as-self.result ≡ changed (word_bits p.is) (cause_of k) true =
@@ -51,7 +51,7 @@ returns-else-is_queued c = λ m.
     let k : CommandKind = c.args.command_kind in
     let slot : ℕ = c.args.slot in
     let state : DevicePort = port_after_flush (port_after_done (port_of p m) slot (cause_of k) (operation_of_kind k)) (operation_of_kind k) c.args.here in
-    let lasting = ended_lasting (operation_of_kind k) m p.lasting_at c.args.here c.lasting_at-self.result (c.lasting_at-self.ensures (record { sectors = m.lasting; tape_length = p.lasting_at }) m.disk refl) in
+    let lasting = ended_lasting (operation_of_kind k) m p.lasting_tape_length c.args.here c.lasting_at-self.result (c.lasting_at-self.ensures (record { sectors = m.lasting; tape_length = p.lasting_tape_length }) m.disk refl) in
     let plain : false ≡ is_queued (operation_of_kind k) = sym c.if-is_queued.false ∙ c.is_queued.ensures in
     let taken = ap taken_slots c.remove.ensures ∙ slots_changed (taken_in p.taken) slot None in
     let is : word_bits c.with_bit_as-self.result ≡ changed (word_bits p.is) (cause_of k) true =

@@ -7,13 +7,13 @@ use Rattle.device_model.proofs.port.PortModel.new.Goals as goal
 
 pub returns-clause-idle : goal.returns-clause-idle
 returns-clause-idle c = λ m. record {
-  st = refl;
-  cr = refl;
-  fre = refl;
-  fr = refl;
-  ci = zero_bit;
-  sact = zero_bit;
-  taken = λ slot. ap (λ (f : ℕ → Option TakenCommand). option_map taken_of (f slot)) c.in_ok-taken.ensures;
+  st_is_clear = refl;
+  cr_is_clear = refl;
+  fre_is_clear = refl;
+  fr_is_clear = refl;
+  ci_is_clear = zero_bit;
+  sact_is_clear = zero_bit;
+  none_is_taken = λ slot. ap (λ (f : ℕ → Option TakenCommand). option_map taken_of (f slot)) c.in_ok-taken.ensures;
 }
 
 pub returns-clause-reset : goal.returns-clause-reset
@@ -50,9 +50,9 @@ returns-clause-reset c = λ m. record {
     last_ci = c.default-2.ensures.1.1.1.1.1.1.0 i;
     last_sact = c.default-2.ensures.1.1.1.1.1.1.1.0 i;
     engine_count = c.default-2.ensures.1.1.1.1.1.1.1.1.0 i;
-    link_count = c.default-2.ensures.1.1.1.1.1.1.1.1.1.0 i;
+    link_wait_count = c.default-2.ensures.1.1.1.1.1.1.1.1.1.0 i;
     busy_count = c.default-2.ensures.1.1.1.1.1.1.1.1.1.1.0 i;
-    command_count = c.default-2.ensures.1.1.1.1.1.1.1.1.1.1.1.0 i;
+    slot0_issued_count = c.default-2.ensures.1.1.1.1.1.1.1.1.1.1.1.0 i;
     acknowledged = c.default-2.ensures.1.1.1.1.1.1.1.1.1.1.1.1 i;
   };
 }

@@ -9,8 +9,8 @@ returns-then-is_set-clause-found c =
     let is = in_seen_room small c.self.view_is c.from-then-is_set.ensures c.from.ensures c.is_set.ensures c.if-is_set.true c.index.ensures in
     is.held
 
-pub returns-then-is_set-clause-low : goal.returns-then-is_set-clause-low
-returns-then-is_set-clause-low c =
+pub returns-then-is_set-clause-first_in_range : goal.returns-then-is_set-clause-first_in_range
+returns-then-is_set-clause-first_in_range c =
     let small : c.from-then-is_set.result < length c.self.inside.slots.items = search rules in
     let is = in_seen_room small c.self.view_is c.from-then-is_set.ensures c.from.ensures c.is_set.ensures c.if-is_set.true c.index.ensures in
     c.self.invariant.1.first_in_range c.from-then-is_set.result c.index.result.now is.there

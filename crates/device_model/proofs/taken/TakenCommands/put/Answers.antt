@@ -5,7 +5,7 @@ use Rattle.adapter.specs.Memory.{changed}
 use Rattle.device_model.proofs.Blocks.{block_put}
 use Rattle.device_model.proofs.SlotLemmas.{held_list, held_put}
 use Rattle.device_model.specs.PortView.{taken_in}
-use Rattle.device_model.specs.TakenBlocks.{HasBlock, taken_in_slot}
+use Rattle.device_model.specs.TakenBlocks.{BlockIsOfTakenTrim, taken_in_slot}
 use Rattle.device_model.specs.declared.port.TakenCommand.{TakenCommand}
 use Rattle.device_model.proofs.taken.TakenCommands.put.Goals as goal
 
@@ -33,7 +33,7 @@ invariant_of-self c =
     let was : taken_in_slot filled items ≡ taken_in c.args.self.now = sym (held_list filled items) ∙ ap taken_in c.self.view_is in
     let beside = λ (other : ℕ) (u : TakenCommand) (ne : other ≢ c.from.result) (is : taken_in_slot filled items other ≡ Some u).
     c.requires.alone other u (rw c.from.ensures at ne) (ap (λ (f : ℕ → Option TakenCommand). f other) (sym was) ∙ is) in
-    let P : (ℕ → Option TakenCommand) → Type 0 = λ f. HasBlock f c.self.inside.block in (
+    let P : (ℕ → Option TakenCommand) → Type 0 = λ f. BlockIsOfTakenTrim f c.self.inside.block in (
       simp length-set c.self.invariant.0,
       subst P (sym (held_put filled c.with_bit_as-self-inside.result items c.from.result new small bits))
           (block_put (taken_in_slot filled items) c.self.inside.block c.from.result c.self.invariant.1 new refl c.requires.low beside),

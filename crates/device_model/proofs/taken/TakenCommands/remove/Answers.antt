@@ -3,7 +3,7 @@ use Rattle.adapter.specs.Memory.{changed}
 use Rattle.device_model.proofs.Blocks.{block_removed}
 use Rattle.device_model.proofs.SlotLemmas.{held_list, held_removed}
 use Rattle.device_model.specs.PortView.{taken_in}
-use Rattle.device_model.specs.TakenBlocks.{HasBlock, taken_in_slot}
+use Rattle.device_model.specs.TakenBlocks.{BlockIsOfTakenTrim, taken_in_slot}
 use Rattle.device_model.specs.declared.port.TakenCommand.{TakenCommand}
 use Rattle.device_model.proofs.taken.TakenCommands.remove.Goals as goal
 
@@ -20,7 +20,7 @@ pub invariant_of-self : goal.invariant_of-self
 invariant_of-self c =
     let filled = c.self.inside.filled in
     let items = c.self.inside.slots.items in
-    let P : (ℕ → Option TakenCommand) → Type 0 = λ f. HasBlock f c.self.inside.block in (
+    let P : (ℕ → Option TakenCommand) → Type 0 = λ f. BlockIsOfTakenTrim f c.self.inside.block in (
       c.self.invariant.0,
       subst P (sym (held_removed filled c.with_bit_as-self-inside.result items c.from.result c.with_bit_as-self-inside.ensures))
           (block_removed (taken_in_slot filled items) c.self.inside.block c.from.result c.self.invariant.1),

@@ -2,9 +2,9 @@ use Rattle.std.proofs.Common.{ℕ, ◌<◌, ◌≢◌, get_or}
 use Rattle.ata_types.specs.declared.PortState.TheVariants.{Ready}
 use Rattle.ata_types.specs.declared.grant.GrantRow.{GrantRow}
 use Rattle.block_machine.specs.Rules.{HasGrantName}
-use Rattle.machine_rules.specs.ReferenceSituations.{situation_in}
+use Rattle.machine_rules.specs.ReferenceSituations.{reference_admission_context}
 use Rattle.machine_rules.proofs.refuse.ReferenceSituation.not_ready.Given as goal
 
 abbrev pub invariant-loop-row : goal.invariant-loop-row
 invariant-loop-row l = (k : ℕ) (d : GrantRow) → k < l.row-index → HasGrantName l.request.client l.request.grant (get_or l.row-items k d)
-    → (situation_in l.self).state (get_or l.row-items k d).port ≢ Ready → ⊥
+    → (reference_admission_context l.self).state (get_or l.row-items k d).port ≢ Ready → ⊥

@@ -2,11 +2,11 @@ use Rattle.port_control.proofs.looks.Serving.{looking_service, looking_beside}
 use Rattle.port_control.proofs.looks.Seeing.{look_driven}
 use Rattle.port_control.proofs.events.laws.law_looks_are_services.Goals as goal
 
-pub returns-clause-looking : goal.returns-clause-looking
-returns-clause-looking c = looking_service
+pub returns-clause-is_service_access : goal.returns-clause-is_service_access
+returns-clause-is_service_access c = looking_service
 
-pub returns-clause-beside : goal.returns-clause-beside
-returns-clause-beside c = looking_beside
+pub returns-clause-leaves_other_px_is : goal.returns-clause-leaves_other_px_is
+returns-clause-leaves_other_px_is c = looking_beside
 
-pub returns-clause-look : goal.returns-clause-look
-returns-clause-look c = look_driven
+pub returns-clause-look_is_driven : goal.returns-clause-look_is_driven
+returns-clause-look_is_driven c = look_driven

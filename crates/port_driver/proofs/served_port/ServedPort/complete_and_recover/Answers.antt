@@ -1,7 +1,7 @@
 use Rattle.std.proofs.Common.{sym, subst}
-use Rattle.dma_frames.specs.FrameTables.{FrameOwnership}
+use Rattle.dma_frames.specs.FrameTables.{OwnersAndLoans}
 use Rattle.server_history.specs.ServerState.{ServerState}
-use Rattle.port_driver.specs.LentSlots.{HasDonePort}
+use Rattle.port_driver.specs.LentSlots.{HasPortToAnswer}
 use Rattle.port_driver.specs.Recovery.{IsInError}
 use Rattle.port_driver.proofs.Lent.{Answered, FoundDone, Troubled, Waiting, agreed, alike, alone, lends_done, may, mid_kept, mends_rest, mid_there, named, places, seen_kept, seen_there}
 use Rattle.port_driver.proofs.served_port.ServedPort.complete_and_recover.Given.{Over}
@@ -17,9 +17,9 @@ troubled g c l = record {
   laws = record {
     looking = c.law_looks_preserve_invariant.ensures.looking;
     finding = c.law_looks_preserve_invariant.ensures.finding;
-    over = c.law_looks_preserve_invariant.ensures.found;
+    over = c.law_looks_preserve_invariant.ensures.done_slots_are_over;
     may = c.law_port_errors_may_be_handled.ensures.may_recover;
-    agreed = c.law_port_errors_may_be_handled.ensures.agreed;
+    agreed = c.law_port_errors_may_be_handled.ensures.plain_uses_slot_0;
     alike = c.law_port_errors_may_be_handled.ensures.are_queued_alike;
     alone = c.law_port_errors_may_be_handled.ensures.plain_is_alone;
   };
@@ -33,7 +33,7 @@ troubled g c l = record {
 }
 
 abbrev at_taking : (g : Over) (c : After-answer_done-arg-3-1 g) → After-done-arg-1 g
-at_taking g c = (goal.at.answer_done-requires-clause-lends g c).After-done-arg-1
+at_taking g c = (goal.at.answer_done-requires-clause-server_has_port g c).After-done-arg-1
 
 abbrev found_done : (g : Over) (c : After-answer_done-arg-3-1 g) (l : Has g (at_taking g c)) → FoundDone (troubled g (at_taking g c) l)
 found_done g c l = record {
@@ -80,27 +80,27 @@ waiting g c l = record {
   kinds = c.are_queued-queued.ensures;
 }
 
-pub done-finished-requires-clause-on : goal.done-finished-requires-clause-on
-done-finished-requires-clause-on g c = (seen_kept (troubled g c c.requires.sees)).adapter_is_on
+pub done-finished-requires-clause-adapter_is_on : goal.done-finished-requires-clause-adapter_is_on
+done-finished-requires-clause-adapter_is_on g c = (seen_kept (troubled g c c.requires.server_is_in_error)).adapter_is_on
 
-pub done-finished-requires-clause-there : goal.done-finished-requires-clause-there
-done-finished-requires-clause-there g c = seen_there (troubled g c c.requires.sees)
+pub done-finished-requires-clause-has_port : goal.done-finished-requires-clause-has_port
+done-finished-requires-clause-has_port g c = seen_there (troubled g c c.requires.server_is_in_error)
 
-pub answer_done-requires-clause-lends : goal.answer_done-requires-clause-lends
-answer_done-requires-clause-lends g c =
-    let f = found_done g c c.requires.sees in
-    let s = record c.requires.sees.0 { device = f.found } in
-    let D : FrameOwnership → Type 0 = λ table. HasDonePort s table c.args.shared.now.book c.args.self.now.slots c.args.port f.done in
-    (s, c.args.port, subst D (sym c.deref_mut.ensures.value) (lends_done (troubled g (at_taking g c) c.requires.sees) f))
+pub answer_done-requires-clause-server_has_port : goal.answer_done-requires-clause-server_has_port
+answer_done-requires-clause-server_has_port g c =
+    let f = found_done g c c.requires.server_is_in_error in
+    let s = record c.requires.server_is_in_error.0 { device = f.found } in
+    let D : OwnersAndLoans → Type 0 = λ table. HasPortToAnswer s table c.args.shared.now.book c.args.self.now.slots c.args.port f.done in
+    (s, c.args.port, subst D (sym c.deref_mut.ensures.value) (lends_done (troubled g (at_taking g c) c.requires.server_is_in_error) f))
 
 pub are_queued-queued-requires : goal.are_queued-queued-requires
 are_queued-queued-requires g c =
-    let l = c.requires.sees in
-    record { alike = alike (its_trouble g c l) (its_done g c l) (answered g c l); places = places (its_trouble g c l) (its_done g c l) (answered g c l) }
+    let l = c.requires.server_is_in_error in
+    record { all_queued_or_none = alike (its_trouble g c l) (its_done g c l) (answered g c l); places = places (its_trouble g c l) (its_done g c l) (answered g c l) }
 
 pub recover_or_stop-recovered-requires-clause-ready : goal.recover_or_stop-recovered-requires-clause-ready
 recover_or_stop-recovered-requires-clause-ready g c =
-    let l = c.requires.sees in
+    let l = c.requires.server_is_in_error in
     let a = at_answer g c in
     record {
       adapter_is_on = (mid_kept (its_trouble g a l) (its_done g a l) (answered g a l)).adapter_is_on;
@@ -112,20 +112,20 @@ recover_or_stop-recovered-requires-clause-ready g c =
 
 pub recover_or_stop-recovered-requires-clause-may : goal.recover_or_stop-recovered-requires-clause-may
 recover_or_stop-recovered-requires-clause-may g c =
-    let l = c.requires.sees in
+    let l = c.requires.server_is_in_error in
     let a = at_answer g c in
     may (its_trouble g a l) (its_done g a l)
 
 pub failed_request_in-failed-requires : goal.failed_request_in-failed-requires
 failed_request_in-failed-requires g c =
-    let l = c.requires.sees in
+    let l = c.requires.server_is_in_error in
     let q = (goal.at.failed_request_in-failed-requires g c).After-recover_or_stop-arg-1 in
     let a = at_answer g q in
     named (its_trouble g a l) (its_done g a l) (answered g a l) (waiting g q l) c.recover_or_stop-recovered.result (g.A.Adapter.device c.recover_or_stop-recovered.new.adapter) c.recover_or_stop-recovered.ensures.handling
 
-pub returns-clause-handling : goal.returns-clause-handling
-returns-clause-handling g c = λ s sees.
-    let q = (goal.at.returns-clause-handling g c).After-recover_or_stop-arg-1 in
+pub returns-clause-completes_and_recovers : goal.returns-clause-completes_and_recovers
+returns-clause-completes_and_recovers g c = λ s sees.
+    let q = (goal.at.returns-clause-completes_and_recovers g c).After-recover_or_stop-arg-1 in
     let a = at_answer g q in
     let l : Has g (at_taking g (at_done g a)) = (s, sees) in
     mends_rest (its_trouble g a l) (its_done g a l) (answered g a l) (waiting g q l) c.recover_or_stop-recovered.result (g.A.Adapter.device c.recover_or_stop-recovered.new.adapter) c.recover_or_stop-recovered.ensures.handling c.failed_request_in-failed.result c.failed_request_in-failed.ensures

@@ -4,12 +4,12 @@ use Rattle.std.proofs.lemmas.List.{length-append, set-set}
 use Rattle.port_driver.specs.PortAndShared.{TakesTurn, with_served_port}
 use Rattle.port_driver.specs.Recovery.{HandlesPortErrorOf, IsInError}
 use Rattle.port_driver.specs.LoanRoom.{HaveLoanRoom, book_and_loans}
-use Rattle.port_driver.specs.LentSlots.{HasFoundPort, with_port_slots}
+use Rattle.port_driver.specs.LentSlots.{HasPortToIssue, with_port_slots}
 use Rattle.block_machine.specs.declared.due.QueueMode.{QueueMode}
 use Rattle.host_boot.specs.declared.ProbeResult.{ProbeResult}
 use Rattle.identify.specs.declared.DiskInfo.{DiskInfo}
 use Rattle.identify.specs.declared.wanted.Wanted.{Wanted}
-use Rattle.server_history.specs.ErrorHandling.{IsRevalidated, requests_of}
+use Rattle.server_history.specs.ErrorHandling.{IsFoundAfterError, requests_of}
 use Rattle.server_history.specs.IssuingAndAnswering.{done_reply}
 use Rattle.server_history.specs.ServerState.{ServerState, quarantined_at, last_disk_of}
 use Rattle.slots.specs.SlotUses.{PortSlots}
@@ -36,9 +36,9 @@ recovered g c s h =
     record {
       laws = record {
         bootable = c.law_a_port_goes_on_after_its_errors.ensures.bootable;
-        mode = c.law_a_port_goes_on_after_its_errors.ensures.mode;
-        places = c.law_a_port_goes_on_after_its_errors.ensures.places;
-        settled = c.law_a_port_goes_on_after_its_errors.ensures.settled;
+        mode = c.law_a_port_goes_on_after_its_errors.ensures.mode_is_kept;
+        places = c.law_a_port_goes_on_after_its_errors.ensures.issued_loans_have_room;
+        settled = c.law_a_port_goes_on_after_its_errors.ensures.resolved_has_invariant;
         error_handled = c.law_a_port_is_served.ensures.error_handled;
         restarted = c.law_a_timed_out_port_is_restarted.ensures;
       };
@@ -48,7 +48,7 @@ recovered g c s h =
       first = g.A.Adapter.device c.args.adapter.now;
       sees = h.sees_port_error;
       was = c.in-Ready.was;
-      is_ready = h.is_settled_with.parts.port_is.found_is ∙ c.in-Ready.is;
+      is_ready = h.is_settled_with.has_port_and_shared.port_is.probe_result_is ∙ c.in-Ready.is;
       before = c.args.replies.now.items;
       told = then.replies.items;
       failed = c.complete_and_recover-failed.result.0;
@@ -57,13 +57,13 @@ recovered g c s h =
       b = then.shared.book;
       u = then.self.slots;
       one = g.A.Adapter.device then.adapter;
-      rest = c.complete_and_recover-failed.ensures.handling s h;
+      rest = c.complete_and_recover-failed.ensures.completes_and_recovers s h;
     }
 
 -- what the port is once it was found so
 abbrev found_so : (g : Over) (c : After-sort_replies_from-arg-1 g) → Option DiskInfo → ServedPort
 found_so g c disk = record c.complete_and_recover-failed.new.self {
-  found = c.resume_or_reboot-found.result.0;
+  probe_result = c.resume_or_reboot-found.result.0;
   remembered = disk;
   mode = c.resume_or_reboot-found.result.1;
   slots = c.note_probe_result.new.self.slots;
@@ -74,17 +74,17 @@ is_anew : (g : Over) (c : After-sort_replies_from-arg-1 g) → c.note_probe_resu
 is_anew g c =
     let then = c.complete_and_recover-failed.new.self in
     c.note_probe_result.ensures.only_these_change
-    ∙ ap (λ (f : ProbeResult). found_so g c (last_disk_of f then.remembered)) (ap (λ (p : ServedPort). p.found) c.complete_and_recover-failed.ensures.rest ∙ c.in-Ready.is)
+    ∙ ap (λ (f : ProbeResult). found_so g c (last_disk_of f then.remembered)) (ap (λ (p : ServedPort). p.probe_result) c.complete_and_recover-failed.ensures.only_slots_change ∙ c.in-Ready.is)
 
 -- what the server kept of the port is kept still
-same_kept : (g : Over) (c : After-complete_and_recover-failed g) (s : ServerState) → Has g c s → c.complete_and_recover-failed.new.self.kept ≡ quarantined_at s.kept c.args.port.0
-same_kept g c s h = ap (λ (p : ServedPort). p.kept) c.complete_and_recover-failed.ensures.rest ∙ sym h.is_settled_with.parts.port_is.kept_is
+same_kept : (g : Over) (c : After-complete_and_recover-failed g) (s : ServerState) → Has g c s → c.complete_and_recover-failed.new.self.kept ≡ quarantined_at s.kept_loans c.args.port.0
+same_kept g c s h = ap (λ (p : ServedPort). p.kept) c.complete_and_recover-failed.ensures.only_slots_change ∙ sym h.is_settled_with.has_port_and_shared.port_is.quarantine_is
 
 pub resume_or_reboot-found-requires-clause-mode : goal.resume_or_reboot-found-requires-clause-mode
 resume_or_reboot-found-requires-clause-mode g c =
     let a = (goal.at.resume_or_reboot-found-requires-clause-mode g c).After-complete_and_recover-failed in
     let h = c.requires.sees in
-    restoring.mode_then (recovered g a h.0 h.1) c.complete_and_recover-failed.new.self.mode (ap (λ (p : ServedPort). p.mode) c.complete_and_recover-failed.ensures.rest ∙ sym h.1.is_settled_with.parts.port_is.mode_is)
+    restoring.mode_then (recovered g a h.0 h.1) c.complete_and_recover-failed.new.self.mode (ap (λ (p : ServedPort). p.mode) c.complete_and_recover-failed.ensures.only_slots_change ∙ sym h.1.is_settled_with.has_port_and_shared.port_is.mode_is)
 
 pub resume_or_reboot-found-requires-clause-bootable : goal.resume_or_reboot-found-requires-clause-bootable
 resume_or_reboot-found-requires-clause-bootable g c =
@@ -93,17 +93,17 @@ resume_or_reboot-found-requires-clause-bootable g c =
 pub note_probe_result-requires : goal.note_probe_result-requires
 note_probe_result-requires g c =
     let few = few_usable (g.A.Adapter.device c.resume_or_reboot-found.new.adapter).cap c.resume_or_reboot-found.result.0 in
-    subst (λ (mode : QueueMode). mode.usable ≤ 32) (sym c.resume_or_reboot-found.ensures.mode) few
+    subst (λ (mode : QueueMode). mode.usable_slots ≤ 32) (sym c.resume_or_reboot-found.ensures.mode) few
 
-pub resolve-requires-clause-may : goal.resolve-requires-clause-may
-resolve-requires-clause-may g c = record {
-  sound = restoring.sound (recovered g (goal.at.resolve-requires-clause-may g c).After-complete_and_recover-failed c.requires.sees.0 c.requires.sees.1);
-  room = c.complete_and_recover-failed.ensures.room;
+pub resolve-requires-clause-all_may_be_answered : goal.resolve-requires-clause-all_may_be_answered
+resolve-requires-clause-all_may_be_answered g c = record {
+  book_is_sound = restoring.sound (recovered g (goal.at.resolve-requires-clause-all_may_be_answered g c).After-complete_and_recover-failed c.requires.sees.0 c.requires.sees.1);
+  replies_have_room = c.complete_and_recover-failed.ensures.room;
 }
 
-pub resolve-requires-clause-places : goal.resolve-requires-clause-places
-resolve-requires-clause-places g c =
-    let a = (goal.at.resolve-requires-clause-places g c).After-complete_and_recover-failed in
+pub resolve-requires-clause-loans_have_room : goal.resolve-requires-clause-loans_have_room
+resolve-requires-clause-loans_have_room g c =
+    let a = (goal.at.resolve-requires-clause-loans_have_room g c).After-complete_and_recover-failed in
     let x = recovered g a c.requires.sees.0 c.requires.sees.1 in
     subst (HaveLoanRoom (requests_of c.args.port x.b)) (sym (ap (λ (p : ServedPort). p.kept) c.note_probe_result.ensures.only_these_change ∙ same_kept g a c.requires.sees.0 c.requires.sees.1)) (restoring.have_places x c.args.port.0 refl [])
 
@@ -125,9 +125,9 @@ restored g c s h =
     let x = recovered g (at_mending g c) s h in
     let met = c.resolve.ensures.resolves in
     let now = book_and_loans c.resolve.new.self.book c.resolve.new.self.table.value c.resolve.new.kept in
-    let K : List Lending → Type 0 = λ loans. AreResolved (disposition_of c.complete_and_recover-failed.result.0 c.revalidation_of-revalidation.result) (requests_of c.args.port x.b) met.0 (book_and_loans x.b x.t loans) now in
-    let W : Wanted → Type 0 = λ wanted. IsRevalidated wanted c.args.port c.args.port_error c.in-Ready.was x.next x.one (device c.resume_or_reboot-found.new.adapter) c.resume_or_reboot-found.result.0 in
-    let wanted_is = (ap (λ (p : ServedPort). p.wanted) c.complete_and_recover-failed.ensures.rest ∙ sym h.is_settled_with.parts.port_is.wanted_is) in
+    let K : List Lending → Type 0 = λ loans. AreResolved (disposition_of c.complete_and_recover-failed.result.0 c.revalidation_of.result) (requests_of c.args.port x.b) met.0 (book_and_loans x.b x.t loans) now in
+    let W : Wanted → Type 0 = λ wanted. IsFoundAfterError wanted c.args.port c.args.port_error c.in-Ready.was x.next x.one (device c.resume_or_reboot-found.new.adapter) c.resume_or_reboot-found.result.0 in
+    let wanted_is = (ap (λ (p : ServedPort). p.wanted) c.complete_and_recover-failed.ensures.only_slots_change ∙ sym h.is_settled_with.has_port_and_shared.port_is.wanted_is) in
     record {
       two = device c.resume_or_reboot-found.new.adapter;
       found = c.resume_or_reboot-found.result.0;
@@ -135,11 +135,11 @@ restored g c s h =
       mode = c.resume_or_reboot-found.result.1;
       mode_is = c.resume_or_reboot-found.ensures.mode;
       fresh = c.note_probe_result.new.self.slots;
-      usable = c.note_probe_result.ensures.has_no_used_slot.usable;
-      as_many = c.note_probe_result.ensures.has_no_used_slot.places;
-      free = c.note_probe_result.ensures.has_no_used_slot.free;
-      revalidation = c.revalidation_of-revalidation.result;
-      expects = c.revalidation_of-revalidation.ensures;
+      usable = c.note_probe_result.ensures.has_no_used_slot.usable_count_is_of_mode;
+      as_many = c.note_probe_result.ensures.has_no_used_slot.has_32_slots;
+      free = c.note_probe_result.ensures.has_no_used_slot.all_slots_are_free;
+      revalidation = c.revalidation_of.result;
+      expects = c.revalidation_of.ensures;
       now = now;
       later = met.0;
       meets = subst K (ap (λ (p : ServedPort). p.kept) c.note_probe_result.ensures.only_these_change ∙ same_kept g (at_mending g c) s h) met.2;
@@ -147,11 +147,11 @@ restored g c s h =
 
 -- and it has what issuing asks
 lends_anew : (g : Over) (c : After-sort_replies_from-arg-1 g) (s : ServerState) (h : Has g (at_mending g c) s)
-    → HasFoundPort (restoring.then (recovered g (at_mending g c) s h) (restored g c s h)) (g.A.Adapter.device c.resume_or_reboot-found.new.adapter) c.resolve.new.self.book c.note_probe_result.new.self.slots c.args.port c.note_probe_result.new.self.mode c.note_probe_result.new.self.found
+    → HasPortToIssue (restoring.then (recovered g (at_mending g c) s h) (restored g c s h)) (g.A.Adapter.device c.resume_or_reboot-found.new.adapter) c.resolve.new.self.book c.note_probe_result.new.self.slots c.args.port c.note_probe_result.new.self.mode c.note_probe_result.new.self.probe_result
 lends_anew g c s h =
     let x = recovered g (at_mending g c) s h in
     let y = restored g c s h in
-    let L : ServedPort → Type 0 = λ p. HasFoundPort (restoring.then x y) (g.A.Adapter.device c.resume_or_reboot-found.new.adapter) c.resolve.new.self.book p.slots c.args.port p.mode p.found in
+    let L : ServedPort → Type 0 = λ p. HasPortToIssue (restoring.then x y) (g.A.Adapter.device c.resume_or_reboot-found.new.adapter) c.resolve.new.self.book p.slots c.args.port p.mode p.probe_result in
     subst L (sym (is_anew g c)) (restoring.lends_found x y)
 
 pub issue_where_ready-requires : goal.issue_where_ready-requires
@@ -160,7 +160,7 @@ issue_where_ready-requires g c =
     let s = c.requires.sees.0 in
     let x = recovered g (at_mending g a) s c.requires.sees.1 in
     let y = restored g a s c.requires.sees.1 in
-    record { lends = (restoring.then x y, lends_anew g a s c.requires.sees.1) }
+    record { server_has_port = (restoring.then x y, lends_anew g a s c.requires.sees.1) }
 
 -- the port's error was handled, with as many replies as there were before they were put in order
 abbrev at_order : (g : Over) (c : After-issue_where_ready g) → After-sort_replies_from-arg-1 g
@@ -183,7 +183,7 @@ module _ (g : Over) (c : After-issue_where_ready g) (s : ServerState) (h : IsInE
         three = g.A.Adapter.device c.issue_where_ready.new.adapter;
         book = c.issue_where_ready.new.book;
         slots = c.issue_where_ready.new.self.slots;
-        issues = c.issue_where_ready.ensures.issues (restoring.then x y) (lends_anew g (at_order g c) s h);
+        issues = c.issue_where_ready.ensures.issues_all_due (restoring.then x y) (lends_anew g (at_order g c) s h);
         all = c.resolve.new.replies.items;
         its = sorted.0;
         after = c.sort_replies_from.new.replies.items;
@@ -201,18 +201,18 @@ module _ (g : Over) (c : After-issue_where_ready g) (s : ServerState) (h : IsInE
       ≡ with_port_slots (restoring.then x y) (g.A.Adapter.device c.issue_where_ready.new.adapter) c.issue_where_ready.new.book c.issue_where_ready.new.self.slots c.args.port
   placed =
       let three = g.A.Adapter.device c.issue_where_ready.new.adapter in
-      let wanted_is = ap (λ (p : ServedPort). p.wanted) c.issue_where_ready.ensures.only_slots_change ∙ ap (λ (p : ServedPort). p.wanted) (is_anew g (at_order g c)) ∙ ap (λ (p : ServedPort). p.wanted) c.complete_and_recover-failed.ensures.rest in
+      let wanted_is = ap (λ (p : ServedPort). p.wanted) c.issue_where_ready.ensures.only_slots_change ∙ ap (λ (p : ServedPort). p.wanted) (is_anew g (at_order g c)) ∙ ap (λ (p : ServedPort). p.wanted) c.complete_and_recover-failed.ensures.only_slots_change in
       let P : List Lending → PortSlots → ServedPort → ServerState = λ kept slots p. record s {
         device = three;
         table = c.resolve.new.self.table.value;
-        ports = set s.ports c.args.port.0 p.found;
+        probe_results = set s.probe_results c.args.port.0 p.probe_result;
         remembered = set s.remembered c.args.port.0 p.remembered;
         modes = set s.modes c.args.port.0 p.mode;
         slots = set s.slots c.args.port.0 slots;
-        kept = set s.kept c.args.port.0 kept;
+        kept_loans = set s.kept_loans c.args.port.0 kept;
         book = c.issue_where_ready.new.book;
       } in
-      placing.with_other s c.args.port c.args.self.now h.is_settled_with.parts.port_is three shared c.issue_where_ready.new.self wanted_is
+      placing.with_other s c.args.port c.args.self.now h.is_settled_with.has_port_and_shared.port_is three shared c.issue_where_ready.new.self wanted_is
       ∙ ap (λ (p : ServedPort). P p.kept p.slots p) c.issue_where_ready.ensures.only_slots_change
       ∙ ap (P c.resolve.new.kept c.issue_where_ready.new.self.slots) (is_anew g (at_order g c))
       ∙ ap (λ (list : List PortSlots). record (restoring.then x y) { device = three; slots = list; book = c.issue_where_ready.new.book })
@@ -236,6 +236,6 @@ returns-clause-handles g c = λ s h. handled g (goal.at.returns-clause-handles g
 pub returns-clause-room : goal.returns-clause-room
 returns-clause-room g c =
     let same = as_many g (goal.at.returns-clause-room g c).After-issue_where_ready c.requires.sees.0 c.requires.sees.1 in
-    let room = c.resolve.ensures.may.room in
-    let as_many = c.issue_where_ready.ensures.book_length_is_kept in
+    let room = c.resolve.ensures.may.replies_have_room in
+    let as_many = c.issue_where_ready.ensures.book_length_is_unchanged in
     omega (arith, same, room, as_many)

@@ -1,7 +1,7 @@
 use Rattle.std.proofs.Common.{[], ◌∷◌, List, ap, subst, arith}
 use Rattle.ata_types.specs.declared.request.RequestId.{RequestId}
 use Rattle.block_machine.specs.DueRequests.{AreAllDueInOrder}
-use Rattle.request_queue.specs.BookEntries.{BookEntry, BookIsInOrder, unanswered_of, due_ids}
+use Rattle.request_queue.specs.BookEntries.{BookEntry, BookIsWellFormed, unanswered_of, due_ids}
 use Rattle.port_driver.proofs.Batching as batching
 use Rattle.port_driver.proofs.Sending as sending
 use Rattle.port_driver.proofs.served_port.ServedPort.issue_due.Goals as goal
@@ -13,9 +13,9 @@ issue_one-requires-clause-due g c =
     let mode = c.args.self.now.mode in
     let port = c.args.port in
     let id = c.in-Some.id in
-    let order : BookIsInOrder book = subst BookIsInOrder l.book_is l.in_call_invariant.book_is_in_order in
+    let order : BookIsWellFormed book = subst BookIsWellFormed l.book_is l.in_call_invariant.book_is_well_formed in
     let turns : AreAllDueInOrder mode port (id ∷ []) (unanswered_of book) =
-    subst (λ (ids : List RequestId). AreAllDueInOrder mode port ids (unanswered_of book)) c.in-Some.ensures.due (c.law_due_in_turn.ensures mode port (unanswered_of book) (c.law_the_book_stays_in_order.ensures.unanswered_are_in_order book order)) in
+    subst (λ (ids : List RequestId). AreAllDueInOrder mode port ids (unanswered_of book)) c.in-Some.ensures.is_the_only_due (c.law_due_in_turn.ensures mode port (unanswered_of book) (c.law_book_stays_well_formed.ensures.unanswered_are_in_order book order)) in
     sending.next_due book port mode (id ∷ []) 0 id (omega arith) turns
 
 -- no request is left, so none is due
@@ -28,4 +28,4 @@ returns-then-is_empty g c =
 pub returns-in-Some : goal.returns-in-Some
 returns-in-Some g c =
     batching.one_due g.A.Adapter.device g.A.Adapter.access_count c.args.port c.args.self.now c.args.adapter.now c.args.book.now c.requires c.issue_one.new.self c.issue_one.new.adapter c.issue_one.new.book
-    c.in-Some.id c.in-Some.ensures.due c.issue_one.ensures.issues c.issue_one.ensures.rest c.issue_one.ensures.cost
+    c.in-Some.id c.in-Some.ensures.is_the_only_due c.issue_one.ensures.issues c.issue_one.ensures.rest c.issue_one.ensures.cost

@@ -1,7 +1,7 @@
 use Rattle.std.proofs.Common.{◌≡◌, [], ◌∷◌, List, get_or, length, refl, sym, ap, ◌∙◌, subst, arith}
 use Rattle.ata_types.specs.declared.request.RequestId.{RequestId}
 use Rattle.block_machine.specs.DueRequests.{AreAllDueInOrder}
-use Rattle.request_queue.specs.BookEntries.{BookIsInOrder, unanswered_of}
+use Rattle.request_queue.specs.BookEntries.{BookIsWellFormed, unanswered_of}
 use Rattle.port_driver.proofs.Batching as batching
 use Rattle.port_driver.proofs.Sending as sending
 use Rattle.port_driver.proofs.served_port.ServedPort.issue_listed.Goals as goal
@@ -19,9 +19,9 @@ issue_one-requires-clause-due g c =
     let mode = c.args.self.now.mode in
     let port = c.args.port in
     let l = c.requires.has_found_port.1 in
-    let order : BookIsInOrder book = subst BookIsInOrder l.book_is l.in_call_invariant.book_is_in_order in
+    let order : BookIsWellFormed book = subst BookIsWellFormed l.book_is l.in_call_invariant.book_is_well_formed in
     let turns : AreAllDueInOrder mode port c.issuable.new.due.items (unanswered_of book) =
-    subst (λ (ids : List RequestId). AreAllDueInOrder mode port ids (unanswered_of book)) (sym c.issuable.ensures) (c.law_due_in_turn.ensures mode port (unanswered_of book) (c.law_the_book_stays_in_order.ensures.unanswered_are_in_order book order)) in
+    subst (λ (ids : List RequestId). AreAllDueInOrder mode port ids (unanswered_of book)) (sym c.issuable.ensures) (c.law_due_in_turn.ensures mode port (unanswered_of book) (c.law_book_stays_well_formed.ensures.unanswered_are_in_order book order)) in
     subst (λ (ids : List RequestId). sending.IsTurn book port mode (get_or ids 0 d)) (sym c.deref.ensures.0)
     (sending.next_due book port mode c.issuable.new.due.items 0 d (let one = c.in-1.is in let long = c.len.ensures.value in omega (arith, one, long)) turns)
 

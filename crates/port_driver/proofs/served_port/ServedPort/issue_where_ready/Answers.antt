@@ -4,14 +4,14 @@ use Rattle.port_driver.proofs.Sending.{none_issued}
 use Rattle.port_driver.proofs.served_port.ServedPort.issue_where_ready.Goals as goal
 
 pub issue_due-requires : goal.issue_due-requires
-issue_due-requires g c = record { ready = ap state_of c.in-Ready.is; has_found_port = c.requires.lends }
+issue_due-requires g c = record { ready = ap state_of c.in-Ready.is; has_found_port = c.requires.server_has_port }
 
 pub returns-in_default : goal.returns-in_default
 returns-in_default g c = record {
-  issues = λ s l. none_issued c.law_a_port_goes_on_after_its_errors.ensures.undue s (g.A.Adapter.device c.args.adapter.now) c.args.book.now c.args.self.now.slots c.args.port c.args.self.now.mode c.args.self.now.found l c.in_default.not-Ready;
+  issues_all_due = λ s l. none_issued c.law_a_port_goes_on_after_its_errors.ensures.unready_has_none_due s (g.A.Adapter.device c.args.adapter.now) c.args.book.now c.args.self.now.slots c.args.port c.args.self.now.mode c.args.self.now.probe_result l c.in_default.not-Ready;
   only_slots_change = refl;
-  book_length_is_kept = refl;
+  book_length_is_unchanged = refl;
   none_due_no_access = λ none. refl;
-  cost_is_by_due = omega arith;
+  cost_per_due_request = omega arith;
   cost = omega arith;
 }

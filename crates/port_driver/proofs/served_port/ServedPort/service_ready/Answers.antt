@@ -2,7 +2,7 @@ use Rattle.std.proofs.Common.{◌≡◌, ◌≢◌, [], Some, append-nil, refl, 
 use Rattle.ata_types.specs.declared.PortState.TheVariants.{Ready as ReadyState}
 use Rattle.adapter.specs.Device.{Device}
 use Rattle.host_boot.specs.TakeOver.{probe_result_of}
-use Rattle.refinement.specs.Fragments.{AnyUse, IsSimulated}
+use Rattle.refinement.specs.Fragments.{AnySlotStates, IsSimulated}
 use Rattle.server_history.specs.ErrorHandling.{ErrorIsFound}
 use Rattle.server_history.specs.IssuingAndAnswering.{IsMaskOf}
 use Rattle.server_history.specs.ServerState.{InCallInvariant, SettledInvariant, ServerState, slots_at, state_of}
@@ -34,14 +34,14 @@ module _ (g : Over) (c : After-take_event-look g) (s : ServerState) (h : Has g c
   abbrev looked : ServerState
   looked = record s { device = seen }
 
-  ready : state_of (probe_result_of s.ports c.args.port.0) ≡ ReadyState
-  ready = ap state_of h.parts.port_is.found_is ∙ c.requires.ready
+  ready : state_of (probe_result_of s.probe_results c.args.port.0) ≡ ReadyState
+  ready = ap state_of h.has_port_and_shared.port_is.probe_result_is ∙ c.requires.ready
 
   looks : TakesEvent c.args.port c.take_event-look.result s.device seen
-  looks = subst (λ (d : Device). TakesEvent c.args.port c.take_event-look.result d seen) (sym h.parts.device_is) c.take_event-look.ensures.looks
+  looks = subst (λ (d : Device). TakesEvent c.args.port c.take_event-look.result d seen) (sym h.has_port_and_shared.device_is) c.take_event-look.ensures.looks
 
-  followed : IsSimulated (IsEventAccess c.args.port) AnyUse s.device seen
-  followed = subst (λ (d : Device). IsSimulated (IsEventAccess c.args.port) AnyUse d seen) (sym h.parts.device_is) c.take_event-look.ensures.followed
+  followed : IsSimulated (IsEventAccess c.args.port) AnySlotStates s.device seen
+  followed = subst (λ (d : Device). IsSimulated (IsEventAccess c.args.port) AnySlotStates d seen) (sym h.has_port_and_shared.device_is) c.take_event-look.ensures.followed
 
   looked_settled : SettledInvariant looked
   looked_settled = record {
@@ -52,8 +52,8 @@ module _ (g : Over) (c : After-take_event-look g) (s : ServerState) (h : Has g c
   -- the port is as it was; only the device is another
   same : (device : Device) → with_served_port s device c.args.shared.now c.args.port c.args.self.now ≡ record s { device = device }
   same device =
-      placing.with_same s c.args.port c.args.self.now h.parts.port_is device c.args.shared.now
-      ∙ (λ i. record s { device = device; table = sym h.parts.table_is i; book = sym h.parts.book_is i })
+      placing.with_same s c.args.port c.args.self.now h.has_port_and_shared.port_is device c.args.shared.now
+      ∙ (λ i. record s { device = device; table = sym h.has_port_and_shared.table_is i; book = sym h.has_port_and_shared.book_is i })
 
   -- an error that the look tells
   found : (port_error : PortError) → error_of c.take_event-look.result ≡ Some port_error → ErrorIsFound c.args.port port_error s.device seen × (port_error ≢ TimedOut)
@@ -62,7 +62,7 @@ module _ (g : Over) (c : After-take_event-look g) (s : ServerState) (h : Has g c
   in_error : (port_error : PortError) → error_of c.take_event-look.result ≡ Some port_error → IsInError s seen c.args.shared.now c.args.port c.args.self.now port_error
   in_error port_error is = record {
     is_settled_with = placing.on_its_device s c.args.shared.now c.args.port c.args.self.now h;
-    sees_port_error = record { in_call_invariant = h.settled_invariant.in_call_invariant; ready = ready; finds = (found port_error is).0; is_simulated = followed };
+    sees_port_error = record { in_call_invariant = h.settled_invariant.in_call_invariant; ready = ready; error_is_found = (found port_error is).0; is_simulated = followed };
   }
 
 -- ---- it shows trouble
@@ -85,7 +85,7 @@ returns-in-Some-clause-serves g c = λ s h.
 
 -- the mask has the port's slots, and the look told of nothing
 its_mask : (g : Over) (c : After-taken-used g) (s : ServerState) → IsSettledWith s (g.A.Adapter.device c.args.adapter.now) c.args.shared.now c.args.port c.args.self.now → IsMaskOf (slots_at s.slots c.args.port.0) c.taken-used.result
-its_mask g c s h = subst (λ (slots : PortSlots). IsMaskOf slots c.taken-used.result) (sym h.parts.port_is.slots_are) (serving.mask_of c.args.self.now.slots c.taken-used.result c.taken-used.ensures)
+its_mask g c s h = subst (λ (slots : PortSlots). IsMaskOf slots c.taken-used.result) (sym h.has_port_and_shared.port_is.slots_are) (serving.mask_of c.args.self.now.slots c.taken-used.result c.taken-used.ensures)
 
 calm : (g : Over) (c : After-taken-used g) (s : ServerState) → TakesEvent c.args.port c.take_event-look.result s.device (g.A.Adapter.device c.take_event-look.new.adapter) → TakesEvent c.args.port NoEvent s.device (g.A.Adapter.device c.take_event-look.new.adapter)
 calm g c s seen = serving.undisturbed c.take_event-look.result c.error_of.result c.args.port s.device (g.A.Adapter.device c.take_event-look.new.adapter) c.error_of.ensures c.in_default.not-Some seen
@@ -98,14 +98,14 @@ returns-then-used-eq0-clause-serves g c = λ s h.
     subst (TakesTurn (ServicesPort c.args.port) c.args.replies.now.items c.args.replies.now.items s) (sym (same g l s h d)) (record {
       new_replies = [];
       replies_are = sym (append-nil c.args.replies.now.items);
-      turn_is_taken = c.law_a_port_is_served.ensures.idle s d c.args.port h.settled_invariant (ready g l s h) (calm g u s (looks g l s h)) (followed g l s h)
+      turn_is_taken = c.law_a_port_is_served.ensures.no_slot_is_used s d c.args.port h.settled_invariant (ready g l s h) (calm g u s (looks g l s h)) (followed g l s h)
           (subst (IsMaskOf (slots_at s.slots c.args.port.0)) c.if-used-eq0.true (its_mask g u s h));
       settled_invariant = looked_settled g l s h;
     })
 
-pub done-finished-requires-clause-there : goal.done-finished-requires-clause-there
-done-finished-requires-clause-there g c =
-    let l = (goal.at.done-finished-requires-clause-there g c).After-take_event-look in
+pub done-finished-requires-clause-has_port : goal.done-finished-requires-clause-has_port
+done-finished-requires-clause-has_port g c =
+    let l = (goal.at.done-finished-requires-clause-has_port g c).After-take_event-look in
     let h = c.requires.settled in
     ready_there (looked g l h.0 h.1) c.args.port (looked_settled g l h.0 h.1).in_call_invariant (ready g l h.0 h.1)
 
@@ -118,13 +118,13 @@ module _ (g : Over) (c : After-done-finished g) (s : ServerState) (h : IsSettled
   found_settled : SettledInvariant (record s { device = found_device })
   found_settled = record {
     in_call_invariant = c.law_looks_preserve_invariant.ensures.finding (record s { device = g.A.Adapter.device c.take_event-look.new.adapter }) found_device c.args.port c.taken-used.result c.done-finished.result kept
-        (ap state_of h.parts.port_is.found_is ∙ c.requires.ready) c.done-finished.ensures.finds;
+        (ap state_of h.has_port_and_shared.port_is.probe_result_is ∙ c.requires.ready) c.done-finished.ensures.finds;
     nothing_is_due = h.settled_invariant.nothing_is_due;
   }
 
   -- it has the same parts
   found_has : IsSettledWith (record s { device = found_device }) found_device c.args.shared.now c.args.port c.args.self.now
-  found_has = record { settled_invariant = found_settled; parts = record { device_is = refl; table_is = h.parts.table_is; book_is = h.parts.book_is; port_is = placing.on_device s found_device c.args.port.0 c.args.self.now h.parts.port_is } }
+  found_has = record { settled_invariant = found_settled; has_port_and_shared = record { device_is = refl; table_is = h.has_port_and_shared.table_is; book_is = h.has_port_and_shared.book_is; port_is = placing.on_device s found_device c.args.port.0 c.args.self.now h.has_port_and_shared.port_is } }
 
 pub answer_and_issue-requires-clause-settled : goal.answer_and_issue-requires-clause-settled
 answer_and_issue-requires-clause-settled g c =
@@ -138,7 +138,7 @@ answer_and_issue-requires-clause-over g c =
     let u = (goal.at.answer_and_issue-requires-clause-over g c).After-taken-used in
     let l = (goal.at.answer_and_issue-requires-clause-over g c).After-take_event-look in
     let h = c.requires.settled in
-    λ slot small its. c.law_looks_preserve_invariant.ensures.found (looked g l h.0 h.1) (g.A.Adapter.device c.done-finished.new.adapter) c.args.port c.taken-used.result c.done-finished.result slot
+    λ slot small its. c.law_looks_preserve_invariant.ensures.done_slots_are_over (looked g l h.0 h.1) (g.A.Adapter.device c.done-finished.new.adapter) c.args.port c.taken-used.result c.done-finished.result slot
     (looked_settled g l h.0 h.1).in_call_invariant (ready g l h.0 h.1) (its_mask g u h.0 h.1) small c.done-finished.ensures.finds its
 
 pub returns-then-finished-ne0-clause-serves : goal.returns-then-finished-ne0-clause-serves
@@ -151,9 +151,9 @@ returns-then-finished-ne0-clause-serves g c = λ s h.
     record {
       new_replies = turn.new_replies;
       replies_are = turn.replies_are;
-      turn_is_taken = c.law_a_port_is_served.ensures.finished s _ (device c.take_event-look.new.adapter) (device c.done-finished.new.adapter) c.args.port c.taken-used.result c.done-finished.result turn.new_replies
+      turn_is_taken = c.law_a_port_is_served.ensures.some_are_done s _ (device c.take_event-look.new.adapter) (device c.done-finished.new.adapter) c.args.port c.taken-used.result c.done-finished.result turn.new_replies
           h.settled_invariant (ready g l s h) (calm g u s (looks g l s h)) (followed g l s h) (its_mask g u s h)
-          (λ none. c.if-used-eq0.false (serving.zero_of_none c.taken-used.result c.taken-used.type_inv none)) c.done-finished.ensures.finds c.done-finished.ensures.seen
+          (λ none. c.if-used-eq0.false (serving.zero_of_none c.taken-used.result c.taken-used.type_inv none)) c.done-finished.ensures.finds c.done-finished.ensures.finds_each_that_was_clear
           (λ none. c.if-finished-ne0.true (serving.zero_of_none c.done-finished.result c.done-finished.type_inv none)) turn.turn_is_taken;
       settled_invariant = turn.settled_invariant;
     }
@@ -167,9 +167,9 @@ returns-else-finished-ne0-clause-serves g c = λ s h.
     subst (TakesTurn (ServicesPort c.args.port) c.args.replies.now.items c.args.replies.now.items s) (sym (same g l s h (device c.done-finished.new.adapter))) (record {
       new_replies = [];
       replies_are = sym (append-nil c.args.replies.now.items);
-      turn_is_taken = c.law_a_port_is_served.ensures.unfinished s (device c.take_event-look.new.adapter) (device c.done-finished.new.adapter) c.args.port c.taken-used.result
+      turn_is_taken = c.law_a_port_is_served.ensures.none_is_done s (device c.take_event-look.new.adapter) (device c.done-finished.new.adapter) c.args.port c.taken-used.result
           h.settled_invariant (ready g l s h) (calm g u s (looks g l s h)) (followed g l s h) (its_mask g u s h)
-          (λ none. c.if-used-eq0.false (serving.zero_of_none c.taken-used.result c.taken-used.type_inv none)) c.done-finished.result c.done-finished.ensures.finds c.done-finished.ensures.seen
+          (λ none. c.if-used-eq0.false (serving.zero_of_none c.taken-used.result c.taken-used.type_inv none)) c.done-finished.result c.done-finished.ensures.finds c.done-finished.ensures.finds_each_that_was_clear
           (serving.none_of_zero c.done-finished.result c.if-finished-ne0.false);
       settled_invariant = found_settled g d s h (looked_settled g l s h).in_call_invariant;
     })

@@ -20,22 +20,22 @@ returns-in-Unready-clause-turn g c = λ s h.
     (record { new_replies = []; replies_are = sym (append-nil c.args.replies.now.items); turn_is_taken = (refl, probed.0); settled_invariant = probed.1 })
 
 -- no access is made of one that isn't served, or is dead
-pub returns-in-Ready-clause-untouched : goal.returns-in-Ready-clause-untouched
-returns-in-Ready-clause-untouched g c = λ which. ⊎_elim
+pub returns-in-Ready-clause-no_access_if_unserved : goal.returns-in-Ready-clause-no_access_if_unserved
+returns-in-Ready-clause-no_access_if_unserved g c = λ which. ⊎_elim
     (λ unserved. let z : Ready c.in-Ready.field-0 ≡ Unserved = sym c.in-Ready.is ∙ unserved in absurd cc)
     (λ dead. let z : Ready c.in-Ready.field-0 ≡ Unready Dead = sym c.in-Ready.is ∙ dead in absurd cc)
     which
 
-pub returns-in-Unready-clause-untouched : goal.returns-in-Unready-clause-untouched
-returns-in-Unready-clause-untouched g c = λ which. ⊎_elim
+pub returns-in-Unready-clause-no_access_if_unserved : goal.returns-in-Unready-clause-no_access_if_unserved
+returns-in-Unready-clause-no_access_if_unserved g c = λ which. ⊎_elim
     (λ unserved. let z : Unready c.in-Unready.state ≡ Unserved = sym c.in-Unready.is ∙ unserved in absurd cc)
     (λ dead. let z : Unready c.in-Unready.state ≡ Unready Dead = sym c.in-Unready.is ∙ dead in c.probe.ensures.dead cc)
     which
 
 pub returns-in-Unserved-clause-turn : goal.returns-in-Unserved-clause-turn
 returns-in-Unserved-clause-turn g c = λ s h.
-    let same = placing.with_same s c.args.port c.args.self.now h.parts.port_is (g.A.Adapter.device c.args.adapter.now) c.args.shared.now
-    ∙ (λ i. record s { device = sym h.parts.device_is i; table = sym h.parts.table_is i; book = sym h.parts.book_is i }) in
-    subst (λ (x : ServerState). TakesTurn (TurnInService c.args.self.now.found c.args.port) c.args.replies.now.items c.args.replies.now.items s x) (sym same)
+    let same = placing.with_same s c.args.port c.args.self.now h.has_port_and_shared.port_is (g.A.Adapter.device c.args.adapter.now) c.args.shared.now
+    ∙ (λ i. record s { device = sym h.has_port_and_shared.device_is i; table = sym h.has_port_and_shared.table_is i; book = sym h.has_port_and_shared.book_is i }) in
+    subst (λ (x : ServerState). TakesTurn (TurnInService c.args.self.now.probe_result c.args.port) c.args.replies.now.items c.args.replies.now.items s x) (sym same)
     (subst (λ (found : ProbeResult). TakesTurn (TurnInService found c.args.port) c.args.replies.now.items c.args.replies.now.items s s) (sym c.in-Unserved.is)
     (record { new_replies = []; replies_are = sym (append-nil c.args.replies.now.items); turn_is_taken = (refl, refl); settled_invariant = h.settled_invariant }))

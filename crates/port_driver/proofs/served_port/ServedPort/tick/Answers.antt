@@ -2,7 +2,7 @@ use Rattle.std.proofs.Common.{true, false, ◌≡◌, List, [], append-nil, inl,
 use Rattle.std.proofs.lemmas.Bool.{false≢true}
 use Rattle.ata_types.specs.declared.Port.{Port}
 use Rattle.adapter.specs.Device.{Device}
-use Rattle.refinement.specs.Fragments.{AnyUse, IsSimulated}
+use Rattle.refinement.specs.Fragments.{AnySlotStates, IsSimulated}
 use Rattle.port_control.specs.PortEvents.{IsEventAccess}
 use Rattle.identify.specs.declared.DiskInfo.{DiskInfo}
 use Rattle.host_boot.specs.declared.ProbeResult.{ProbeResult}
@@ -23,7 +23,7 @@ use Rattle.port_driver.proofs.served_port.ServedPort.tick.Goals.{In-Ready}
 -- nothing was done
 same : (s : ServerState) (device : Device) (shared : Shared) (port : Port) (p : ServedPort) → IsSettledWith s device shared port p → with_served_port s device shared port p ≡ s
 same s device shared port p h =
-    placing.with_same s port p h.parts.port_is device shared ∙ (λ i. record s { device = sym h.parts.device_is i; table = sym h.parts.table_is i; book = sym h.parts.book_is i })
+    placing.with_same s port p h.has_port_and_shared.port_is device shared ∙ (λ i. record s { device = sym h.has_port_and_shared.device_is i; table = sym h.has_port_and_shared.table_is i; book = sym h.has_port_and_shared.book_is i })
 
 -- a port that isn't ready rests
 rests : (found : ProbeResult) → ((info : DiskInfo) → found ≡ Ready info → ⊥) → (book : List BookEntry) (port : Port) (s : ServerState) → TurnInTick found book port [] s s
@@ -39,16 +39,16 @@ in_error g c s h = record {
   sees_port_error =
       record {
         in_call_invariant = h.settled_invariant.in_call_invariant;
-        ready = ap state_of (h.parts.port_is.found_is ∙ c.in-Ready.is);
-        finds = sym h.parts.device_is;
-        is_simulated = subst (IsSimulated (IsEventAccess c.args.port) AnyUse s.device) h.parts.device_is (c.law_looks_preserve_invariant.ensures.no_look_is_one c.args.port s.device);
+        ready = ap state_of (h.has_port_and_shared.port_is.probe_result_is ∙ c.in-Ready.is);
+        error_is_found = sym h.has_port_and_shared.device_is;
+        is_simulated = subst (IsSimulated (IsEventAccess c.args.port) AnySlotStates s.device) h.has_port_and_shared.device_is (c.law_looks_preserve_invariant.ensures.no_look_is_one c.args.port s.device);
       };
 }
 
 pub returns-in_default-clause-turn : goal.returns-in_default-clause-turn
 returns-in_default-clause-turn g c = λ s book exact h.
-    subst (TakesTurn (TurnInTick c.args.self.now.found book c.args.port) c.args.replies.now.items c.args.replies.now.items s) (sym (same s _ c.args.shared.now c.args.port c.args.self.now h))
-    (record { new_replies = []; replies_are = sym (append-nil c.args.replies.now.items); turn_is_taken = rests c.args.self.now.found c.in_default.not-Ready book c.args.port s; settled_invariant = h.settled_invariant })
+    subst (TakesTurn (TurnInTick c.args.self.now.probe_result book c.args.port) c.args.replies.now.items c.args.replies.now.items s) (sym (same s _ c.args.shared.now c.args.port c.args.self.now h))
+    (record { new_replies = []; replies_are = sym (append-nil c.args.replies.now.items); turn_is_taken = rests c.args.self.now.probe_result c.in_default.not-Ready book c.args.port s; settled_invariant = h.settled_invariant })
 
 pub handle_error-requires-clause-sees : goal.handle_error-requires-clause-sees
 handle_error-requires-clause-sees g c = (c.requires.settled.0, in_error g (goal.at.handle_error-requires-clause-sees g c).In-Ready c.requires.settled.0 c.requires.settled.1)
@@ -57,19 +57,19 @@ pub returns-then-is_overdue-clause-turn : goal.returns-then-is_overdue-clause-tu
 returns-then-is_overdue-clause-turn g c = λ s book exact h.
     let turn = c.handle_error.ensures.handles s (in_error g (goal.at.returns-then-is_overdue-clause-turn g c).In-Ready s h) in
     let r = turn.turn_is_taken in
-    let part = c.law_a_timed_out_port_is_restarted.ensures s _ c.args.port turn.new_replies h.settled_invariant (ap state_of (h.parts.port_is.found_is ∙ c.in-Ready.is)) r.handling r.port_error_is in
+    let part = c.law_a_timed_out_port_is_restarted.ensures s _ c.args.port turn.new_replies h.settled_invariant (ap state_of (h.has_port_and_shared.port_is.probe_result_is ∙ c.in-Ready.is)) r.handling r.port_error_is in
     subst (λ (found : ProbeResult). TakesTurn (TurnInTick found book c.args.port) c.args.replies.now.items c.handle_error.new.replies.items s (with_served_port s (g.A.Adapter.device c.handle_error.new.adapter) c.handle_error.new.shared c.args.port c.handle_error.new.self)) (sym c.in-Ready.is)
     (record { new_replies = turn.new_replies; replies_are = turn.replies_are; turn_is_taken = inl (exact.0 c.if-is_overdue.true, r.handling, r.port_error_is, part.0); settled_invariant = turn.settled_invariant })
 
 -- a ready one of which a request is overdue doesn't rest
-pub returns-then-is_overdue-clause-rests : goal.returns-then-is_overdue-clause-rests
-returns-then-is_overdue-clause-rests g c = λ which. ⊎_elim
+pub returns-then-is_overdue-clause-no_access_if_not_overdue : goal.returns-then-is_overdue-clause-no_access_if_not_overdue
+returns-then-is_overdue-clause-no_access_if_not_overdue g c = λ which. ⊎_elim
     (λ unready. let z : true ≡ false = ap is_ready (sym c.in-Ready.is) ∙ unready in absurd cc)
     (λ young. let z : true ≡ false = sym c.if-is_overdue.true ∙ young in absurd cc)
     which
 
 pub returns-else-is_overdue-clause-turn : goal.returns-else-is_overdue-clause-turn
 returns-else-is_overdue-clause-turn g c = λ s book exact h.
-    subst (TakesTurn (TurnInTick c.args.self.now.found book c.args.port) c.args.replies.now.items c.args.replies.now.items s) (sym (same s _ c.args.shared.now c.args.port c.args.self.now h))
+    subst (TakesTurn (TurnInTick c.args.self.now.probe_result book c.args.port) c.args.replies.now.items c.args.replies.now.items s) (sym (same s _ c.args.shared.now c.args.port c.args.self.now h))
     (subst (λ (found : ProbeResult). TakesTurn (TurnInTick found book c.args.port) c.args.replies.now.items c.args.replies.now.items s s) (sym c.in-Ready.is)
     (record { new_replies = []; replies_are = sym (append-nil c.args.replies.now.items); turn_is_taken = inr (λ due. false≢true (sym c.if-is_overdue.false ∙ exact.1 due), refl, refl); settled_invariant = h.settled_invariant }))

@@ -12,15 +12,15 @@ use Rattle.port_driver.proofs.served_port.Shared.cancel_under_grant.Goals as goa
 
 pub loop-place-init : goal.loop-place-init
 loop-place-init c kept =
-    settling.begins (λ e. Complete Revoked) (filter (λ (e : BookEntry). waits_under c.args.client c.args.number e.entry) c.args.self.now.book) (book_and_loans c.args.self.now.book c.args.self.now.table.value kept) c.args.replies.now.items
-    (settling.of_book (waits_under c.args.client c.args.number) c.args.self.now.book) (settling.passing_ordered (waits_under c.args.client c.args.number) c.args.self.now.book c.requires.sound.book_is_in_order) c.requires
+    settling.begins (λ e. Complete Revoked) (filter (λ (e : BookEntry). waits_under c.args.client c.args.number e.request) c.args.self.now.book) (book_and_loans c.args.self.now.book c.args.self.now.table.value kept) c.args.replies.now.items
+    (settling.of_book (waits_under c.args.client c.args.number) c.args.self.now.book) (settling.passing_ordered (waits_under c.args.client c.args.number) c.args.self.now.book c.requires.book_is_sound.book_is_well_formed) c.requires
 
 pub cancel_revoked_request-requires-clause-may : goal.cancel_revoked_request-requires-clause-may
 cancel_revoked_request-requires-clause-may c = (c.loop-place.invariant []).may
 
 pub cancel_revoked_request-requires-clause-here : goal.cancel_revoked_request-requires-clause-here
 cancel_revoked_request-requires-clause-here c =
-    let all = filter (λ (e : BookEntry). waits_under c.args.client c.args.number e.entry) c.args.self.now.book in
+    let all = filter (λ (e : BookEntry). waits_under c.args.client c.args.number e.request) c.args.self.now.book in
     let n = settling.next_of all c.loop-place.place
     (settling.as_many (waits_under c.args.client c.args.number) c.args.self.now.book c.waiting_ids_under-waiting.result.items c.loop-place.place c.len-place-end.result c.waiting_ids_under-waiting.ensures c.len-place-end.ensures.value c.loop-place-test.true) in (
       n.0,
@@ -30,7 +30,7 @@ cancel_revoked_request-requires-clause-here c =
 
 pub loop-place-preserved : goal.loop-place-preserved
 loop-place-preserved c kept =
-    let all = filter (λ (e : BookEntry). waits_under c.args.client c.args.number e.entry) c.args.self.now.book in
+    let all = filter (λ (e : BookEntry). waits_under c.args.client c.args.number e.request) c.args.self.now.book in
     let start = book_and_loans c.args.self.now.book c.args.self.now.table.value kept in
     let now = book_and_loans c.loop-place.self.book c.loop-place.self.table.value kept in
     let new = book_and_loans c.cancel_revoked_request.new.self.book c.cancel_revoked_request.new.self.table.value kept in
@@ -47,7 +47,7 @@ loop-place-preserved c kept =
 
 pub returns : goal.returns
 returns c = λ kept.
-    let all = filter (λ (e : BookEntry). waits_under c.args.client c.args.number e.entry) c.args.self.now.book in
+    let all = filter (λ (e : BookEntry). waits_under c.args.client c.args.number e.request) c.args.self.now.book in
     let start = book_and_loans c.args.self.now.book c.args.self.now.table.value kept in
     let now = book_and_loans c.loop-place.self.book c.loop-place.self.table.value kept in
     let met = settling.ends (λ e. Complete Revoked) all start c.args.replies.now.items now c.loop-place.replies.items
@@ -55,4 +55,4 @@ returns c = λ kept.
     (drop_all c.loop-place.place all
     (settling.no_more (waits_under c.args.client c.args.number) c.args.self.now.book c.waiting_ids_under-waiting.result.items c.loop-place.place c.len-place-end.result c.waiting_ids_under-waiting.ensures c.len-place-end.ensures.value c.loop-place-test.false))
     (c.loop-place.invariant kept)) in
-    (met.0, met.1, c.law_answers_of_one_outcome_are_one_change.ensures.at_once (waits_under c.args.client c.args.number) Revoked (λ e. refl) start c.requires.sound.book_is_in_order c.requires.sound.requests_are_accepted met.0 now met.2)
+    (met.0, met.1, c.law_answers_of_one_outcome_are_one_change.ensures.at_once (waits_under c.args.client c.args.number) Revoked (λ e. refl) start c.requires.book_is_sound.book_is_well_formed c.requires.book_is_sound.entries_are_well_formed met.0 now met.2)

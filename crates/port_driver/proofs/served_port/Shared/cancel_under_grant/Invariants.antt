@@ -9,5 +9,5 @@ use Rattle.std.proofs.Common.{List}
 use Rattle.port_driver.proofs.served_port.Shared.cancel_under_grant.Given as goal
 
 abbrev pub invariant-loop-place : goal.invariant-loop-place
-invariant-loop-place l = (kept : List Lending) → SoFar (λ e. Complete Revoked) (filter (λ (e : BookEntry). waits_under l.fn.client l.fn.number e.entry) l.fn.self.book) (book_and_loans l.fn.self.book l.fn.self.table.value kept) l.fn.replies.items
-    (drop l.place (filter (λ (e : BookEntry). waits_under l.fn.client l.fn.number e.entry) l.fn.self.book)) (book_and_loans l.self.book l.self.table.value kept) l.replies.items
+invariant-loop-place l = (kept : List Lending) → SoFar (λ e. Complete Revoked) (filter (λ (e : BookEntry). waits_under l.fn.client l.fn.number e.request) l.fn.self.book) (book_and_loans l.fn.self.book l.fn.self.table.value kept) l.fn.replies.items
+    (drop l.place (filter (λ (e : BookEntry). waits_under l.fn.client l.fn.number e.request) l.fn.self.book)) (book_and_loans l.self.book l.self.table.value kept) l.replies.items

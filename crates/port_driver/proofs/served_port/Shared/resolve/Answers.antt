@@ -11,9 +11,9 @@ use Rattle.port_driver.proofs.served_port.Shared.resolve.Goals as goal
 
 pub loop-place-init : goal.loop-place-init
 loop-place-init c = (
-  settling.begins (disposition_of c.args.failed.now c.args.revalidation) (filter (λ (e : BookEntry). is_of_port c.args.port e.entry) c.args.self.now.book) (book_and_loans c.args.self.now.book c.args.self.now.table.value c.args.kept.now) c.args.replies.now.items
-      (settling.of_book (is_of_port c.args.port) c.args.self.now.book) (settling.passing_ordered (is_of_port c.args.port) c.args.self.now.book c.requires.may.sound.book_is_in_order) c.requires.may,
-  c.requires.places,
+  settling.begins (disposition_of c.args.stopped.now.failed c.args.stopped.now.revalidation) (filter (λ (e : BookEntry). is_of_port c.args.port e.request) c.args.self.now.book) (book_and_loans c.args.self.now.book c.args.self.now.table.value c.args.kept.now) c.args.replies.now.items
+      (settling.of_book (is_of_port c.args.port) c.args.self.now.book) (settling.passing_ordered (is_of_port c.args.port) c.args.self.now.book c.requires.all_may_be_answered.book_is_sound.book_is_well_formed) c.requires.all_may_be_answered,
+  c.requires.loans_have_room,
 )
 
 pub resolve_one-requires-clause-may : goal.resolve_one-requires-clause-may
@@ -21,7 +21,7 @@ resolve_one-requires-clause-may c = c.loop-place.invariant.0.may
 
 pub resolve_one-requires-clause-here : goal.resolve_one-requires-clause-here
 resolve_one-requires-clause-here c =
-    let all = filter (λ (e : BookEntry). is_of_port c.args.port e.entry) c.args.self.now.book in
+    let all = filter (λ (e : BookEntry). is_of_port c.args.port e.request) c.args.self.now.book in
     let n = settling.next_of all c.loop-place.place (settling.as_many (is_of_port c.args.port) c.args.self.now.book c.ids_of-ids.result.items c.loop-place.place c.len-place-end.result c.ids_of-ids.ensures c.len-place-end.ensures.value c.loop-place-test.true) in
     let f = c.loop-place.invariant.0 in (
       n.0,
@@ -33,11 +33,11 @@ resolve_one-requires-clause-here c =
 pub loop-place-preserved : goal.loop-place-preserved
 loop-place-preserved c =
     let port = c.args.port in
-    let all = filter (λ (e : BookEntry). is_of_port port e.entry) c.args.self.now.book in
+    let all = filter (λ (e : BookEntry). is_of_port port e.request) c.args.self.now.book in
     let start = book_and_loans c.args.self.now.book c.args.self.now.table.value c.args.kept.now in
     let now = book_and_loans c.loop-place.self.book c.loop-place.self.table.value c.loop-place.kept in
     let new = book_and_loans c.resolve_one.new.self.book c.resolve_one.new.self.table.value c.resolve_one.new.kept in
-    let disposition = disposition_of c.args.failed.now c.args.revalidation in
+    let disposition = disposition_of c.args.stopped.now.failed c.args.stopped.now.revalidation in
     let left = drop (c.loop-place.place + 1) all in
     let n = settling.next_of all c.loop-place.place (settling.as_many (is_of_port port) c.args.self.now.book c.ids_of-ids.result.items c.loop-place.place c.len-place-end.result c.ids_of-ids.ensures c.len-place-end.ensures.value c.loop-place-test.true) in
     let f : settling.SoFar disposition all start c.args.replies.now.items (n.0 ∷ left) now c.loop-place.replies.items =
@@ -52,8 +52,8 @@ loop-place-preserved c =
 
 pub returns-clause-resolves : goal.returns-clause-resolves
 returns-clause-resolves c =
-    let all = filter (λ (e : BookEntry). is_of_port c.args.port e.entry) c.args.self.now.book in
-    let disposition = disposition_of c.args.failed.now c.args.revalidation in
+    let all = filter (λ (e : BookEntry). is_of_port c.args.port e.request) c.args.self.now.book in
+    let disposition = disposition_of c.args.stopped.now.failed c.args.stopped.now.revalidation in
     let start = book_and_loans c.args.self.now.book c.args.self.now.table.value c.args.kept.now in
     let now = book_and_loans c.loop-place.self.book c.loop-place.self.table.value c.loop-place.kept in
     settling.ends disposition all start c.args.replies.now.items now c.loop-place.replies.items

@@ -7,6 +7,6 @@ use Rattle.port_driver.proofs.served_port.Shared.resolve.Given as goal
 
 abbrev pub invariant-loop-place : goal.invariant-loop-place
 invariant-loop-place l =
-    SoFar (disposition_of l.failed l.revalidation) (filter (λ (e : BookEntry). is_of_port l.fn.port e.entry) l.fn.self.book) (book_and_loans l.fn.self.book l.fn.self.table.value l.fn.kept) l.fn.replies.items
-    (drop l.place (filter (λ (e : BookEntry). is_of_port l.fn.port e.entry) l.fn.self.book)) (book_and_loans l.self.book l.self.table.value l.kept) l.replies.items
-    × HaveLoanRoom (drop l.place (filter (λ (e : BookEntry). is_of_port l.fn.port e.entry) l.fn.self.book)) l.kept
+    SoFar (disposition_of l.stopped.failed l.stopped.revalidation) (filter (λ (e : BookEntry). is_of_port l.fn.port e.request) l.fn.self.book) (book_and_loans l.fn.self.book l.fn.self.table.value l.fn.kept) l.fn.replies.items
+    (drop l.place (filter (λ (e : BookEntry). is_of_port l.fn.port e.request) l.fn.self.book)) (book_and_loans l.self.book l.self.table.value l.kept) l.replies.items
+    × HaveLoanRoom (drop l.place (filter (λ (e : BookEntry). is_of_port l.fn.port e.request) l.fn.self.book)) l.kept

@@ -25,11 +25,11 @@ invariant_of-self c =
 
 pub returns-clause-entry : goal.returns-clause-entry
 returns-clause-entry c =
-    subst (λ (es : List BookEntry). Contains es (record { entry = c.remove.result.0; frames = c.remove.result.1.frames })) c.self.view_is
-    (there c.self.inside.store c.place_of-place.result (record { entry = c.remove.result.0; frames = c.remove.result.1.frames }) c.remove.ensures.entry)
+    subst (λ (es : List BookEntry). Contains es (record { request = c.remove.result.0; frames = c.remove.result.1.frames })) c.self.view_is
+    (there c.self.inside.store c.place_of-place.result (record { request = c.remove.result.0; frames = c.remove.result.1.frames }) c.remove.ensures.entry)
 
-pub returns-clause-rest : goal.returns-clause-rest
-returns-clause-rest c =
+pub returns-clause-request_left_book : goal.returns-clause-request_left_book
+returns-clause-request_left_book c =
     let found = c.place_of-place.ensures in
     beside.is_without c.self.inside.store c.place_of-place.result c.args.id found.0 c.self.invariant.0 found.1 found.2 c.remove.new.self c.remove.ensures.rest
     ∙ ap (λ (es : List BookEntry). without_entry c.args.id es) c.self.view_is

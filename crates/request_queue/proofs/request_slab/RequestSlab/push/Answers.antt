@@ -20,11 +20,11 @@ invariant_of-self c =
       omega (arith, c.push_reserved.ensures.capacity, c.self.invariant.1),
     )
 
-pub returns-clause-last : goal.returns-clause-last
-returns-clause-last c =
+pub returns-clause-request_is_appended : goal.returns-clause-request_is_appended
+returns-clause-request_is_appended c =
     let e = c.insert_reserved-key.ensures in
     let sound = c.self.invariant.0 in
     let within : c.insert_reserved-key.result < length c.self.inside.loans.items = omega (arith, e.key_in_range, e.capacity, sound.one_loan_place_a_key) in
     rw (c.lend_at.ensures.held, c.push_reserved.ensures.items)
     (entries_more _ _ _ _ _ sound c.args.request (begun c.args.frames.now c.args.request.id) e.was_vacant e.updates within refl
-    ∙ ap (λ (es : List BookEntry). es ++ record { entry = c.args.request; frames = c.args.frames.now } ∷ []) c.self.view_is)
+    ∙ ap (λ (es : List BookEntry). es ++ record { request = c.args.request; frames = c.args.frames.now } ∷ []) c.self.view_is)

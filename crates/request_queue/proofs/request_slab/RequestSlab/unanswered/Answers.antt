@@ -9,6 +9,6 @@ use Rattle.request_queue.proofs.request_slab.RequestSlab.unanswered.Goals as goa
 
 pub returns : goal.returns
 returns c =
-    let rs : List PendingRequest = map (λ (e : BookEntry). e.entry) c.args.self.now in
-    ap (λ (xs : List Unanswered). slice_get xs c.args.place) (sym (map-map as_unanswered (λ (e : BookEntry). e.entry) c.args.self.now))
-    ∙ (slice_get-map as_unanswered rs c.args.place ∙ (rw c.request.ensures (λ j. Some (as_unanswered c.request.result)) ∙ ap Some (sym c.unanswered_of.ensures)))
+    let rs : List PendingRequest = map (λ (e : BookEntry). e.request) c.args.self.now in
+    ap (λ (xs : List Unanswered). slice_get xs c.args.place) (sym (map-map as_unanswered (λ (e : BookEntry). e.request) c.args.self.now))
+    ∙ (slice_get-map as_unanswered rs c.args.place ∙ (rw c.request.ensures (λ j. Some (as_unanswered c.request.result)) ∙ ap Some (sym c.as_unanswered.ensures)))

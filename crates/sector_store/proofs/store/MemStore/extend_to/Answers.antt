@@ -17,4 +17,8 @@ loop-sector-preserved c =
       search rules,
       zero_written now.size now.written.items c.push_reserved.new.self.items c.push_reserved.ensures.items (search rules)
           ∙ c.loop-sector.invariant.2,
+      search rules,
     )
+
+pub returns-clause-extends_no_further : goal.returns-clause-extends_no_further
+returns-clause-extends_no_further c = search rules

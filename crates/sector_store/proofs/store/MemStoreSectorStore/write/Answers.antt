@@ -1,7 +1,7 @@
 use Rattle.std.proofs.Common.{◌∙◌, [], Some, List, ℕ, ap, sym, subst, rules, slice_index_or}
 use Rattle.std.proofs.Common.{length-set}
 use Rattle.std.proofs.lemmas.Grind.{get_or_default_zero}
-use Rattle.sector_store.specs.Stores.{AreSectors, followed_by_zeros, replaced}
+use Rattle.sector_store.specs.Stores.{AreSectors, followed_by_zeros, with_sector}
 use Rattle.sector_store.proofs.Sectors.{sector_rewritten, replaced_are_sectors}
 use Rattle.sector_store.proofs.store.MemStoreSectorStore.write.Goals as goal
 
@@ -23,7 +23,7 @@ returns c =
       is_inside = search rules;
       sector_is_replaced = λ _. ap (λ (f : ℕ → List ℕ). Some f)
           (sector_rewritten now.size c.args.sector now.written.items c.args.bytes.now c.extend_to.ensures.there
-          ∙ ap (λ (l : List (List ℕ)). replaced (λ k. slice_index_or l k []) c.args.sector c.args.bytes.now) c.extend_to.ensures.kept);
+          ∙ ap (λ (l : List (List ℕ)). with_sector (λ k. slice_index_or l k []) c.args.sector c.args.bytes.now) c.extend_to.ensures.kept);
       told_is_kept = search rules;
       no_call_fails = search rules;
       failure_is_noted = search rules;

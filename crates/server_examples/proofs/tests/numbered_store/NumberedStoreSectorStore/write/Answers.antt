@@ -1,5 +1,5 @@
 use Rattle.std.proofs.Common.{rules, ℕ, List, Some, ◌+◌, ap, sym, ◌∙◌}
-use Rattle.sector_store.specs.Stores.{replaced}
+use Rattle.sector_store.specs.Stores.{with_sector}
 use Rattle.server_examples.proofs.Numbered.{numbered_clears, numbered_sector}
 use Rattle.server_examples.specs.NumberedSectors.{numbered_sectors}
 use Rattle.server_examples.proofs.tests.numbered_store.NumberedStoreSectorStore.write.Goals as goal
@@ -17,7 +17,7 @@ returns c =
           let cleared = c.is_next.ensures c.if-not-is_next.false in
           ap (λ (f : ℕ → List ℕ). Some f) (
           numbered_clears s.first s.next s.rising
-          ∙ sym (ap (λ (k : ℕ). replaced told k c.args.bytes.now) cleared.0 ∙ ap (λ (bytes : List ℕ). replaced told s.next bytes) cleared.1)
+          ∙ sym (ap (λ (k : ℕ). with_sector told k c.args.bytes.now) cleared.0 ∙ ap (λ (bytes : List ℕ). with_sector told s.next bytes) cleared.1)
           );
       told_is_kept = search rules;
       no_call_fails = search rules;

@@ -1,5 +1,0 @@
-use Rattle.adapter.proofs.Going.{asked_steps}
-use Rattle.adapter.proofs.laws.law_told_steps_are_transitions.Goals as goal
-
-pub returns : goal.returns
-returns c = asked_steps

@@ -1,5 +1,0 @@
-use Rattle.block_machine.proofs.Runs.{law_read_holds_expected}
-use Rattle.block_machine.proofs.laws.law_read_holds_expected.Goals as goal
-
-pub returns : goal.returns
-returns c = law_read_holds_expected

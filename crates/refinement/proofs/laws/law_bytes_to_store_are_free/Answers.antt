@@ -1,5 +1,0 @@
-use Rattle.refinement.proofs.driver.PermittedAccesses.{stores_are_free}
-use Rattle.refinement.proofs.laws.law_bytes_to_store_are_free.Goals as goal
-
-pub returns : goal.returns
-returns c = stores_are_free c.law_prerequisites.ensures

@@ -1,5 +1,0 @@
-use Rattle.refinement.proofs.steps.WaitingRequests.{steps_may}
-use Rattle.refinement.proofs.laws.law_due_stays.Goals as goal
-
-pub returns : goal.returns
-returns c = steps_may

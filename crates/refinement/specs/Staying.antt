@@ -1,0 +1,41 @@
+-- What of a port stays over what the device does, and over accesses (this project's own).
+use Rattle.std.specs.Prelude.{ℕ, ◌≡◌}
+use Rattle.ata_types.specs.declared.Port.{Port}
+use Rattle.hba_regs.specs.declared.reg.PortReg.{PortReg}
+use Rattle.hba_regs.specs.declared.reg.PortReg.TheVariants.{Cmd}
+use Rattle.hba_regs.specs.declared.reg.Reg.{Reg}
+use Rattle.hba_regs.specs.declared.reg.Reg.TheVariants.{Px}
+use Rattle.adapter.specs.Access.{Access, Does, Reads, Writes}
+use Rattle.adapter.specs.Device.{Device, DevicePort}
+use Rattle.adapter.specs.Rules.{IsStable, MayWrite}
+use Rattle.adapter.specs.Steps.{Steps}
+use Rattle.block_machine.specs.Histories.{IsReachable}
+use Rattle.block_machine.specs.State.{Machine}
+use Rattle.refinement.specs.PreservedParts.{DoesNotWrite}
+use Rattle.refinement.specs.Relation.{StateRelation}
+use Rattle.refinement.specs.Slots.{SlotStates}
+
+-- whatever the device does
+abbrev pub StaysOverSteps : (DevicePort → Type 0) → Type 0
+StaysOverSteps P = (port : ℕ) (old new : Device) → Steps old new → P (old.port port) → P (new.port port)
+
+-- over readings
+abbrev pub StaysOverReadings : (DevicePort → Type 0) → Type 0
+StaysOverReadings P = (port : ℕ) (r : Reg) (v : ℕ) (old new : Device) → Reads r v old new → P (old.port port)
+    → P (new.port port)
+
+-- over each write that may be made, if what is written to the port's PxCMD is such a value
+abbrev pub StaysOverWrites : (ℕ → Type 0) → (DevicePort → Type 0) → Type 0
+StaysOverWrites IsWritten P = (port : Port) (r : Reg) (v : ℕ) (old new : Device) → IsStable (MayWrite r v) old
+    → (r ≡ Px port Cmd → IsWritten v) → Writes r v old new → P (old.port port.0) → P (new.port port.0)
+
+-- whatever the device does, where a reachable machine agrees with it
+abbrev pub StaysInAgreement : (DevicePort → Type 0) → Type 0
+StaysInAgreement P = (uses : SlotStates) (m : Machine) (port : ℕ) (old new : Device) → IsReachable m
+    → StateRelation uses m old → Steps old new → P (old.port port) → P (new.port port)
+
+-- over each access that doesn't write this register of the port, where a reachable machine agrees with the device
+abbrev pub StaysUnlessWritten : PortReg → (DevicePort → Type 0) → Type 0
+StaysUnlessWritten r P = (uses : SlotStates) (m : Machine) (port : Port) (access : Access) (old new : Device)
+    → IsReachable m → StateRelation uses m old → DoesNotWrite (Px port r) access → Does access old new
+    → P (old.port port.0) → P (new.port port.0)

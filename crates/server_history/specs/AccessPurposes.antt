@@ -1,0 +1,22 @@
+-- The kinds of accesses of a port's turn, for the laws on fragments.
+use Rattle.ata_types.specs.declared.Port.{Port}
+use Rattle.adapter.specs.Access.{Access}
+use Rattle.commands.specs.Masks.{ReadsCiOrSact}
+use Rattle.port_control.specs.PortEvents.{IsEventAccess}
+use Rattle.port_control.specs.ServiceAccesses.{IsServiceAccess}
+use Rattle.refinement.specs.Fragments.{AnySlotStates}
+use Rattle.refinement.specs.Slots.{SlotStates}
+
+-- a port is looked at, or what it has issued is looked for; or ports are served by both
+pub data AccessPurpose : Type 0 where
+  Looking : Port → AccessPurpose
+  ReadingMasks : Port → AccessPurpose
+  Serving : AccessPurpose
+
+abbrev pub accesses_for : AccessPurpose → Access → Type 0
+accesses_for (Looking port) = IsEventAccess port
+accesses_for (ReadingMasks port) = ReadsCiOrSact port
+accesses_for Serving = IsServiceAccess
+
+abbrev pub slot_uses_for : AccessPurpose → SlotStates → Type 0
+slot_uses_for kind = AnySlotStates
