@@ -70,7 +70,7 @@ KeepsOverStepsOutsideReset-trans a b = record {
 }
 
 pub steps_keep_all : {old new : Device} → old.hr ≡ false → Steps old new → KeepsOverStepsOutsideReset old new
-steps_keep_all h steps = let k = law_step_lists_keep_what_steps_keep steps in record { memory_size = k.memory_size_is_kept; cap_is_kept = k.cap_is_kept; pi_is_kept = k.pi_is_kept; keeps_outside_reset = k.keeps_outside_reset h; ports_keep_what_steps_keep = k.ports_are_kept }
+steps_keep_all h steps = let k = law_step_lists_keep_what_steps_keep steps in record { memory_size = k.memory_size_is_kept; cap_is_kept = k.cap_is_kept; pi_is_kept = k.pi_is_kept; keeps_outside_reset = k.keeps_outside_reset h; ports_keep_what_steps_keep = k.port_bits_only_fall }
 
 module _ (port : Port) (r : PortReg) (v : ℕ) (old new : Device) (call : Reads (Px port r) v old new) (h : old.hr ≡ false) where
   kept : KeepsOverSteps old call.at_access

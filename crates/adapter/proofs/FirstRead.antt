@@ -8,7 +8,7 @@ use Rattle.adapter.specs.Memory.{patched, bytes_at, changed}
 use Rattle.adapter.specs.Device.{Disk, IsValidSector, HasValidSectors, HasKnownSectors, DevicePort, Device}
 use Rattle.adapter.specs.FirstRead.{header_bytes, command_fis_bytes, prd_bytes, first_memory, first_disk_sector, first_disk, no_disk, empty_port, reading_port, first_read_device}
 use Rattle.adapter.specs.Idle.{IsIdlePort, HoldsBytesAndTellsDisks}
-use Rattle.adapter.specs.OneCommand.{HasOneCommand, SaysCommand, CommandLayout, layout_of, is_in_span, is_in_pieces, is_read_only, is_device_writable, is_not_device_writable, IsOutsideCommand}
+use Rattle.adapter.specs.OneCommand.{HasOneCommand, SlotDecodesToCommand, CommandLayout, layout_of, is_in_span, is_in_pieces, is_read_only, is_device_writable, is_not_device_writable, IsOutsideCommand}
 use Rattle.adapter.specs.ReadDone.{read_of, IsReadDone}
 use Rattle.adapter.specs.Rules.{IsUnowned, IsStable}
 use Rattle.adapter.specs.Decoding.{DecodesTo, IsWholePieces, piece_addresses}
@@ -134,7 +134,7 @@ pub first_sane : HoldsBytesAndTellsDisks first_read_device
 first_sane = record {
   memory_holds_bytes = first_small;
   disks_hold_sectors = changed_each (λ _. empty_port) 0 reading_port (λ q p. HasValidSectors p.disk) (told_sectors first_disk first_disk_sector refl (λ k small. sector_is k small)) (λ q. told_sectors no_disk (λ k. []) refl (λ k small. absurd (omega arith)));
-  disks_are_told = λ _. changed_each (λ _. empty_port) 0 reading_port (λ q p. HasKnownSectors p.disk) (first_disk_sector, refl) (λ q. (λ k. [], refl));
+  disks_are_known_if_telling = λ _. changed_each (λ _. empty_port) 0 reading_port (λ q p. HasKnownSectors p.disk) (first_disk_sector, refl) (λ q. (λ k. [], refl));
 }
 
 -- ---- tests of bytes
@@ -155,7 +155,7 @@ pieces_no first (suc n) at (inr past) = rw (from_no first 512 at (inr (omega (ar
 
 -- ---- the one command
 
-command : SaysCommand first_read_device 0 0
+command : SlotDecodesToCommand first_read_device 0 0
 unfolding changed
 command = record { meaning = read_of 100 8; places = piece_addresses 0x64000 8; says = first_says }
 

@@ -40,7 +40,7 @@ module _ (Tables Kept : ℕ → Type 0) (at n : ℕ) where
         kept = apart.kept;
         no_table = apart.no_table;
         no_header = λ port slot a used low high from to.
-            let p : PortBitsOnlyFall (old.port port) (mid.port port) = k.ports_are_kept port in
+            let p : PortBitsOnlyFall (old.port port) (mid.port port) = k.port_bits_only_fall port in
             let list = ap (λ (b : Bases). b.clb) p.bases_are_kept in
             apart.no_header port slot a (in_use_before (old.port port) (mid.port port) p slot used) low high (omega (arith, list, from)) (omega (arith, list, to));
       }

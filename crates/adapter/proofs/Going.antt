@@ -57,7 +57,7 @@ fault_steps port slot error kept old new f =
 -- a command failed after some steps, or none
 fails_steps : (Part : Device → Device → Type 0) → ((old new : Device) → Part old new → Steps old new) → (port slot : ℕ) (old new : Device) →
     FailsAfter MayPost Part port slot old new → Steps old new
-fails_steps Part steps port slot old new f = Steps-trans (before f.part_is_done) (fault_steps port slot f.error 0 f.after_part new f.fails)
+fails_steps Part steps port slot old new f = Steps-trans (before f.part_is_done_or_nothing) (fault_steps port slot f.error 0 f.after_part new f.fails)
   where
     before : (f.after_part ≡ old) ⊎ Part old f.after_part → Steps old f.after_part
     before (inl same) = let P : Device → Type 0 = λ d. Steps old d in subst P (sym same) (Steps-refl old)

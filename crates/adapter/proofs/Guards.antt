@@ -125,7 +125,7 @@ module _ (Tables Kept : ℕ → Type 0) (d : Device) (g : IsGuarded Tables Kept 
       record {
         tables_are_kept = g.tables_are_kept;
         ports_are_guarded = λ q.
-            let k : PortBitsOnlyFall (d.port q) ((device_after step d).port q) = all.ports_are_kept q in
+            let k : PortBitsOnlyFall (d.port q) ((device_after step d).port q) = all.port_bits_only_fall q in
             let p : IsGuardedPort Tables Kept d.memory (d.port q) = g.ports_are_guarded q in
             record {
               slots_are_guarded = λ slot used.

@@ -52,8 +52,8 @@ still old new (bases, st, fre, cr, fr, ci, sact, taken) =
       fr_stays_clear = λ h. fr ∙ h;
       ci_stays_clear = λ k h. ap (λ (f : ℕ → Bool). f k) ci ∙ h;
       sact_stays_clear = λ k h. ap (λ (f : ℕ → Bool). f k) sact ∙ h;
-      stays_without_commands = λ quiet none slot. at slot ∙ none slot;
-      fall_drops_commands = λ ran quiet. true-false ran (sym cr ∙ quiet);
+      none_stays_taken_while_cr_is_clear = λ quiet none slot. at slot ∙ none slot;
+      cr_fall_drops_taken_commands = λ ran quiet. true-false ran (sym cr ∙ quiet);
       slots_stay_free = λ slot unset none. at slot ∙ none;
     }
 
@@ -116,8 +116,8 @@ worked p slot t u new running is (bases, st, fre, cr, fr, ci, sact, taken) = rec
   fr_stays_clear = λ h. fr ∙ h;
   ci_stays_clear = λ k h. ap (λ (f : ℕ → Bool). f k) ci ∙ h;
   sact_stays_clear = λ k h. ap (λ (f : ℕ → Bool). f k) sact ∙ h;
-  stays_without_commands = λ quiet. true-false running quiet;
-  fall_drops_commands = λ ran quiet. true-false ran (sym cr ∙ quiet);
+  none_stays_taken_while_cr_is_clear = λ quiet. true-false running quiet;
+  cr_fall_drops_taken_commands = λ ran quiet. true-false ran (sym cr ∙ quiet);
   slots_stay_free = λ k unset none. ap (λ (f : ℕ → Option FetchedCommand). f k) taken ∙ slot_keeps p slot (Some u) (λ _ n. some-none is n) k unset none;
 }
 
@@ -141,7 +141,7 @@ module _ (d : Device) (port : ℕ) (new : DevicePort) (keeps : PortBitsOnlyFall 
     memory_size_is_kept = refl;
     cap_is_kept = refl;
     pi_is_kept = refl;
-    ports_are_kept = ports;
+    port_bits_only_fall = ports;
     notes_are_kept = all_notes;
     new_entries = gained;
     tape_grows = refl;
@@ -154,7 +154,7 @@ module _ (d : Device) (port : ℕ) (new : DevicePort) (keeps : PortBitsOnlyFall 
     memory_size_is_kept = refl;
     cap_is_kept = refl;
     pi_is_kept = refl;
-    ports_are_kept = ports;
+    port_bits_only_fall = ports;
     notes_are_kept = all_notes;
     new_entries = [];
     tape_grows = sym (append-nil d.tape);
@@ -167,7 +167,7 @@ Keeps-refl d = record {
   memory_size_is_kept = refl;
   cap_is_kept = refl;
   pi_is_kept = refl;
-  ports_are_kept = λ q. PortBitsOnlyFall-refl (d.port q);
+  port_bits_only_fall = λ q. PortBitsOnlyFall-refl (d.port q);
   notes_are_kept = λ q. refl;
   new_entries = [];
   tape_grows = sym (append-nil d.tape);
@@ -186,8 +186,8 @@ step_keeps (Fetch port slot meaning places) d can =
       fr_stays_clear = λ h. h;
       ci_stays_clear = λ k h. fall_if (is_queued meaning.operation) p.ci slot k h;
       sact_stays_clear = λ k h. h;
-      stays_without_commands = λ quiet. true-false can.working.cr_is_set quiet;
-      fall_drops_commands = λ ran quiet. true-false ran quiet;
+      none_stays_taken_while_cr_is_clear = λ quiet. true-false can.working.cr_is_set quiet;
+      cr_fall_drops_taken_commands = λ ran quiet. true-false ran quiet;
       slots_stay_free = slot_keeps p slot _ (λ unset _. true-false can.fetchable.issued unset);
     })
     (calm _ _ (same_controls p))
@@ -209,8 +209,8 @@ step_keeps (Done port slot flag t) d can =
       fr_stays_clear = λ h. h;
       ci_stays_clear = λ k h. fall_unless (is_queued t.meaning.operation) p.ci slot k h;
       sact_stays_clear = λ k h. fall_if (is_queued t.meaning.operation) p.sact slot k h;
-      stays_without_commands = λ quiet. true-false can.works.working.cr_is_set quiet;
-      fall_drops_commands = λ ran quiet. true-false ran quiet;
+      none_stays_taken_while_cr_is_clear = λ quiet. true-false can.works.working.cr_is_set quiet;
+      cr_fall_drops_taken_commands = λ ran quiet. true-false ran quiet;
       slots_stay_free = slot_keeps p slot None (λ _ _. refl);
     })
     (flagged p flag _ (same_controls (record p { is = changed p.is flag true })))
@@ -229,8 +229,8 @@ step_keeps (Fall port) d can =
       fr_stays_clear = λ h. h;
       ci_stays_clear = λ k h. h;
       sact_stays_clear = λ k h. h;
-      stays_without_commands = λ quiet none slot. refl;
-      fall_drops_commands = λ ran quiet slot. refl;
+      none_stays_taken_while_cr_is_clear = λ quiet none slot. refl;
+      cr_fall_drops_taken_commands = λ ran quiet slot. refl;
       slots_stay_free = λ slot unset none. refl;
     })
     (record {
@@ -255,8 +255,8 @@ step_keeps (FrFall port) d can =
       fr_stays_clear = λ _. refl;
       ci_stays_clear = λ k h. h;
       sact_stays_clear = λ k h. h;
-      stays_without_commands = λ quiet none. none;
-      fall_drops_commands = λ ran quiet. true-false ran quiet;
+      none_stays_taken_while_cr_is_clear = λ quiet none. none;
+      cr_fall_drops_taken_commands = λ ran quiet. true-false ran quiet;
       slots_stay_free = λ slot unset none. none;
     })
     (calm _ _ (same_controls (d.port port)))
@@ -308,7 +308,7 @@ step_keeps ResetEnds d can = record {
   memory_size_is_kept = refl;
   cap_is_kept = refl;
   pi_is_kept = refl;
-  ports_are_kept = λ q. record {
+  port_bits_only_fall = λ q. record {
     bases_are_kept = refl;
     st_stays_clear = λ _. refl;
     fre_stays_clear = λ _. refl;
@@ -316,8 +316,8 @@ step_keeps ResetEnds d can = record {
     fr_stays_clear = λ _. refl;
     ci_stays_clear = λ k _. refl;
     sact_stays_clear = λ k _. refl;
-    stays_without_commands = λ quiet none slot. refl;
-    fall_drops_commands = λ ran quiet slot. refl;
+    none_stays_taken_while_cr_is_clear = λ quiet none slot. refl;
+    cr_fall_drops_taken_commands = λ ran quiet slot. refl;
     slots_stay_free = λ slot unset none. refl;
   };
   notes_are_kept = λ q. refl;
@@ -330,7 +330,7 @@ step_keeps (Scribble port slot at bytes) d can = record {
   memory_size_is_kept = refl;
   cap_is_kept = refl;
   pi_is_kept = refl;
-  ports_are_kept = λ q. PortBitsOnlyFall-refl (d.port q);
+  port_bits_only_fall = λ q. PortBitsOnlyFall-refl (d.port q);
   notes_are_kept = λ q. refl;
   new_entries = [];
   tape_grows = sym (append-nil d.tape);
@@ -342,8 +342,8 @@ step_keeps (Scribble port slot at bytes) d can = record {
 module _ {old mid new : DevicePort} (a : PortBitsOnlyFall old mid) (b : PortBitsOnlyFall mid new) where
   -- CR fell in the first part or in the second
   fell_between : (cr : Bool) → mid.cr ≡ cr → old.cr ≡ true → new.cr ≡ false → (slot : ℕ) → new.taken slot ≡ None
-  fell_between true is ran quiet = b.fall_drops_commands is quiet
-  fell_between false is ran quiet = b.stays_without_commands is (a.fall_drops_commands ran is)
+  fell_between true is ran quiet = b.cr_fall_drops_taken_commands is quiet
+  fell_between false is ran quiet = b.none_stays_taken_while_cr_is_clear is (a.cr_fall_drops_taken_commands ran is)
 
   pub PortBitsOnlyFall-trans : PortBitsOnlyFall old new
   PortBitsOnlyFall-trans = record {
@@ -354,8 +354,8 @@ module _ {old mid new : DevicePort} (a : PortBitsOnlyFall old mid) (b : PortBits
     fr_stays_clear = λ h. b.fr_stays_clear (a.fr_stays_clear h);
     ci_stays_clear = λ k h. b.ci_stays_clear k (a.ci_stays_clear k h);
     sact_stays_clear = λ k h. b.sact_stays_clear k (a.sact_stays_clear k h);
-    stays_without_commands = λ quiet none. b.stays_without_commands (a.cr_stays_clear quiet) (a.stays_without_commands quiet none);
-    fall_drops_commands = λ ran quiet. fell_between mid.cr refl ran quiet;
+    none_stays_taken_while_cr_is_clear = λ quiet none. b.none_stays_taken_while_cr_is_clear (a.cr_stays_clear quiet) (a.none_stays_taken_while_cr_is_clear quiet none);
+    cr_fall_drops_taken_commands = λ ran quiet. fell_between mid.cr refl ran quiet;
     slots_stay_free = λ slot unset none. b.slots_stay_free slot (a.ci_stays_clear slot unset) (a.slots_stay_free slot unset none);
   }
 
@@ -386,7 +386,7 @@ Keeps-trans {old} {mid} {new} a b = record {
   memory_size_is_kept = b.memory_size_is_kept ∙ a.memory_size_is_kept;
   cap_is_kept = b.cap_is_kept ∙ a.cap_is_kept;
   pi_is_kept = b.pi_is_kept ∙ a.pi_is_kept;
-  ports_are_kept = λ q. PortBitsOnlyFall-trans (a.ports_are_kept q) (b.ports_are_kept q);
+  port_bits_only_fall = λ q. PortBitsOnlyFall-trans (a.port_bits_only_fall q) (b.port_bits_only_fall q);
   notes_are_kept = λ q. b.notes_are_kept q ∙ a.notes_are_kept q;
   new_entries = a.new_entries ++ b.new_entries;
   tape_grows = b.tape_grows ∙ (ap (λ t. t ++ b.new_entries) a.tape_grows ∙ append_assoc old.tape a.new_entries b.new_entries);

@@ -13,7 +13,7 @@ use Rattle.hba_regs.specs.declared.reg.Reg.TheVariants.{Cap, Ghc, Pi, Vs, Cap2, 
 use Rattle.hba_regs.specs.declared.reg.Reg.TheVariants as adapter
 use Rattle.hba_regs.specs.declared.reg.PortReg.{PortReg}
 use Rattle.hba_regs.specs.declared.reg.PortReg.TheVariants.{Clb, Clbu, Fb, Fbu, Is, Ie, Cmd, Tfd, Sig, Ssts, Sctl, Serr, Sact, Ci}
-use Rattle.adapter.specs.Access.{Access, ShowsPending, Does, DoesAll, Reads, Writes, named_cause_bits, is_named_cause, is_pending, named_causes_mask, device_after_reading, port_after_write, raises_cause, raises_interrupt, shown_interrupt, port_after_hba_is_write, port_after_st_write, device_after_write}
+use Rattle.adapter.specs.Access.{Access, ShowsPendingUnlessUnnamedCause, Does, DoesAll, Reads, Writes, named_cause_bits, is_named_cause, is_pending, named_causes_mask, device_after_reading, port_after_write, raises_cause, raises_interrupt, shown_interrupt, port_after_hba_is_write, port_after_st_write, device_after_write}
 use Rattle.adapter.specs.Access.Access.{Reading, Writing, Loading, Storing}
 use Rattle.adapter.specs.Device.{DevicePort, Device}
 use Rattle.adapter.specs.KeptBySteps.{KeepsControlsFlagsRise}
@@ -462,10 +462,10 @@ told_pend port told accesses gained old new its does none spares off tells tape 
 
 -- ---- IS itself
 
-pub pending_shown : (port v : ℕ) (old new : Device) → Reads adapter.Is v old new → HasPort new port → ShowsPending (bit v port) (new.port port)
+pub pending_shown : (port v : ℕ) (old new : Device) → Reads adapter.Is v old new → HasPort new port → ShowsPendingUnlessUnnamedCause (bit v port) (new.port port)
 pending_shown port v old new x has =
     let low = has.0 in
-    subst (λ (d : Device). ShowsPending (bit v port) (d.port port)) (sym x.effect)
+    subst (λ (d : Device). ShowsPendingUnlessUnnamedCause (bit v port) (d.port port)) (sym x.effect)
     (x.shows port (omega (arith, low)) (subst (λ (d : Device). bit d.pi port ≡ true) x.effect has.1))
 
 pub pending_cleared : (port v : ℕ) (old new : Device) → Writes adapter.Is v old new → bit v port ≡ true → is_pending (new.port port) ≡ raises_interrupt (new.port port)

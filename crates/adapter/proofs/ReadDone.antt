@@ -5,7 +5,7 @@ use Rattle.adapter.specs.AskedSteps.{DoesSlotSteps, EndsAndPosts, PostsNone}
 use Rattle.adapter.specs.Memory.{patched, bytes_at, changed}
 use Rattle.adapter.specs.Device.{Disk, IsValidSector, FetchedCommand, Halt, DevicePort, Device}
 use Rattle.adapter.specs.OneCommand.{IsFreeSlot}
-use Rattle.adapter.specs.ReadDone.{read_of, IsReadFetchable, read_move_entries, IsReadDone}
+use Rattle.adapter.specs.ReadDone.{read_of, IsReadThatCanComplete, read_move_entries, IsReadDone}
 use Rattle.adapter.specs.Steps.{device_after, Steps, WorksOn, IsWorking, admits, newly_fetched, MayMove, MayBeDone, port_after_fetch, port_after_move, port_after_done, done_entry, move_of}
 use Rattle.adapter.specs.Steps.DeviceTransition.{Fetch, Move, Done}
 use Rattle.adapter.specs.declared.command.Operation.{Operation}
@@ -26,7 +26,7 @@ still_working p new o read w cr present fresh halt broken = record {
   is_not_broken = broken ∙ w.is_not_broken;
 }
 
-module _ (old : Device) (port slot first count : ℕ) (places : List ℕ) (told : ℕ → List ℕ) (may : IsReadFetchable old port slot first count places told) where
+module _ (old : Device) (port slot first count : ℕ) (places : List ℕ) (told : ℕ → List ℕ) (may : IsReadThatCanComplete old port slot first count places told) where
   -- the command when so many of its pieces were moved
   abbrev command : ℕ → FetchedCommand
   command n = record (newly_fetched (read_of first count) places) { moved = n }

@@ -53,8 +53,8 @@ enables_unnamed_causes ie = not (nat_eq (bit_and ie named_causes_mask) ie)
 
 -- The bit of IS is one where the port's interrupt is pending. Where it isn't, it is zero, unless a cause that isn't
 -- named may have set it.
-abbrev pub ShowsPending : Bool → DevicePort → Type 0
-ShowsPending shown p = (is_pending p ≡ true) ⊎ (p.other_causes ≡ false) → shown ≡ is_pending p
+abbrev pub ShowsPendingUnlessUnnamedCause : Bool → DevicePort → Type 0
+ShowsPendingUnlessUnnamedCause shown p = (is_pending p ≡ true) ⊎ (p.other_causes ≡ false) → shown ≡ is_pending p
 
 abbrev pub PortShows : PortReg → ℕ → DevicePort → Type 0
 PortShows Clb v p = p.bases.clb_set ≡ true → v ≡ p.bases.clb
@@ -78,7 +78,8 @@ Shows Pi v d = v ≡ d.pi
 Shows Vs v d = v ≡ 0x00010301
 Shows Ghc v d = (bit v 0 ≡ d.hr) × (bit v 1 ≡ d.ie) × (bit v 31 ≡ d.ae)
 -- of each port that the adapter has; the other bits may be anything
-Shows adapter.Is v d = (port : ℕ) → port < 32 → bit d.pi port ≡ true → ShowsPending (bit v port) (d.port port)
+Shows adapter.Is v d = (port : ℕ) → port < 32 → bit d.pi port ≡ true
+    → ShowsPendingUnlessUnnamedCause (bit v port) (d.port port)
 Shows (Px port r) v d = PortShows r v (d.port port.0)
 Shows _ v d = Unit {0}
 
@@ -100,7 +101,7 @@ abbrev pub notes_after_reading : PortReg → ℕ → DevicePort → Notes
 notes_after_reading Cmd v p =
     record p.notes {
       last_cmd = v;
-      engine_count = count_after_reading (not p.st && bit v 15 || not p.fre && bit v 14) p.notes.engine_count;
+      engine_wait_count = count_after_reading (not p.st && bit v 15 || not p.fre && bit v 14) p.notes.engine_wait_count;
     }
 notes_after_reading Ssts v p =
     record p.notes {

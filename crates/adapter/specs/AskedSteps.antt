@@ -122,7 +122,7 @@ pub record FailsToDecode (Posts : (port flag : ℕ) → Operation → Device →
 pub record FailsAfter (Posts : (port flag : ℕ) → Operation → Device → Device → Type 0) (Part : Device → Device → Type 0)
     (port slot : ℕ) (old new : Device) : Type 0 where
   pub after_part : Device
-  pub part_is_done : (after_part ≡ old) ⊎ Part old after_part
+  pub part_is_done_or_nothing : (after_part ≡ old) ⊎ Part old after_part
   pub error : ℕ
   pub fails : FailsAndPosts Posts port slot error 0 after_part new
 

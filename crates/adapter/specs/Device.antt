@@ -60,7 +60,7 @@ pub record Notes : Type 0 where
   pub last_sig : ℕ
   pub last_ci : ℕ
   pub last_sact : ℕ
-  pub engine_count : ℕ
+  pub engine_wait_count : ℕ
   pub link_wait_count : ℕ
   pub busy_count : ℕ
   pub slot0_issued_count : ℕ

@@ -13,9 +13,10 @@ pub record PortBitsOnlyFall (old new : DevicePort) : Type 0 where
   pub fr_stays_clear : old.fr ≡ false → new.fr ≡ false
   pub ci_stays_clear : (slot : ℕ) → old.ci slot ≡ false → new.ci slot ≡ false
   pub sact_stays_clear : (slot : ℕ) → old.sact slot ≡ false → new.sact slot ≡ false
-  pub stays_without_commands : old.cr ≡ false → ((slot : ℕ) → old.taken slot ≡ None) → (slot : ℕ) → new.taken slot
+  pub none_stays_taken_while_cr_is_clear : old.cr ≡ false → ((slot : ℕ) → old.taken slot ≡ None) → (slot : ℕ)
+      → new.taken slot
       ≡ None
-  pub fall_drops_commands : old.cr ≡ true → new.cr ≡ false → (slot : ℕ) → new.taken slot ≡ None
+  pub cr_fall_drops_taken_commands : old.cr ≡ true → new.cr ≡ false → (slot : ℕ) → new.taken slot ≡ None
   pub slots_stay_free : (slot : ℕ) → old.ci slot ≡ false → old.taken slot ≡ None → new.taken slot ≡ None
 
 -- While no reset is pending: ST, FRE, SCTL.DET and PxIE are the driver's, flags only rise, what IS has latched stays,
@@ -42,7 +43,7 @@ pub record KeepsOverSteps (old new : Device) : Type 0 where
   pub memory_size_is_kept : new.memory_size ≡ old.memory_size
   pub cap_is_kept : new.cap ≡ old.cap
   pub pi_is_kept : new.pi ≡ old.pi
-  pub ports_are_kept : (port : ℕ) → PortBitsOnlyFall (old.port port) (new.port port)
+  pub port_bits_only_fall : (port : ℕ) → PortBitsOnlyFall (old.port port) (new.port port)
   pub notes_are_kept : (port : ℕ) → (new.port port).notes ≡ (old.port port).notes
   pub new_entries : List Entry
   pub tape_grows : new.tape ≡ old.tape ++ new_entries

@@ -45,12 +45,12 @@ pub record IsFreeSlot (p : DevicePort) (slot : ℕ) : Type 0 where
   pub is_not_taken : p.taken slot ≡ None
 
 -- the slot's bytes say a command
-pub record SaysCommand (d : Device) (port slot : ℕ) : Type 0 where
+pub record SlotDecodesToCommand (d : Device) (port slot : ℕ) : Type 0 where
   pub meaning : Meaning
   pub places : List ℕ
   pub says : DecodesTo d.memory (d.port port).bases.clb slot meaning places
 
-abbrev pub layout_of : (d : Device) (port slot : ℕ) → SaysCommand d port slot → CommandLayout
+abbrev pub layout_of : (d : Device) (port slot : ℕ) → SlotDecodesToCommand d port slot → CommandLayout
 layout_of d port slot c =
     record {
       header = (d.port port).bases.clb + HEADER_BYTES * slot;
@@ -65,7 +65,7 @@ layout_of d port slot c =
 -- all other ports idle.
 pub record HasOneCommand (d : Device) (port slot : ℕ) : Type 0 where
   pub slot_is_used : InUse (d.port port) slot
-  pub command : SaysCommand d port slot
+  pub command : SlotDecodesToCommand d port slot
   pub taken_has_these_places : (t : FetchedCommand) → (d.port port).taken slot ≡ Some t → t.places ≡ command.places
   pub reads_apart_from_writes : (at : ℕ) → is_read_only (layout_of d port slot command) at ≡ true
       → is_not_device_writable (layout_of d port slot command) at ≡ true

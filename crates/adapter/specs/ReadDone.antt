@@ -17,7 +17,8 @@ read_of first count = record { operation = Read; first = first; count = count }
 
 -- A read that may be fetched: each of its sectors is on a disk that tells its sectors, and each of its pieces is in the
 -- memory and apart from the others.
-pub record IsReadFetchable (d : Device) (port slot first count : ℕ) (places : List ℕ) (told : ℕ → List ℕ) : Type 0 where
+pub record IsReadThatCanComplete (d : Device) (port slot first count : ℕ) (places : List ℕ) (told : ℕ
+    → List ℕ) : Type 0 where
   pub may_be_fetched : Can (Fetch port slot (read_of first count) places) d
   pub disk_holds_sectors : HasValidSectors (d.port port).disk
   pub told_is : (d.port port).disk.sectors ≡ Some told

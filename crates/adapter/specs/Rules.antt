@@ -45,7 +45,7 @@ pub record MayStart (p : DevicePort) : Type 0 where
   pub receives : p.fre ≡ true
   pub programmed : IsProgrammed p
   pub link_was_seen : p.notes.last_ssts % 16 ≡ 3
-  pub not_busy : bit p.notes.last_tfd 7 || bit p.notes.last_tfd 3 ≡ false
+  pub last_tfd_was_idle : bit p.notes.last_tfd 7 || bit p.notes.last_tfd 3 ≡ false
 
 -- FRE may be set
 pub record MaySetFre (p : DevicePort) : Type 0 where
@@ -96,12 +96,12 @@ MayWritePort _ v d p = ⊥
 -- A port's bit of IS is cleared only after its PxIS was (AHCI 1.3.1, 5.5.3 and 10.7.2.1). That PxIS was written since
 -- it was last read, and since the bit of IS was written, is this project's own way to say so: what a reading showed may
 -- be stale by then. Another order loses no interrupt, since a cause that is up sets the bit anew.
-abbrev pub AreAcknowledged : Device → ℕ → Type 0
-AreAcknowledged d v = (port : ℕ) → port < 32 → bit v port ≡ true → (d.port port).notes.acknowledged ≡ true
+abbrev pub PxIsWasWrittenOfClearedPorts : Device → ℕ → Type 0
+PxIsWasWrittenOfClearedPorts d v = (port : ℕ) → port < 32 → bit v port ≡ true → (d.port port).notes.acknowledged ≡ true
 
 abbrev pub MayWrite : Reg → ℕ → Device → Type 0
 MayWrite Ghc v d = Unit {0}
-MayWrite adapter.Is v d = IsOn d × AreAcknowledged d v
+MayWrite adapter.Is v d = IsOn d × PxIsWasWrittenOfClearedPorts d v
 MayWrite (Px port r) v d = IsOn d × HasPort d port.0 × MayWritePort r v d (d.port port.0)
 MayWrite _ v d = ⊥
 

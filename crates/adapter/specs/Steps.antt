@@ -215,8 +215,10 @@ abbrev pub lasting_after : Operation → DurableState → Disk → ℕ → Durab
 lasting_after Flush lasting disk here = record { sectors = disk.sectors; tape_length = here }
 lasting_after _ lasting disk here = lasting
 
-abbrev pub port_after_flush : DevicePort → Operation → ℕ → DevicePort
-port_after_flush p operation here = record p { lasting = lasting_after operation p.lasting p.disk here }
+abbrev pub port_with_lasting_after_operation : DevicePort → Operation → ℕ → DevicePort
+port_with_lasting_after_operation p operation here = record p {
+  lasting = lasting_after operation p.lasting p.disk here;
+}
 
 abbrev pub port_after_done : DevicePort → ℕ → ℕ → Operation → DevicePort
 port_after_done p slot flag operation =
@@ -313,8 +315,8 @@ bytes_put_into port k _ = None
 
 -- A disk of the port of which this is lasting held these bytes in its sector k when it last ended a flush, or, if it
 -- ended none, when it was first in; or they were put there since.
-abbrev pub WereHeld : List Entry → DurableState → (port k : ℕ) → List ℕ → Type 0
-WereHeld tape lasting port k bytes = (option_map (λ sectors. sectors k) lasting.sectors ≡ Some bytes)
+abbrev pub WereHeldSinceFlush : List Entry → DurableState → (port k : ℕ) → List ℕ → Type 0
+WereHeldSinceFlush tape lasting port k bytes = (option_map (λ sectors. sectors k) lasting.sectors ≡ Some bytes)
     ⊎ ((entry : Entry) × Contains (drop lasting.tape_length tape) entry × (bytes_put_into port k entry ≡ Some bytes))
 
 -- A disk with the name of the one that was in last is that one. It has as many sectors, and each that both tell is as
@@ -322,7 +324,8 @@ WereHeld tape lasting port k bytes = (option_map (λ sectors. sectors k) lasting
 pub record IsReplugOf (d : Device) (port : ℕ) (disk : Disk) : Type 0 where
   pub size : disk.sector_count ≡ (d.port port).disk.sector_count
   pub holds : (last told : ℕ → List ℕ) → (d.port port).disk.sectors ≡ Some last → disk.sectors ≡ Some told
-      → (k : ℕ) → k < disk.sector_count → (told k ≡ last k) ⊎ WereHeld d.tape (d.port port).lasting port k (told k)
+      → (k : ℕ) → k < disk.sector_count → (told k ≡ last k)
+      ⊎ WereHeldSinceFlush d.tape (d.port port).lasting port k (told k)
 
 -- what is lasting stays so where that disk comes back; of another one it is what it comes with
 abbrev pub lasting_after_plug : DurableState → (last disk : Disk) → ℕ → DurableState
@@ -404,7 +407,8 @@ device_after (Clear port slot t first count) d =
     with_port_and_entry d port (port_after_clear (d.port port) slot t first count) (clear_entry port slot first count)
 device_after (Done port slot flag t) d =
     with_port_and_entry d port
-    (port_after_flush (port_after_done (d.port port) slot flag t.meaning.operation) t.meaning.operation (length d.tape))
+    (port_with_lasting_after_operation (port_after_done
+    (d.port port) slot flag t.meaning.operation) t.meaning.operation (length d.tape))
     (done_entry port slot t.meaning.operation)
 device_after (Fault port slot error kept_bits t) d =
     with_port_and_entry d port (port_after_fault (d.port port) (is_queued t.meaning.operation) error kept_bits)

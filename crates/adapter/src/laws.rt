@@ -2,8 +2,8 @@
 ghost use Rattle.std.specs.Prelude.{◌<◌, ◌≡◌, ◌+◌, ◌*◌, ◌≤◌, ◌++◌, ℕ, Some, Bool, true, false, List, All, Contains, if◌then◌else◌, is_some, length, slice_index};
 ghost use Rattle.ata_types.specs.{declared.Port.{Port}, declared.memory.TheConstants.{FRAME_BYTES, HEADER_BYTES, RECEIVED_FIS_BYTES}};
 ghost use Rattle.hba_regs.specs.{declared.reg.PortReg.{PortReg}, declared.reg.Reg.{Reg}, declared.reg.Reg.TheVariants.{Px}, Bits.{bit}};
-ghost use Rattle.adapter.specs.{declared.access.DeviceStep.{DeviceStep}, Access.{Access, ShowsPending, Does, DoesAll, IsDriven, Reads, Writes, is_named_cause, is_pending, named_causes_mask, raises_interrupt, shown_interrupt, device_after_write}, AskedSteps.{DoesOrFailsStep, IsScribbled, memory_filled}, Commands.{Meaning}, Device.{Device, DevicePort}, FirstRead.{first_read_device, first_disk_sector}};
-ghost use Rattle.adapter.specs.{Guarded.{PassesTest, MissesRange, IsGuarded, IsKeptOutsideTables}, Idle.{IsIdle, HoldsBytesAndTellsDisks}, KeptBySteps.{KeepsOverSteps, KeepsControlsFlagsRise}, Memory.{bytes_at, patched}, OneCommand.{NoneHasCommand, HasOneCommand, IsOutsideCommand, is_read_only, is_not_device_writable, layout_of}, ReadDone.{IsReadDone, IsReadFetchable, read_of}};
+ghost use Rattle.adapter.specs.{declared.access.DeviceStep.{DeviceStep}, Access.{Access, ShowsPendingUnlessUnnamedCause, Does, DoesAll, IsDriven, Reads, Writes, is_named_cause, is_pending, named_causes_mask, raises_interrupt, shown_interrupt, device_after_write}, AskedSteps.{DoesOrFailsStep, IsScribbled, memory_filled}, Commands.{Meaning}, Device.{Device, DevicePort}, FirstRead.{first_read_device, first_disk_sector}};
+ghost use Rattle.adapter.specs.{Guarded.{PassesTest, MissesRange, IsGuarded, IsKeptOutsideTables}, Idle.{IsIdle, HoldsBytesAndTellsDisks}, KeptBySteps.{KeepsOverSteps, KeepsControlsFlagsRise}, Memory.{bytes_at, patched}, OneCommand.{NoneHasCommand, HasOneCommand, IsOutsideCommand, is_read_only, is_not_device_writable, layout_of}, ReadDone.{IsReadDone, IsReadThatCanComplete, read_of}};
 ghost use Rattle.adapter.specs.{PendingInterrupts.{LeavesIe, KeepsIsBit, SetsCause, EnablesNamedCauses, interrupting_port, flush_cause_cleared, flushed, flushing, flush_taken}, Rules.{HasPort, IsOn, IsUnowned, IsStable}, Decoding.{DecodesTo, piece_addresses}, RegisterEffects.{PortRegisterWritten, PortRegisterRead}, Steps.{Can, DeviceTransition, Steps, device_after}, declared.tape.Entry.{Entry}};
 ghost use Rattle.hba_regs.specs.declared.reg.Reg.TheVariants as adapter;
 
@@ -68,7 +68,7 @@ pub fn law_kept_bytes_stay()
 {}
 
 /// Kept bytes that belong to no table and no header in use may be loaded and stored, whatever the device does first.
-pub fn law_apart_bytes_are_free()
+pub fn law_kept_bytes_outside_tables_are_unowned()
     ensures { (tables kept : ℕ → Bool) (at n : ℕ) (d : Device) → IsGuarded (PassesTest tables) (PassesTest kept) d
         → IsKeptOutsideTables (PassesTest tables) (PassesTest kept) at n d → IsStable (IsUnowned at n) d }
 {}
@@ -115,7 +115,7 @@ pub fn law_kept_controls_compose()
 pub fn law_an_enabled_cause_is_pending()
     ensures named { (place : ℕ) → is_named_cause place ≡ true → bit named_causes_mask place ≡ true }
     ensures no_other_is_named { (place : ℕ) → place < 32 → bit named_causes_mask place ≡ is_named_cause place }
-    ensures steps_raise_causes { (step : DeviceTransition) (port place : ℕ) (d : Device) → Can step d
+    ensures steps_raise_named_causes_alone { (step : DeviceTransition) (port place : ℕ) (d : Device) → Can step d
         → SetsCause step port place
         → is_named_cause place ≡ true }
     ensures cause_shown_is_pending { (p : DevicePort) (place : ℕ) → is_named_cause place ≡ true
@@ -135,7 +135,7 @@ pub fn law_a_pending_interrupt_stays()
         → All (KeepsIsBit port) accesses → old.hr ≡ false
         → is_pending (old.port port) ≡ true → is_pending (new.port port) ≡ true }
     ensures is_reading_shows_pending { (port v : ℕ) (old new : Device) → Reads adapter.Is v old new → HasPort new port
-        → ShowsPending (bit v port) (new.port port) }
+        → ShowsPendingUnlessUnnamedCause (bit v port) (new.port port) }
     ensures is_write_leaves_raised { (port v : ℕ) (old new : Device) → Writes adapter.Is v old new → bit v port ≡ true
         → is_pending (new.port port) ≡ raises_interrupt (new.port port) }
 {}
@@ -196,7 +196,7 @@ pub fn law_an_adapter_with_a_command_is_guarded()
 /// where each sector stands in its piece, and the slot is free.
 pub fn law_a_read_can_be_done()
     ensures { (port slot first count : ℕ) (places : List ℕ) (told : ℕ → List ℕ) (old : Device)
-        → IsReadFetchable old port slot first count places told → (new : Device)
+        → IsReadThatCanComplete old port slot first count places told → (new : Device)
         × IsReadDone old new port slot first count places told }
 {}
 

@@ -5,7 +5,7 @@ use Rattle.ata_types.specs.declared.Port.{Port}
 use Rattle.block_machine.specs.State.{Block, DiskBytes, Accepted, Pending, Machine, newly_unanswered, sector_of, block_written}
 use Rattle.block_machine.specs.DueRequests.{are_conflicting, changes_sectors}
 use Rattle.block_machine.specs.Steps.{Step, Accept, Issue, Touch, End, Age, WaitAgain, Answer, Revoke, Release, Unplug, Replace, Store, Load, IsEnabled, after_step, MayStillMove, put_sector, disks_after_touch}
-use Rattle.block_machine.specs.Expected.{plug_count, bytes_when_plugged, IsTouch, HasTouched, ChangedSector, IsLastWritten}
+use Rattle.block_machine.specs.Expected.{plug_count, bytes_when_plugged, IsTouch, HasTouched, ChangedSector, IsLastWrittenOrPluggedIn}
 use Rattle.block_machine.proofs.Sound.{Sound}
 use Rattle.block_machine.proofs.Keeps.{same_port}
 use Rattle.block_machine.proofs.Trace.{Seen, runs_lives, conflict_at, touched_number, last_from}
@@ -15,15 +15,15 @@ abbrev pub AllSeen : Machine → List Step → Type 0
 AllSeen m h = (w : Accepted) (k n : ℕ) → HasTouched w k n h → Seen m w k
 
 abbrev pub Holds : Machine → List Step → Machine → Type 0
-Holds start h m = (port : Port) (k : ℕ) → IsLastWritten start port k (plug_count port h) m.next_id h (m.disk_bytes port k)
+Holds start h m = (port : Port) (k : ℕ) → IsLastWrittenOrPluggedIn start port k (plug_count port h) m.next_id h (m.disk_bytes port k)
 
 -- a step that touches nothing and changes no disk
 content_quiet : (start : Machine) (h : List Step) (m : Machine) (step : Step) (port : Port) (k limit : ℕ) → AllSeen m h
     → ((w : Accepted) → IsTouch step w k → ⊥) → plug_count port (step ∷ h) ≡ plug_count port h → m.next_id ≤ limit
-    → IsLastWritten start port k (plug_count port h) m.next_id h (m.disk_bytes port k)
-    → IsLastWritten start port k (plug_count port (step ∷ h)) limit (step ∷ h) (m.disk_bytes port k)
+    → IsLastWrittenOrPluggedIn start port k (plug_count port h) m.next_id h (m.disk_bytes port k)
+    → IsLastWrittenOrPluggedIn start port k (plug_count port (step ∷ h)) limit (step ∷ h) (m.disk_bytes port k)
 content_quiet start h m step port k limit seen untouched number le last =
-    subst (λ (n : ℕ). IsLastWritten start port k n limit (step ∷ h) (m.disk_bytes port k)) (sym number)
+    subst (λ (n : ℕ). IsLastWrittenOrPluggedIn start port k n limit (step ∷ h) (m.disk_bytes port k)) (sym number)
     (last_from start port k (plug_count port h) m.next_id limit step h (m.disk_bytes port k) (le_refl _)
     (λ w _ _ _ t. untouched w t)
     (λ w o. let b = o.earlier in omega (arith, le, b))
@@ -31,11 +31,11 @@ content_quiet start h m step port k limit seen untouched number le last =
     last)
 
 content_replace : (start : Machine) (h : List Step) (m : Machine) (at : Port) (id size : ℕ) (disk : DiskBytes) (port : Port) (k : ℕ) → AllSeen m h
-    → IsLastWritten start port k (plug_count port h) m.next_id h (m.disk_bytes port k)
-    → IsLastWritten start port k (plug_count port (Replace at id size disk ∷ h)) m.next_id (Replace at id size disk ∷ h) ((after_step m (Replace at id size disk)).disk_bytes port k)
+    → IsLastWrittenOrPluggedIn start port k (plug_count port h) m.next_id h (m.disk_bytes port k)
+    → IsLastWrittenOrPluggedIn start port k (plug_count port (Replace at id size disk ∷ h)) m.next_id (Replace at id size disk ∷ h) ((after_step m (Replace at id size disk)).disk_bytes port k)
 content_replace start h m at id size disk port k seen last = ⊎_elim same other (cases_eq at.0 port.0)
   where
-    same : at.0 ≡ port.0 → IsLastWritten start port k (plug_count port (Replace at id size disk ∷ h)) m.next_id (Replace at id size disk ∷ h) ((after_step m (Replace at id size disk)).disk_bytes port k)
+    same : at.0 ≡ port.0 → IsLastWrittenOrPluggedIn start port k (plug_count port (Replace at id size disk ∷ h)) m.next_id (Replace at id size disk ∷ h) ((after_step m (Replace at id size disk)).disk_bytes port k)
     same e =
         let t : (at.0 == port.0) ≡ true = eq-eqb at.0 port.0 e in
         let t' : (port.0 == at.0) ≡ true = eq-eqb port.0 at.0 (sym e) in
@@ -54,25 +54,25 @@ content_replace start h m at id size disk port k seen last = ⊎_elim same other
           ap (λ (d : DiskBytes). d k) (now ∙ sym put),
         )
 
-    other : (at.0 ≡ port.0 → ⊥) → IsLastWritten start port k (plug_count port (Replace at id size disk ∷ h)) m.next_id (Replace at id size disk ∷ h) ((after_step m (Replace at id size disk)).disk_bytes port k)
+    other : (at.0 ≡ port.0 → ⊥) → IsLastWrittenOrPluggedIn start port k (plug_count port (Replace at id size disk ∷ h)) m.next_id (Replace at id size disk ∷ h) ((after_step m (Replace at id size disk)).disk_bytes port k)
     other ne =
         let f : (at.0 == port.0) ≡ false = ne_eqb at.0 port.0 ne in
         let f' : (port.0 == at.0) ≡ false = ne_eqb port.0 at.0 (λ e. ne (sym e)) in
         let number : plug_count port (Replace at id size disk ∷ h) ≡ plug_count port h = cond-false (at.0 == port.0) (suc (plug_count port h)) (plug_count port h) f in
         let now : (after_step m (Replace at id size disk)).disk_bytes port ≡ m.disk_bytes port = cond-false (port.0 == at.0) disk (m.disk_bytes port) f' in
-        subst (λ (d : DiskBytes). IsLastWritten start port k (plug_count port (Replace at id size disk ∷ h)) m.next_id (Replace at id size disk ∷ h) (d k)) (sym now)
+        subst (λ (d : DiskBytes). IsLastWrittenOrPluggedIn start port k (plug_count port (Replace at id size disk ∷ h)) m.next_id (Replace at id size disk ∷ h) (d k)) (sym now)
         (content_quiet start h m (Replace at id size disk) port k m.next_id seen (λ w t. t) number (le_refl _) last)
 
 content_touch : (start : Machine) (h : List Step) (m : Machine) (e : Pending) (i : ℕ) (block : Block) (port : Port) (k : ℕ) → Sound m → AllSeen m h → MayStillMove m e → i < e.request.asked.count
-    → IsLastWritten start port k (plug_count port h) m.next_id h (m.disk_bytes port k)
-    → IsLastWritten start port k (plug_count port h) m.next_id (Touch e i block ∷ h) (disks_after_touch e.request i m.disk_bytes port k)
+    → IsLastWrittenOrPluggedIn start port k (plug_count port h) m.next_id h (m.disk_bytes port k)
+    → IsLastWrittenOrPluggedIn start port k (plug_count port h) m.next_id (Touch e i block ∷ h) (disks_after_touch e.request i m.disk_bytes port k)
 content_touch start h m e i block port k s seen r lt last = by_op (changes_sectors e.request.asked.op) refl
   where
     -- no writer's touch of this sector
     quiet : (left : Block) → left ≡ m.disk_bytes port k → ((w : Accepted) → changes_sectors w.asked.op ≡ true → w.port ≡ port → IsTouch (Touch e i block) w k → ⊥)
-        → IsLastWritten start port k (plug_count port h) m.next_id (Touch e i block ∷ h) left
+        → IsLastWrittenOrPluggedIn start port k (plug_count port h) m.next_id (Touch e i block ∷ h) left
     quiet left same none =
-        subst (λ (b : Block). IsLastWritten start port k (plug_count port h) m.next_id (Touch e i block ∷ h) b) (sym same)
+        subst (λ (b : Block). IsLastWrittenOrPluggedIn start port k (plug_count port h) m.next_id (Touch e i block ∷ h) b) (sym same)
         (last_from start port k (plug_count port h) m.next_id m.next_id (Touch e i block) h (m.disk_bytes port k) (le_refl _)
         (λ w a b _ t. none w a b t) (λ w o. o.earlier) (λ w o. o.earlier) last)
 
@@ -91,7 +91,7 @@ content_touch start h m e i block port k s seen r lt last = by_op (changes_secto
         o.touched
 
     by_place : changes_sectors e.request.asked.op ≡ true → (b : Bool) → ((port.0 == e.request.port.0) && (k == e.request.asked.first.0 + i)) ≡ b
-        → IsLastWritten start port k (plug_count port h) m.next_id (Touch e i block ∷ h) (put_sector e.request.port (e.request.asked.first.0 + i) (block_written e.request.asked.op e.request.blocks_at_acceptance i) m.disk_bytes port k)
+        → IsLastWrittenOrPluggedIn start port k (plug_count port h) m.next_id (Touch e i block ∷ h) (put_sector e.request.port (e.request.asked.first.0 + i) (block_written e.request.asked.op e.request.blocks_at_acceptance i) m.disk_bytes port k)
     by_place writes true t =
         let p = and_parts (port.0 == e.request.port.0) (k == e.request.asked.first.0 + i) t in
         let here : e.request.port ≡ port = sym (same_port port e.request.port (eqb-true port.0 e.request.port.0 p.0)) in
@@ -112,9 +112,9 @@ content_touch start h m e i block port k s seen r lt last = by_op (changes_secto
         both_ways _ t (and_from _ _ (eq-eqb port.0 e.request.port.0 (ap (λ (q : Port). q.0) port_same)) (eq-eqb k (e.request.asked.first.0 + i) k_same)))
 
     by_op : (b : Bool) → changes_sectors e.request.asked.op ≡ b
-        → IsLastWritten start port k (plug_count port h) m.next_id (Touch e i block ∷ h) (disks_after_touch e.request i m.disk_bytes port k)
+        → IsLastWrittenOrPluggedIn start port k (plug_count port h) m.next_id (Touch e i block ∷ h) (disks_after_touch e.request i m.disk_bytes port k)
     by_op true w =
-        subst (λ (d : Port → DiskBytes). IsLastWritten start port k (plug_count port h) m.next_id (Touch e i block ∷ h) (d port k))
+        subst (λ (d : Port → DiskBytes). IsLastWrittenOrPluggedIn start port k (plug_count port h) m.next_id (Touch e i block ∷ h) (d port k))
         (sym (cond-true (changes_sectors e.request.asked.op) (put_sector e.request.port (e.request.asked.first.0 + i) (block_written e.request.asked.op e.request.blocks_at_acceptance i) m.disk_bytes) m.disk_bytes w))
         (by_place w _ refl)
     by_op false w =

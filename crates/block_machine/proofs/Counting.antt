@@ -57,4 +57,4 @@ unheld mode book r clear o h = none_of (waits_for mode r) book o (not-true _ (an
 
 -- the issued one is due no more
 pub issued_not_due : (mode : QueueMode) (book : List Unanswered) (r : Unanswered) → r.issued ≡ true → IsDue mode book r → ⊥
-issued_not_due mode book r issued d = both_ways _ (not-true _ (and_parts _ _ d.nothing_blocks).0) issued
+issued_not_due mode book r issued d = both_ways _ (not-true _ (and_parts _ _ d.waits_and_nothing_blocks).0) issued

@@ -47,7 +47,7 @@ due_test mode book r here = (to, from)
         let p = and_parts _ _ t in
         record {
           is_in_book = here;
-          nothing_blocks = p.0;
+          waits_and_nothing_blocks = p.0;
           slot_is_left = λ queued. ⊎_elim
               (λ plain. absurd (false≢true (sym queued ∙ plain)))
               (λ few. ltb-true (unblocked_ahead_count mode book r) (free_slots mode book r.port) few)
@@ -55,7 +55,7 @@ due_test mode book r here = (to, from)
         }
 
     from : IsDue mode book r → is_due mode book r ≡ true
-    from d = and_from _ _ d.nothing_blocks (by (is_plain mode r.op) refl)
+    from d = and_from _ _ d.waits_and_nothing_blocks (by (is_plain mode r.op) refl)
       where
         by : (b : Bool) → is_plain mode r.op ≡ b → (is_plain mode r.op || nat_lt (unblocked_ahead_count mode book r) (free_slots mode book r.port)) ≡ true
         by true plain = or_left _ _ plain

@@ -93,7 +93,7 @@ module _ (mode : QueueMode) (book : List Unanswered) (e : Unanswered) (order : O
   here = in_from book e due.is_in_book
 
   waits : e.issued ≡ false
-  waits = not-true _ (and_parts _ _ due.nothing_blocks).0
+  waits = not-true _ (and_parts _ _ due.waits_and_nothing_blocks).0
 
   is_e : (y : Unanswered) → In y book → y.id.0 ≡ e.id.0 → y ≡ e
   is_e y h id = in_order_one book order y e h here id
@@ -108,7 +108,7 @@ module _ (mode : QueueMode) (book : List Unanswered) (e : Unanswered) (order : O
   comes_later : (y : Unanswered) → In y book → (y.id.0 ≡ e.id.0 → ⊥) → (y.port.0 == e.port.0) ≡ true
       → (is_plain mode e.op ≡ true) ⊎ (is_plain mode y.op ≡ true) → e.id.0 < y.id.0
   comes_later y h ne port plain = ⊎_elim
-      (λ (less : y.id.0 < e.id.0). absurd (both_ways _ (unheld mode book e due.nothing_blocks y (from_in y book h)) (holds_if mode e y port (lt-ltb y.id.0 e.id.0 less) plain)))
+      (λ (less : y.id.0 < e.id.0). absurd (both_ways _ (unheld mode book e due.waits_and_nothing_blocks y (from_in y book h)) (holds_if mode e y port (lt-ltb y.id.0 e.id.0 less) plain)))
       (λ (le : e.id.0 ≤ y.id.0). let differ : y.id.0 ≢ e.id.0 = ne in omega arith)
       (cases_lt y.id.0 e.id.0)
 
@@ -157,7 +157,7 @@ module _ (mode : QueueMode) (book : List Unanswered) (e : Unanswered) (order : O
       (λ y h ne. ap new (stays y ne) ∙ ap (λ (b : Bool). is_earlier_on_port y x && b) (clear_same y h ne)) in
       let gone : ◌≡◌ {A = ℕ} (cond (new (mark_issued e.id e)) 1 0) 0 = ap (λ (b : Bool). cond {A = ℕ} b 1 0) (ap new becomes ∙ and_right _ _ refl) in
       let was : ◌≡◌ {A = ℕ} (cond (old e) 1 0) (cond (is_earlier_on_port e x) 1 0) =
-      ap (λ (b : Bool). cond {A = ℕ} b 1 0) (ap (λ (b : Bool). is_earlier_on_port e x && b) due.nothing_blocks ∙ and_true _) in
+      ap (λ (b : Bool). cond {A = ℕ} b 1 0) (ap (λ (b : Bool). is_earlier_on_port e x && b) due.waits_and_nothing_blocks ∙ and_true _) in
       omega (arith, changed, gone, was)
     where
       and_true : (b : Bool) → (b && true) ≡ b
@@ -204,13 +204,13 @@ module _ (mode : QueueMode) (book : List Unanswered) (e : Unanswered) (order : O
   not_plain : (x : Unanswered) → In x book → x.port ≡ e.port → x.id.0 < e.id.0 → is_plain mode e.op ≡ false
   not_plain x h port less = false_from_ne_true _ (λ t.
       let port' : (x.port.0 == e.port.0) ≡ true = eq-eqb x.port.0 e.port.0 (ap (λ (r : Port). r.0) port) in
-      both_ways _ (unheld mode book e due.nothing_blocks x (from_in x book h)) (holds_if mode e x port' (lt-ltb x.id.0 e.id.0 less) (inl t)))
+      both_ways _ (unheld mode book e due.waits_and_nothing_blocks x (from_in x book h)) (holds_if mode e x port' (lt-ltb x.id.0 e.id.0 less) (inl t)))
 
   -- a request of the port that was due still is
   still_due : (x : Unanswered) → (x.id.0 ≡ e.id.0 → ⊥) → x.port ≡ e.port → IsDue mode book x → IsDue mode (with_issued e.id book) x
   still_due x ne port dx = record {
     is_in_book = subst (λ (z : Unanswered). Contains (with_issued e.id book) z) (stays x ne) (into_map (mark_issued e.id) book x dx.is_in_book);
-    nothing_blocks = clear_same x (in_from book x dx.is_in_book) ne ∙ dx.nothing_blocks;
+    waits_and_nothing_blocks = clear_same x (in_from book x dx.is_in_book) ne ∙ dx.waits_and_nothing_blocks;
     slot_is_left = λ queued. ⊎_elim
         (λ (less : e.id.0 < x.id.0).
         let a = ahead_less x in let b = dx.slot_is_left queued in let c = earlier_one x port less in let d = slots_less x port in omega (arith, a, b, c, d))
@@ -219,7 +219,7 @@ module _ (mode : QueueMode) (book : List Unanswered) (e : Unanswered) (order : O
         let less : x.id.0 < e.id.0 = omega (arith, le, differ) in
         let h : In x book = in_from book x dx.is_in_book in
         let a = ahead_less x in
-        let more = fewer_ahead x h dx.nothing_blocks port less in
+        let more = fewer_ahead x h dx.waits_and_nothing_blocks port less in
         let b = due.slot_is_left (not_plain x h port less) in
         let c = later_none x le in
         let d = slots_less x port in
@@ -232,7 +232,7 @@ module _ (mode : QueueMode) (book : List Unanswered) (e : Unanswered) (order : O
   was_due : (x : Unanswered) → Contains book x → (x.id.0 ≡ e.id.0 → ⊥) → x.port ≡ e.port → IsDue mode (with_issued e.id book) x → IsDue mode book x
   was_due x h ne port dx = record {
     is_in_book = h;
-    nothing_blocks = sym (clear_same x (in_from book x h) ne) ∙ dx.nothing_blocks;
+    waits_and_nothing_blocks = sym (clear_same x (in_from book x h) ne) ∙ dx.waits_and_nothing_blocks;
     slot_is_left = λ queued. ⊎_elim
         (λ (less : e.id.0 < x.id.0). let a = ahead_less x in let b = dx.slot_is_left queued in let c = earlier_one x port less in let d = slots_less x port in omega (arith, a, b, c, d))
         (λ (le : x.id.0 ≤ e.id.0). let a = ahead_less x in let b = dx.slot_is_left queued in let c = later_none x le in let d = slots_less x port in omega (arith, a, b, c, d))

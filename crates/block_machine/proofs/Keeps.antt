@@ -47,7 +47,7 @@ same_all es e h = (e, h, refl)
 pub due_order : (mode : QueueMode) (book : List Unanswered) (r a : Unanswered) → IsDue mode book r → Contains book a → a.id.0 < r.id.0 → are_conflicting a r ≡ true → ⊥
 due_order mode book r a due h lt con =
     let port : (a.port.0 == r.port.0) ≡ true = (and_parts _ _ con).0 in
-    let none : list_any (waits_for mode r) book ≡ false = not-true _ (and_parts _ _ due.nothing_blocks).1 in
+    let none : list_any (waits_for mode r) book ≡ false = not-true _ (and_parts _ _ due.waits_and_nothing_blocks).1 in
     let held : waits_for mode r a ≡ false = none_of (waits_for mode r) book a none h in
     let less : ltb a.id.0 r.id.0 ≡ true = lt-ltb a.id.0 r.id.0 lt in
     let holds : waits_for mode r a ≡ true = and_from _ _ port (go (is_plain mode r.op) less) in

@@ -13,7 +13,7 @@ use Rattle.block_machine.specs.DueRequests.{IsDue, IsInOrder, is_plain, issued_c
 use Rattle.block_machine.specs.State.{Accepted, Pending, Machine, frame_at, unanswered}
 use Rattle.block_machine.specs.Steps.{Step, Accept, Issue, Touch, End, Age, WaitAgain, Answer, Revoke, Release, Unplug, Replace, Store, Load, IsEnabled, HoldsFrames, after_step, update_pending, without_pending, newly_issued, touch, mark_ended, requeued, aged_pending, newly_accepted, is_kept_at_answer, unanswered_count}
 use Rattle.block_machine.specs.Expected.{after, IsLegal, IsInitial}
-use Rattle.block_machine.specs.Confinement.{WasAccepted, WithinLimits}
+use Rattle.block_machine.specs.Confinement.{WasAccepted, KeepsLimitsAndHoldsOwnFrames}
 use Rattle.block_machine.proofs.Members.{contains_none, contains_here, contains_there, contains_cases, map_in, into_map, at_cases, without_in, append_in}
 use Rattle.block_machine.proofs.Sound.{Sound, KeepsRequest}
 use Rattle.block_machine.proofs.Keeps.{at_keeps, older_keeps, older_issued, get_frame}
@@ -112,7 +112,7 @@ counted_step m (Accept r) may s c x (inl h) = ⊎_elim
 counted_step m (Accept r) may s c x (inr h) = c x (inr h)
 counted_step m (Issue mode e) may s c x (inl h) = counted_at e.request.id newly_issued m.book (λ o i. c o (inl i))
     (λ o i id.
-    let left = (c o (inl i)).left (subst (λ (y : Pending). y.issued ≡ false) (s.one e o may.0 i (sym id)) (not-true _ (and_parts _ _ may.1.nothing_blocks).0)) in
+    let left = (c o (inl i)).left (subst (λ (y : Pending). y.issued ≡ false) (s.one e o may.0 i (sym id)) (not-true _ (and_parts _ _ may.1.waits_and_nothing_blocks).0)) in
     record { some = λ _. omega arith; most = omega (arith, left); left = λ t. absurd (false≢true (sym t)) }) x h
 counted_step m (Issue mode e) may s c x (inr h) = c x (inr h)
 counted_step m (Touch e i block) may s c x (inl h) = counted_at e.request.id (touch i) m.book (λ o k. c o (inl k)) (λ o k id. let q = c o (inl k) in record { some = q.some; most = q.most; left = q.left }) x h
@@ -215,7 +215,7 @@ accepted_owned start (step ∷ past) r (inl c) i lt = owner_step (after start pa
 accepted_owned start (step ∷ past) r (inr w) i lt = owner_step (after start past) step (frame_at r.asked.frames.items i) ∙ accepted_owned start past r w i lt
 
 -- all of these together
-pub law_limits_hold : (start : Machine) (h : List Step) → IsInitial start → IsLegal start h → WithinLimits (after start h)
+pub law_limits_hold : (start : Machine) (h : List Step) → IsInitial start → IsLegal start h → KeepsLimitsAndHoldsOwnFrames (after start h)
 law_limits_hold start h s legal = record {
   clients_are_within_limit = few start h s legal;
   book_is_bounded = all_few start h s legal (few start h s legal);
@@ -231,7 +231,7 @@ pub finds_slot : (mode : QueueMode) (book : List Unanswered) (r : Unanswered) �
 finds_slot mode book r due = (
   (λ plain. count_none _ book (λ y k. false_from_ne_true _ (λ t.
       let p = and_parts (y.port.0 == r.port.0) y.issued t in
-      both_ways _ (unheld mode book r due.nothing_blocks y (from_in y book k))
+      both_ways _ (unheld mode book r due.waits_and_nothing_blocks y (from_in y book k))
       (and_from _ _ p.0 (cond-true (is_plain mode r.op) _ _ plain ∙ or_left _ _ p.1))))),
   (λ queued. let lt = due.slot_is_left queued in omega (arith, lt)),
 )

@@ -189,9 +189,9 @@ module _ (mode : QueueMode) (book : List Unanswered) (r : Unanswered) (order : O
           (cases_lt (unblocked_ahead_count mode book r) (suc n))
 
 -- a slot is left for a request whether those ahead are counted as clear or as due
-pub law_due_ones_leave_a_slot : (mode : QueueMode) (book : List Unanswered) (r : Unanswered) → IsInOrder book → Contains book r
+pub law_due_and_unblocked_ahead_agree : (mode : QueueMode) (book : List Unanswered) (r : Unanswered) → IsInOrder book → Contains book r
     → (unblocked_ahead_count mode book r < free_slots mode book r.port) ↔ (due_ahead_count mode book r < free_slots mode book r.port)
-law_due_ones_leave_a_slot mode book r order here = (
+law_due_and_unblocked_ahead_agree mode book r order here = (
   (λ lt. let le = less_due mode book r (ordered_from book order) (in_from book r here) in omega (arith, le, lt)),
   slot_by_due mode book r (ordered_from book order) (in_from book r here),
 )

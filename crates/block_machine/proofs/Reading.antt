@@ -12,7 +12,7 @@ use Rattle.block_machine.specs.Refusals.{MayAccessFrame}
 use Rattle.block_machine.specs.DueRequests.{changes_sectors}
 use Rattle.block_machine.specs.State.{Block, Memory, Accepted, Pending, Machine, block_of, frame_at, sector_of, is_reader}
 use Rattle.block_machine.specs.Steps.{Step, Accept, Issue, Touch, End, Age, WaitAgain, Answer, Revoke, Release, Unplug, Replace, Store, Load, IsEnabled, after_step, update_pending, HoldsFrames, MayStillMove, newly_issued, touch, mark_ended, requeued, aged_pending, newly_accepted, put_bytes, memory_after_touch}
-use Rattle.block_machine.specs.Expected.{plug_count, IsTouch, touches_sector, disk_number_read, ChangedSector, IsLastWritten, IsExpectedBlock, StepIsFaithful}
+use Rattle.block_machine.specs.Expected.{plug_count, IsTouch, touches_sector, disk_number_read, ChangedSector, IsLastWrittenOrPluggedIn, IsExpectedBlock, StepIsFaithful}
 use Rattle.block_machine.proofs.Members.{map_in, at_cases, without_in, append_in}
 use Rattle.block_machine.proofs.Sound.{Sound, KeepsRequest}
 use Rattle.block_machine.proofs.Keeps.{older_keeps, older_issued, older_touched, same_frame}
@@ -40,7 +40,7 @@ good_more start h m n step request i same own others good =
     let k : ℕ = request.asked.first.0 + i in
     let found : disk_number_read request k (step ∷ h) ≡ disk_number_read request k h = cond-false (touches_sector request.id k step) (plug_count request.port h) (disk_number_read request k h) own in (
       good.0,
-      subst (λ (x : ℕ). IsLastWritten start request.port k x request.id.0 (step ∷ h) good.0) (sym found)
+      subst (λ (x : ℕ). IsLastWrittenOrPluggedIn start request.port k x request.id.0 (step ∷ h) good.0) (sym found)
           (last_from start request.port k (disk_number_read request k h) request.id.0 request.id.0 step h good.0 (read_number request k h) others (λ w o. o.earlier) (λ w o. o.earlier) good.1),
       λ b lt. same b lt ∙ good.2 b lt,
     )
@@ -54,7 +54,7 @@ good_now start h m n e i block s seen holds r lt reads now =
     let mine : touches_sector e.request.id k (Touch e i block) ≡ true = and_from _ _ (eq-eqb e.request.id.0 e.request.id.0 refl) (eq-eqb k k refl) in
     let found : disk_number_read e.request k (Touch e i block ∷ h) ≡ plug_count e.request.port h = cond-true (touches_sector e.request.id k (Touch e i block)) (plug_count e.request.port h) (disk_number_read e.request k h) mine in (
       m.disk_bytes e.request.port k,
-      subst (λ (x : ℕ). IsLastWritten start e.request.port k x e.request.id.0 (Touch e i block ∷ h) (m.disk_bytes e.request.port k)) (sym found)
+      subst (λ (x : ℕ). IsLastWrittenOrPluggedIn start e.request.port k x e.request.id.0 (Touch e i block ∷ h) (m.disk_bytes e.request.port k)) (sym found)
           (last_from start e.request.port k (plug_count e.request.port h) m.next_id e.request.id.0 (Touch e i block) h (m.disk_bytes e.request.port k) (le_refl _)
           (λ w writes _ _ t. reader_is_no_writer e.request.asked.op reads (subst (λ (j : Accepted). changes_sectors j.asked.op ≡ true) (sym t.0) writes))
           earlier

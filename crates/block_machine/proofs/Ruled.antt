@@ -10,7 +10,7 @@ use Rattle.block_machine.specs.Rules.{Breaks, HasRow, IsNamed}
 use Rattle.block_machine.specs.State.{Accepted, Pending, Machine}
 use Rattle.block_machine.specs.Steps.{Step, Issue, IsEnabled, MayAccept}
 use Rattle.block_machine.specs.Expected.{after, IsLegal, IsInitial}
-use Rattle.block_machine.specs.Confinement.{IsGranted, IsNotOnFrames, KeepsRulesNotOnFrames, WasAccepted}
+use Rattle.block_machine.specs.Confinement.{IsGranted, IsNotOnFrames, KeepsNonFrameRulesAndHoldsFrames, WasAccepted}
 use Rattle.block_machine.proofs.Accepts.{living_accepted, was_new}
 use Rattle.block_machine.proofs.Configured.{rows_shrink, was_granted}
 use Rattle.block_machine.proofs.RuleLemmas.{one_row}
@@ -30,7 +30,7 @@ module _ (start m : Machine) (r : Accepted) (s : IsInitial start) (granted : IsG
   unbroken has (Frames fault) is breaks = is
 
 pub law_issues_keep_rules_but_frames : (start : Machine) (h : List Step) (mode : QueueMode) (e : Pending) → IsInitial start → IsLegal start h → IsEnabled (after start h) (Issue mode e)
-    → WasAccepted start h e.request × KeepsRulesNotOnFrames (after start h) e.request
+    → WasAccepted start h e.request × KeepsNonFrameRulesAndHoldsFrames (after start h) e.request
 law_issues_keep_rules_but_frames start h mode e s legal may =
     let was = living_accepted start h s legal e (inl may.0) in (
       was,

@@ -5,7 +5,7 @@ use Rattle.ata_types.specs.declared.request.Op.TheVariants.{Flush}
 use Rattle.block_machine.specs.State.{Pending, Machine, frame_at}
 use Rattle.block_machine.specs.Steps.{Step, MayStillMove}
 use Rattle.block_machine.specs.Expected.{after, IsLegal, IsInitial}
-use Rattle.block_machine.specs.Confinement.{MovesBytes, FramesAreAsAccepted}
+use Rattle.block_machine.specs.Confinement.{MovesBytes, FramesAreAsAcceptedButReadSectors}
 use Rattle.block_machine.specs.Histories.{IsReachable}
 use Rattle.block_machine.proofs.Sound.{Sound}
 use Rattle.block_machine.proofs.Trace.{runs_lives}
@@ -16,7 +16,7 @@ pub record Standing (m : Machine) : Type 0 where
   pub sound : Sound m
   pub framed : (e : Pending) → MayStillMove m e → MovesBytes e.request.asked.op → (i : ℕ) → i < e.request.asked.count → i / 8 < length e.request.asked.frames.items
   pub lent : (e : Pending) → MayStillMove m e → (i : ℕ) → i < length e.request.asked.frames.items → m.lent (frame_at e.request.asked.frames.items i) ≡ Some e.request.id
-  pub held : (e : Pending) → MayStillMove m e → FramesAreAsAccepted m e.request
+  pub held : (e : Pending) → MayStillMove m e → FramesAreAsAcceptedButReadSectors m e.request
   pub flush : (e : Pending) → MayStillMove m e → e.request.asked.op ≡ Flush → e.request.asked.count ≡ 0
 
 standing_at : (start : Machine) (h : List Step) → IsInitial start → IsLegal start h → Standing (after start h)

@@ -6,7 +6,7 @@ use Rattle.ata_types.specs.declared.Port.{Port}
 use Rattle.block_machine.specs.State.{Block, DiskBytes, Accepted, Pending, Machine, newly_unanswered, sector_of}
 use Rattle.block_machine.specs.DueRequests.{are_conflicting, changes_sectors}
 use Rattle.block_machine.specs.Steps.{Step, Accept, Issue, Touch, End, Age, WaitAgain, Answer, Revoke, Release, Unplug, Replace, Store, Load, IsEnabled, MayAccept, after_step, update_pending, HoldsFrames, MayStillMove, newly_issued, touch, mark_ended, requeued, aged_pending, newly_accepted}
-use Rattle.block_machine.specs.Expected.{IsAccept, plugs_disk, plugged_disk, plug_count, bytes_when_plugged, IsTouch, touches_sector, HasTouched, disk_number_read, ChangedSector, IsLastWritten}
+use Rattle.block_machine.specs.Expected.{IsAccept, plugs_disk, plugged_disk, plug_count, bytes_when_plugged, IsTouch, touches_sector, HasTouched, disk_number_read, ChangedSector, IsLastWrittenOrPluggedIn}
 use Rattle.block_machine.proofs.Members.{contains_none, contains_cases, map_in, without_in, append_in}
 use Rattle.block_machine.proofs.Sound.{Sound, KeepsRequest}
 use Rattle.block_machine.proofs.Keeps.{at_keeps, older_keeps}
@@ -152,7 +152,7 @@ pub last_from : (start : Machine) (port : Port) (k n limit limit' : ℕ) (step :
     → ((w : Accepted) → changes_sectors w.asked.op ≡ true → w.port ≡ port → w.id.0 < limit' → IsTouch step w k → ⊥)
     → ((w : Accepted) → ChangedSector port k n limit past w → w.id.0 < limit')
     → ((w : Accepted) → ChangedSector port k n limit' past w → w.id.0 < limit)
-    → IsLastWritten start port k n limit past block → IsLastWritten start port k n limit' (step ∷ past) block
+    → IsLastWrittenOrPluggedIn start port k n limit past block → IsLastWrittenOrPluggedIn start port k n limit' (step ∷ past) block
 last_from start port k n limit limit' step past block le untouched up down last = go last
   where
     older : (w : Accepted) → ChangedSector port k n limit' (step ∷ past) w → HasTouched w k n past
@@ -164,6 +164,6 @@ last_from start port k n limit limit' step past block le untouched up down last 
     now_too : (w : Accepted) → ChangedSector port k n limit past w → ChangedSector port k n limit' (step ∷ past) w
     now_too w o = record { op_changes_sectors = o.op_changes_sectors; port_is = o.port_is; earlier = up w o; touched = inr o.touched }
 
-    go : IsLastWritten start port k n limit past block → IsLastWritten start port k n limit' (step ∷ past) block
+    go : IsLastWrittenOrPluggedIn start port k n limit past block → IsLastWrittenOrPluggedIn start port k n limit' (step ∷ past) block
     go (inl r) = inl (r.0, now_too r.0 r.1, λ other o. r.2 other (past_too other o), r.3)
     go (inr r) = inr (λ w o. r.0 w (past_too w o), r.1 ∙ ap (λ (d : DiskBytes). d k) (sym (plugged_more start port n step past le)))

@@ -39,7 +39,7 @@ IsNotOnFrames (Frames fault) = ⊥
 IsNotOnFrames _ = Unit {0}
 
 -- A request that is issued breaks none of these rules, by the rows as they are then; and its frames are lent to it.
-pub record KeepsRulesNotOnFrames (m : Machine) (r : Accepted) : Type 0 where
+pub record KeepsNonFrameRulesAndHoldsFrames (m : Machine) (r : Accepted) : Type 0 where
   pub breaks_none_not_on_frames : (rule : Rule) → IsNotOnFrames rule → Breaks m.rows m.owner m.lent r.asked rule → ⊥
   pub frames_are_lent : (i : ℕ) → i < length r.asked.frames.items → m.lent (frame_at r.asked.frames.items i) ≡ Some r.id
 
@@ -63,15 +63,15 @@ abbrev pub HasFrame : Accepted → Frame → Type 0
 HasFrame r frame = (i : ℕ) × (i < length r.asked.frames.items) × (frame_at r.asked.frames.items i ≡ frame)
 
 -- The frames hold what they held at acceptance, but for the sectors of a read: so a write's hold its bytes.
-abbrev pub FramesAreAsAccepted : Machine → Accepted → Type 0
-FramesAreAsAccepted m r = (i b : ℕ) → (is_reader r.asked.op ≡ true → r.asked.count ≤ i)
+abbrev pub FramesAreAsAcceptedButReadSectors : Machine → Accepted → Type 0
+FramesAreAsAcceptedButReadSectors m r = (i b : ℕ) → (is_reader r.asked.op ≡ true → r.asked.count ≤ i)
     → i < 8 * length r.asked.frames.items
     → b < 512 → block_of m.memory r.asked.frames.items i b ≡ r.blocks_at_acceptance i b
 
 -- A client has at most 16 unanswered requests, and all have 128. A request that is unanswered or kept was issued at
 -- most four times, and once at least where it is issued; its frames are its client's, and lent to it: so no frame is
 -- lent to two.
-pub record WithinLimits (m : Machine) : Type 0 where
+pub record KeepsLimitsAndHoldsOwnFrames (m : Machine) : Type 0 where
   pub clients_are_within_limit : (client : ClientId) → unanswered_count m.book client ≤ 16
   pub book_is_bounded : length m.book ≤ MOST_UNANSWERED
   pub issued_four_times_at_most : (e : Pending) → HoldsFrames m e → e.issue_count ≤ 4

@@ -71,7 +71,7 @@ free_slots mode book port = mode.usable_slots - issued_count book port
 -- (A plain one goes alone, so its slot is free.)
 pub record IsDue (mode : QueueMode) (book : List Unanswered) (r : Unanswered) : Type 0 where
   pub is_in_book : Contains book r
-  pub nothing_blocks : is_unblocked mode book r ≡ true
+  pub waits_and_nothing_blocks : is_unblocked mode book r ≡ true
   pub slot_is_left : is_plain mode r.op ≡ false → unblocked_ahead_count mode book r < free_slots mode book r.port
 
 -- `IsDue` of a request of the book, as a test
@@ -79,7 +79,8 @@ abbrev pub is_due : QueueMode → List Unanswered → Unanswered → Bool
 is_due mode book r = is_unblocked mode book r &&
     (is_plain mode r.op || nat_lt (unblocked_ahead_count mode book r) (free_slots mode book r.port))
 
--- how many earlier ones of its port are due: `law_due_ones_leave_a_slot` says that a slot is left after these too
+-- how many earlier ones of its port are due: `law_due_and_unblocked_ahead_agree` says that a slot is left after these
+-- too
 abbrev pub due_ahead_count : QueueMode → List Unanswered → Unanswered → ℕ
 due_ahead_count mode book r = count_by (λ other. is_earlier_on_port other r && is_due mode book other) book
 

@@ -192,8 +192,8 @@ pub record IsIssuedInBook (m : Machine) (id : RequestId) : Type 0 where
 
 -- the port stopped in the call, and is ready after it with the disk that it had: a request of it that isn't done goes
 -- again
-abbrev pub IsReadyAgain : AbstractState → Evidence → Ports → Port → Type 0
-IsReadyAgain old evidence ports port = (ports.state port ≡ Ready) × Contains evidence.stopped port
+abbrev pub IsReadyAgainWithSameDisk : AbstractState → Evidence → Ports → Port → Type 0
+IsReadyAgainWithSameDisk old evidence ports port = (ports.state port ≡ Ready) × Contains evidence.stopped port
     × SameSerialAndSize old.ports ports port
 
 -- What stands behind each outcome. An Ok, a fault and an abort are of a request that was issued when the call began;
@@ -212,11 +212,11 @@ IsLawfulAnswer old evidence ports e (outcome.DeviceError status error) = IsIssue
     × (e.issued ≡ true) × Contains evidence.faults (record { id = e.request.id; status = status; error = error })
     × Contains evidence.stopped e.request.port
 IsLawfulAnswer old evidence ports e outcome.Aborted = IsIssuedInBook old.machine e.request.id × (e.issue_count ≡ 4)
-    × IsReadyAgain old evidence ports e.request.port
+    × IsReadyAgainWithSameDisk old evidence ports e.request.port
 IsLawfulAnswer old evidence ports e outcome.Unplugged = Contains evidence.lost e.request.port
     × Contains evidence.stopped e.request.port
 IsLawfulAnswer old evidence ports e outcome.PortDead = ports.state e.request.port ≡ Dead
-IsLawfulAnswer old evidence ports e outcome.Revoked = (e.issued ≡ false) ⊎ IsReadyAgain old evidence ports
+IsLawfulAnswer old evidence ports e outcome.Revoked = (e.issued ≡ false) ⊎ IsReadyAgainWithSameDisk old evidence ports
     e.request.port
 
 -- Each answer of the call is lawful, with these ports at its end. And a request waits again only where its port
@@ -307,8 +307,8 @@ pub record UnpluggedEmptiesPort (steps : List Step) (new : Machine) : Type 0 whe
 
 -- Where a request is told Unplugged, its port is neither dead nor ready with serial and size as before: a tick, or a
 -- reset, lets requests go again where it finds the same disk.
-abbrev pub UnpluggedLostDisk : List Step → Ports → Ports → Type 0
-UnpluggedLostDisk steps old new = (e : Pending) → Contains steps (Answer e outcome.Unplugged)
+abbrev pub UnpluggedPortIsNotDeadNorReadyWithSameDisk : List Step → Ports → Ports → Type 0
+UnpluggedPortIsNotDeadNorReadyWithSameDisk steps old new = (e : Pending) → Contains steps (Answer e outcome.Unplugged)
     → (new.state e.request.port ≢ Dead) × (new.state e.request.port ≡ Ready → SameSerialAndSize old new e.request.port
     → ⊥)
 
@@ -325,7 +325,7 @@ ShownDiskWasInOrCame old steps new port = ShowsDisk (new.ports.state port)
     → (old.machine.present port ≡ true) ⊎ (list_any (changes_disk port) steps ≡ true)
 
 -- The tick comes first, and once, at the ports that are ready then.
-pub record AgesOnce (ports : Ports) (steps : List Step) : Type 0 where
+pub record AgesReadyPortsFirstAndOnce (ports : Ports) (steps : List Step) : Type 0 where
   pub ready_ports : Port → Bool
   pub is_ready : (port : Port) → IsTrue (ready_ports port) ↔ (ports.state port ≡ Ready)
   pub later : List Step
@@ -344,12 +344,12 @@ pub record RestartsTimedOut (old : AbstractState) (evidence : Evidence) (steps :
       → TimesOutAtTick old e.request.port
   pub answers_ended : (port : Port) → TimesOutAtTick old port → AnswersEnded old.machine steps port
   pub none_stays_issued : (port : Port) → TimesOutAtTick old port → NoneStaysIssued steps new.machine port
-  pub timed_out_iff_interrupted : (port : Port) → TimesOutAtTick old port ↔ IsStoppedOrStuck evidence port
-  pub unplugged_lost_disk : UnpluggedLostDisk steps old.ports new.ports
+  pub timed_out_iff_stopped_or_stuck : (port : Port) → TimesOutAtTick old port ↔ IsStoppedOrStuck evidence port
+  pub unplugged_lost_disk : UnpluggedPortIsNotDeadNorReadyWithSameDisk steps old.ports new.ports
   pub shown_disk_was_in_or_came : (port : Port) → TimesOutAtTick old port → ShownDiskWasInOrCame old steps new port
 
 -- The kept requests' frames are given back once, before the server does anything else.
-pub record ReleasesOnce (steps : List Step) : Type 0 where
+pub record ReleasesOnceBeforeServerSteps (steps : List Step) : Type 0 where
   pub later : List Step
   pub earlier : List Step
   pub release_splits_steps : steps ≡ later ++ Release ∷ earlier
@@ -371,7 +371,7 @@ pub record AnswersService (old : AbstractState) (evidence : Evidence) (steps : L
   pub replies_match : RepliesMatch steps replies
   pub dead_ports_tell_only_port_dead : DeadPortsTellOnlyPortDead old steps
   pub unplugged_empties_port : UnpluggedEmptiesPort steps new.machine
-  pub none_is_due : NoneDueWhereReady new
+  pub none_is_due_where_ready : NoneDueWhereReady new
   pub empty_unless_ready : (port : Port) → EmptyUnlessReady new port
   pub answers_ended : (port : Port) → old.ports.state port ≡ Ready → AnswersEnded old.machine steps port
   pub port_is_serviced : (port : Port) → IsServiced old.ports evidence new.ports port
@@ -382,10 +382,10 @@ pub record AnswersService (old : AbstractState) (evidence : Evidence) (steps : L
 pub record AnswersTick (old : AbstractState) (evidence : Evidence) (steps : List Step) (replies : List Reply)
     (new : AbstractState) : Type 0 where
   pub replies_match : RepliesMatch steps replies
-  pub ages_once : AgesOnce old.ports steps
+  pub ages_once : AgesReadyPortsFirstAndOnce old.ports steps
   pub restarts_timed_out : RestartsTimedOut old evidence steps new
   pub unplugged_empties_port : UnpluggedEmptiesPort steps new.machine
-  pub none_is_due : NoneDueWhereReady new
+  pub none_is_due_where_ready : NoneDueWhereReady new
   pub was_ready_empty_unless_ready : (port : Port) → old.ports.state port ≡ Ready → EmptyUnlessReady new port
 
 -- What a reset that ends says and does. Kept frames are given back first. Of each port no request keeps its issue, none
@@ -393,10 +393,10 @@ pub record AnswersTick (old : AbstractState) (evidence : Evidence) (steps : List
 pub record AnswersReset (old : AbstractState) (evidence : Evidence) (steps : List Step) (replies : List Reply)
     (new : AbstractState) : Type 0 where
   pub replies_match : RepliesMatch steps replies
-  pub releases_once : ReleasesOnce steps
+  pub releases_once : ReleasesOnceBeforeServerSteps steps
   pub unplugged_empties_port : UnpluggedEmptiesPort steps new.machine
-  pub unplugged_lost_disk : UnpluggedLostDisk steps old.ports new.ports
-  pub none_is_due : NoneDueWhereReady new
+  pub unplugged_lost_disk : UnpluggedPortIsNotDeadNorReadyWithSameDisk steps old.ports new.ports
+  pub none_is_due_where_ready : NoneDueWhereReady new
   pub empty_unless_ready : (port : Port) → EmptyUnlessReady new port
   pub port_may_become : (port : Port) → MayBecome old.ports evidence new.ports port
   pub none_stays_issued : (port : Port) → NoneStaysIssued steps new.machine port
@@ -414,7 +414,7 @@ pub record AnswersRevoke (client : ClientId) (number : ℕ) (old : AbstractState
   pub waiting_are_revoked : (e : Pending) → Contains steps (Answer e outcome.Revoked) ↔ (Contains old.machine.book e
       × (e.issued ≡ false) × IsSameGrantName client number e.request.asked.client e.request.asked.grant)
   pub ports_are_same : SamePorts old.ports new.ports
-  pub none_is_due : NoneDueWhereReady new
+  pub none_is_due_where_ready : NoneDueWhereReady new
 
 -- What is said of a call agrees with its steps, and the call did what was asked.
 abbrev pub ResultMatchesSteps : {D : Type 0} → AbstractCall D → AbstractCallResult → AbstractState → Evidence
@@ -469,7 +469,7 @@ pub record Happens {D : Type 0} (old : AbstractState) (event : CallRecord D) : T
   pub issue_is_last_of_request : IssueIsLastOfRequest event.steps
   pub answers_are_lawful : AnswersAndWaitsLawful old event.evidence event.ports event.steps
   pub ports_are_well_formed : PortsWellFormed event.ports
-  pub unanswered_keep_disk : UnansweredKeepSerialAndSize old (abstract_after old event)
+  pub unanswered_keep_serial_and_size : UnansweredKeepSerialAndSize old (abstract_after old event)
   pub result_matches_steps : ResultMatchesSteps event.call event.result old event.evidence event.steps
       (abstract_after old event)
 

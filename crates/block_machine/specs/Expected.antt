@@ -125,8 +125,9 @@ pub record ChangedSector (port : Port) (k n before_id : ℕ) (history : List Ste
   pub touched : HasTouched writer k n history
 
 -- The last of these in order of acceptance put the block there. If there is none, disk number n came with it.
-abbrev pub IsLastWritten : Machine → Port → ℕ → ℕ → ℕ → List Step → Block → Type 0
-IsLastWritten start port k n before history block = ((writer : Accepted) × ChangedSector port k n before history writer
+abbrev pub IsLastWrittenOrPluggedIn : Machine → Port → ℕ → ℕ → ℕ → List Step → Block → Type 0
+IsLastWrittenOrPluggedIn start port k n before history block = ((writer : Accepted)
+    × ChangedSector port k n before history writer
     × ((other : Accepted) → ChangedSector port k n before history other → other.id.0 ≤ writer.id.0)
     × (block ≡ block_written writer.asked.op writer.blocks_at_acceptance (k - writer.asked.first.0)))
     ⊎ (((writer : Accepted) → ChangedSector port k n before history writer → ⊥)
@@ -134,7 +135,7 @@ IsLastWritten start port k n before history block = ((writer : Accepted) × Chan
 
 -- what the writes and trims accepted before this read left on sector k, on the disk that the read last found there
 abbrev pub IsExpectedBlock : Machine → List Step → Accepted → ℕ → Block → Type 0
-IsExpectedBlock start history read k block = IsLastWritten start read.port k
+IsExpectedBlock start history read k block = IsLastWrittenOrPluggedIn start read.port k
     (disk_number_read read k history) read.id.0 history block
 
 -- The read has in this memory, sector by sector, what is left; the rest of its frames is as it was at acceptance.

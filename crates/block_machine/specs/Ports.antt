@@ -82,8 +82,8 @@ IsStoppedOrStuck evidence port = Contains evidence.stopped port ⊎ Contains evi
 -- call exactly where it got stuck in it; and one that isn't ready remembers the disk that it was last ready with.
 pub record MayBecome (old : Ports) (evidence : Evidence) (new : Ports) (port : Port) : Type 0 where
   pub served_is_unchanged : new.served port ≡ old.served port
-  pub dead_is_stuck : (new.state port ≡ Dead) ↔ Contains evidence.stuck port
-  pub disk_is_remembered : new.state port ≢ Ready → SameSerialAndSize old new port
+  pub dead_exactly_if_stuck : (new.state port ≡ Dead) ↔ Contains evidence.stuck port
+  pub disk_is_remembered_unless_ready : new.state port ≢ Ready → SameSerialAndSize old new port
 
 -- What a service may make of it: a dead port stays what it is, since a reset alone ends that;
 -- another becomes what a call that looks at it may make of it, and is what it was unless it was stopped, or got stuck.

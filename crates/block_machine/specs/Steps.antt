@@ -212,8 +212,8 @@ GrantAllowsOutcome m e Aborted = HasGrant m e
 GrantAllowsOutcome m e _ = Unit {0}
 
 -- the bytes that are moved for a write are its own; a read's may be any, and a trim's and a flush's mean nothing
-abbrev pub MovesOwnBytes : Accepted → ℕ → Block → Type 0
-MovesOwnBytes r i block = r.asked.op ≡ Write → (b : ℕ) → b < 512 → block b ≡ r.blocks_at_acceptance i b
+abbrev pub WriteMovesItsOwnBytes : Accepted → ℕ → Block → Type 0
+WriteMovesItsOwnBytes r i block = r.asked.op ≡ Write → (b : ℕ) → b < 512 → block b ≡ r.blocks_at_acceptance i b
 
 -- the bytes of a sector are the same
 abbrev pub SameBytes : Block → Block → Type 0
@@ -234,7 +234,7 @@ IsEnabled m (Issue mode e) = Contains m.book e × IsDue mode (map unanswered m.b
     × NoneKept m e.request.port
     × HasGrant m e
 IsEnabled m (Touch e i block) = MayStillMove m e × (i < e.request.asked.count) × (m.present e.request.port ≡ true)
-    × (sector_of e.request i < m.sizes e.request.port) × MovesOwnBytes e.request i block
+    × (sector_of e.request i < m.sizes e.request.port) × WriteMovesItsOwnBytes e.request i block
 IsEnabled m (End e) = MayStillMove m e × AllTouched e × (m.present e.request.port ≡ true)
 IsEnabled m (Age ready) = Unit {0}
 IsEnabled m (WaitAgain e) = Contains m.book e × (e.issued ≡ true) × (e.issue_count < 4) × HasGrant m e

@@ -4,7 +4,7 @@
 ghost use Rattle.std.specs.Prelude.{◌≡◌, ◌≢◌, ◌↔◌, ◌<◌, ℕ, Bool, IsTrue, true, false, List, [], ◌∷◌, ◌++◌, ◌≤◌, ◌&&◌, nat_lt, Option, Some, All, length, map, count_by, Contains};
 ghost use Rattle.ata_types.specs.{declared.Port.{Port}, declared.PortState.TheVariants.{Ready}, declared.request.ClientId.{ClientId}, declared.request.Frame.{Frame}, declared.request.Request.{Request}, declared.request.RequestId.{RequestId}, declared.grant.GrantRow.{GrantRow}, declared.request.Outcome.{Outcome}, declared.request.Op.TheVariants.{Read}};
 ghost use Rattle.block_machine.specs.{declared.due.QueueMode.{QueueMode}, declared.due.Unanswered.{Unanswered}, DueRequests.{IsDue, IsInOrder, is_plain, issued_count, is_due, unblocked_ahead_count, due_ahead_count, free_slots, with_issued, with_waiting, without_request, requests_of_port, due_of, AreAllDueInOrder}, Ports.{Ports, PortsWellFormed}, Refusals.{AdmissionContext, IsAcceptable, MayAccessFrame}, Rules.{HasGrantName}};
-ghost use Rattle.block_machine.specs.{State.{Block, Accepted, Pending, Machine, unanswered}, Steps.{Step, Touch, End, Issue, WaitAgain, Answer, Age, after_step, IsEnabled, MayAccept, HoldsFrames, AllTouched}, Expected.{IsInitial, IsLegal, AllStepsFaithful, HoldsExpected, after}, Confinement.{IsGranted, IsConfined, FramesAreAsAccepted, HasFrame, KeepsRulesNotOnFrames, WasAccepted, WithinLimits}};
+ghost use Rattle.block_machine.specs.{State.{Block, Accepted, Pending, Machine, unanswered}, Steps.{Step, Touch, End, Issue, WaitAgain, Answer, Age, after_step, IsEnabled, MayAccept, HoldsFrames, AllTouched}, Expected.{IsInitial, IsLegal, AllStepsFaithful, HoldsExpected, after}, Confinement.{IsGranted, IsConfined, FramesAreAsAcceptedButReadSectors, HasFrame, KeepsNonFrameRulesAndHoldsFrames, WasAccepted, KeepsLimitsAndHoldsOwnFrames}};
 ghost use Rattle.block_machine.specs.{Events.{AbstractState, CallRecord, AllEnabled, IsRun, EveryReadHoldsExpected, abstract_after_all, steps_of}, Histories.{IsReachable}};
 
 /// Over every run of calls whose reads moved their disks' bytes: each read that is answered Ok has, at the end of the
@@ -47,7 +47,8 @@ pub fn law_runs_are_legal<D>()
     ensures issues { (first : AbstractState) (run : List (CallRecord D)) (late early : List Step) (mode : QueueMode)
         (e : Pending)
         → IsRun first run → steps_of run ≡ late ++ Issue mode e ∷ early
-        → WasAccepted first.machine early e.request × KeepsRulesNotOnFrames (after first.machine early) e.request }
+        → WasAccepted first.machine early e.request
+        × KeepsNonFrameRulesAndHoldsFrames (after first.machine early) e.request }
 {}
 
 /// Steps go on from what earlier ones left: after some, and then others, the machine is as after them all, which may
@@ -99,7 +100,7 @@ pub fn law_touch_is_confined()
 pub fn law_issues_keep_rules_but_frames()
     ensures { (start : Machine) (history : List Step) (mode : QueueMode) (e : Pending) → IsInitial start
         → IsLegal start history → IsEnabled (after start history) (Issue mode e)
-        → WasAccepted start history e.request × KeepsRulesNotOnFrames (after start history) e.request }
+        → WasAccepted start history e.request × KeepsNonFrameRulesAndHoldsFrames (after start history) e.request }
 {}
 
 /// A request that is accepted is within a row of its client.
@@ -130,10 +131,10 @@ pub fn law_one_id_is_one_request()
 
 /// The frames of a request that is unanswered or kept hold what they held when it was accepted, but for the sectors of
 /// a read: so the device moves a write's own bytes.
-pub fn law_frames_keep_bytes()
+pub fn law_frames_keep_bytes_but_read_sectors()
     ensures { (start : Machine) (history : List Step) (e : Pending) → IsInitial start
         → IsLegal start history
-        → HoldsFrames (after start history) e → FramesAreAsAccepted (after start history) e.request }
+        → HoldsFrames (after start history) e → FramesAreAsAcceptedButReadSectors (after start history) e.request }
 {}
 
 /// In a machine that is reached a client and a number name one row at most.
@@ -160,7 +161,7 @@ pub fn law_ready_ports_are_served()
 /// The limits hold after every history.
 pub fn law_limits_hold()
     ensures { (start : Machine) (history : List Step) → IsInitial start → IsLegal start history
-        → WithinLimits (after start history) }
+        → KeepsLimitsAndHoldsOwnFrames (after start history) }
 {}
 
 /// The book stands in order of acceptance.
@@ -191,7 +192,7 @@ pub fn law_issued_is_not_due()
 {}
 
 /// A slot is left for a request whether the earlier ones of its port are counted as clear to go or as due.
-pub fn law_due_ones_leave_a_slot()
+pub fn law_due_and_unblocked_ahead_agree()
     ensures { (mode : QueueMode) (book : List Unanswered) (r : Unanswered) → IsInOrder book
         → Contains book r
         → (unblocked_ahead_count mode book r < free_slots mode book r.port) ↔
@@ -212,7 +213,7 @@ pub fn law_due_is_tested()
 {}
 
 /// A request of the port is due exactly where it is one of the port's due requests; and these are of the port.
-pub fn law_due_is_exact()
+pub fn law_due_list_is_exact()
     ensures exact { (mode : QueueMode) (port : Port) (book : List Unanswered) (r : Unanswered) → r.port ≡ port
         → Contains (due_of mode port book) r ↔ IsDue mode book r }
     ensures due_are_of_port { (mode : QueueMode) (port : Port) (book : List Unanswered) (r : Unanswered)
@@ -270,7 +271,7 @@ pub fn law_other_ports_requests_stay()
 {}
 
 /// What the machine's steps on requests leave of what says which are due.
-pub fn law_steps_change_what_is_due()
+pub fn law_effect_of_steps_on_unanswered()
     ensures issue { (m : Machine) (mode : QueueMode) (e : Pending)
         → map unanswered (after_step m (Issue mode e)).book ≡ with_issued e.request.id (map unanswered m.book) }
     ensures wait_again { (m : Machine) (e : Pending)

@@ -18,7 +18,7 @@ use Rattle.server_history.specs.KeptLoans.{IsKeptIn, GivesBackLoans}
 use Rattle.server_history.specs.Resets.{IsReinitialized}
 use Rattle.server_history.specs.ServerState.{ServerState, quarantined_at, last_disk_of, mode_at, probed_mode, plain_mode, remembered_at, slots_at, used_for}
 use Rattle.server_history.specs.StuckServer.{ResetGetsStuck, found_after_stuck_reset}
-use Rattle.block_server.specs.FourPorts.{EachBecomes, IsAsHostProbed, by_port, port_in, without_loans}
+use Rattle.block_server.specs.FourPorts.{EachBecomes, IsAsHostProbed, by_port, port_in, without_kept_loans}
 use Rattle.block_server.specs.ServerFieldsView.{with_ports}
 use Rattle.port_driver.specs.PortAndShared.{NotesProbeResult, no_port}
 use Rattle.port_driver.specs.declared.served_port.ServedPort.{ServedPort}
@@ -162,16 +162,16 @@ module _ (host : Host) (four_host : length host.ports ≡ 4) (old new : List Ser
 
 -- again, after a reset
 module _ (s : ServerState) (before idle device : Device) (first later : Shared) (old new : List ServedPort) (four_old : length old ≡ 4) (host : Host) (four_host : length host.ports ≡ 4)
-    (taken : EachBecomes (IsAsHostProbed host) (map without_loans old) new) where
+    (taken : EachBecomes (IsAsHostProbed host) (map without_kept_loans old) new) where
   abbrev mid : List ServedPort
-  mid = map without_loans old
+  mid = map without_kept_loans old
 
   four_mid : length mid ≡ 4
-  four_mid = length-map old without_loans ∙ four_old
+  four_mid = length-map old without_kept_loans ∙ four_old
 
   -- a port without its loans has all else
-  mid_is : (number : ℕ) → port_in mid number ≡ without_loans (port_in old number)
-  mid_is number = get_or-map without_loans old number no_port
+  mid_is : (number : ℕ) → port_in mid number ≡ without_kept_loans (port_in old number)
+  mid_is number = get_or-map without_kept_loans old number no_port
 
   wanted_still : by_port (λ p. p.wanted) mid ≡ by_port (λ p. p.wanted) old
   wanted_still = same_field (λ (p : ServedPort). p.wanted) old mid four_old four_mid (λ number low. ap (λ (p : ServedPort). p.wanted) (mid_is number))

@@ -29,7 +29,7 @@ use Rattle.driver_history.specs.Claims.{AnswerJustified, GoesWellFor, IsFaultFre
 use Rattle.driver_history.specs.Evidence.{StaysHealthy}
 use Rattle.driver_history.specs.Histories.{IsDriverHistory}
 use Rattle.driver_history.specs.PortInvariants.{DriverInvariant, PortStateInvariant, HasNoUnanswered}
-use Rattle.driver_history.specs.ConfinedMoves.{ConfinesCallMoves}
+use Rattle.driver_history.specs.ConfinedMoves.{ConfinesCallMovesAndClears}
 use Rattle.configuration.specs.declared.Config.{Config}
 use Rattle.host_boot.specs.TakeOver.{probe_result_of, wanted_of, BacksProbeResult, TakesOver}
 use Rattle.host_boot.specs.declared.ProbeResult.{ProbeResult}
@@ -39,9 +39,9 @@ use Rattle.identify.specs.declared.DiskInfo.{DiskInfo}
 use Rattle.identify.specs.declared.wanted.Wanted.{Wanted}
 use Rattle.server_history.specs.Histories.{ExtendsHistory, LeadsToServer}
 use Rattle.server_history.specs.ServerState.{is_served, ports_of, state_of}
-use Rattle.block_server.specs.ClientPromise.{ConfinesMoves, HoldsOfEachAdded, BetweenCallsInvariant, MatchesTape, PortStateIsJustified, IsSeenAt, FlushesSurviveReplug}
+use Rattle.block_server.specs.ClientPromise.{ConfinesMovesAndClears, HoldsOfEachAdded, BetweenCallsInvariant, MatchesTape, PortStateIsJustified, IsSeenAt, FlushesSurviveReplugIfDisksTell}
 use Rattle.block_server.specs.InitialServer.{IsInitialServer}
-use Rattle.block_server.specs.Promise.{GoesWellForClients, IsFaultFreeAnswer, Simulates, KeepsPortPromise}
+use Rattle.block_server.specs.Promise.{GoesWellForClients, IsFaultFreeAnswer, Simulates, ServesPorts}
 use Rattle.block_server.specs.AbstractCalls.{abstract_call_of, machine_result_of}
 use Rattle.block_server.specs.ServerView.{ServerView, server_of, observed_state_of}
 use Rattle.arrayvec.specs.ArrayVec.{ArrayVec}
@@ -63,7 +63,7 @@ pub record HistoryLaws : Type 0 where
       → AnswerJustified (joint_state_after first past) h history.2.accesses e told
   pub moves : (wanted : List Wanted) (first : JointState Device) (past : List (JointEvent Device DeviceStep)) (h : JointEvent Device DeviceStep)
       → IsDriverHistory wanted first (h ∷ past)
-      → ConfinesCallMoves first.abstract.machine (steps_of (events_of past)) h.event.steps (joint_state_after first past).device h.device
+      → ConfinesCallMovesAndClears first.abstract.machine (steps_of (events_of past)) h.event.steps (joint_state_after first past).device h.device
   pub run : (wanted : List Wanted) (first : JointState Device) (past : List (JointEvent Device DeviceStep)) → IsDriverHistory wanted first past
       → IsRun first.abstract (events_of past)
   pub reads : (wanted : List Wanted) (first : JointState Device) (past : List (JointEvent Device DeviceStep)) → IsDriverHistory wanted first past
@@ -127,7 +127,7 @@ holds_between wanted i (s, h) = record {
   unready_have_none_while_on = λ port low on unready. none_waits (wanted_of wanted port.0) s i port (i.abstract.ports.served port) (i.abstract.ports.state port) (h.ports_hold port low) unready on;
   client_frames_are_same = h.driver_relation.state_relation.client_frames_are_same;
   disks_are_same = h.driver_relation.state_relation.disks_are_same;
-  sectors_are_same = h.driver_relation.state_relation.sectors_are_same;
+  sectors_are_same_if_disks_tell = h.driver_relation.state_relation.sectors_are_same_if_disks_tell;
 }
 
 holds_now : (wanted : List Wanted) (first : JointState Device) (past : Calls) → IsDriverHistory wanted first past → DriverInvariant wanted (joint_state_after first past)
@@ -222,7 +222,7 @@ module _ (laws : HistoryLaws) where
         },
       )
 
-  all_confined : (wanted : List Wanted) (first : JointState Device) (past added : Calls) → IsDriverHistory wanted first (added ++ past) → ConfinesMoves first past added
+  all_confined : (wanted : List Wanted) (first : JointState Device) (past added : Calls) → IsDriverHistory wanted first (added ++ past) → ConfinesMovesAndClears first past added
   all_confined wanted first past [] history = tt
   all_confined wanted first past (h ∷ added) history = (all_confined wanted first past added history.0, laws.moves wanted first (added ++ past) h history)
 
@@ -241,9 +241,9 @@ module _ (laws : HistoryLaws) where
         invariant_at_start = holds_between s.wanted (joint_state_after first past) (holds_now s.wanted first past leads.history);
         matches_tape = tt;
       };
-      confines_moves = tt;
-      flushes_survive_replug = record { every_plug_finds_flushed = laws.lasts s.wanted first past leads.history };
-      drives_device = record { history_leads_to_server = leads; calls_keep_port_promise = tt; healthy_ports_go_well = λ port ready stays spared. (tt, ready, stays.port_runs_well) };
+      confines_moves_and_clears = tt;
+      flushes_survive_replug = record { plugs_find_flushed_if_disks_tell = laws.lasts s.wanted first past leads.history };
+      drives_device = record { history_leads_to_server = leads; calls_serve_ports = tt; healthy_ports_go_well = λ port ready stays spared. (tt, ready, stays.port_runs_well) };
     }
 
     module _ (old new : ServerView A) (first : JointState Device) (past : Calls) (h : JointEvent Device DeviceStep)
@@ -284,14 +284,14 @@ module _ (laws : HistoryLaws) where
             invariant_at_start = holds_between old.wanted (joint_state_after first past) (holds_now old.wanted first past leads.history);
             matches_tape = all_backed new.wanted first past (h ∷ []) history;
           };
-          confines_moves = all_confined new.wanted first past (h ∷ []) history;
-          flushes_survive_replug = record { every_plug_finds_flushed = laws.lasts new.wanted first (h ∷ past) history };
+          confines_moves_and_clears = all_confined new.wanted first past (h ∷ []) history;
+          flushes_survive_replug = record { plugs_find_flushed_if_disks_tell = laws.lasts new.wanted first (h ∷ past) history };
           drives_device = record {
             history_leads_to_server = here;
-            calls_keep_port_promise = (
+            calls_serve_ports = (
               tt,
               record {
-                clear_bits_are_answered = λ port slot id. laws.seen new.wanted first past h port slot id history;
+                service_answers_where_bits_are_clear = λ port slot id. laws.seen new.wanted first past h port slot id history;
                 goes_well_if_healthy = λ port healthy. served_well new.wanted first past h port history healthy;
               },
             );
@@ -323,11 +323,11 @@ module _ (laws : HistoryLaws) where
             invariant_at_start = a.meets_client_promise.invariant_at_start;
             matches_tape = all_backed new.wanted first past (two ++ one) leads.history;
           };
-          confines_moves = all_confined new.wanted first past (two ++ one) leads.history;
-          flushes_survive_replug = subst (FlushesSurviveReplug first) whole b.flushes_survive_replug;
+          confines_moves_and_clears = all_confined new.wanted first past (two ++ one) leads.history;
+          flushes_survive_replug = subst (FlushesSurviveReplugIfDisksTell first) whole b.flushes_survive_replug;
           drives_device = record {
             history_leads_to_server = leads;
-            calls_keep_port_promise = each_joined (KeepsPortPromise first) past one two a.drives_device.calls_keep_port_promise b.drives_device.calls_keep_port_promise;
+            calls_serve_ports = each_joined (ServesPorts first) past one two a.drives_device.calls_serve_ports b.drives_device.calls_serve_ports;
             healthy_ports_go_well = λ port ready stays spared.
                 let started = grows mid.wanted first past one a.meets_client_promise.matches_tape in
                 let ended = grows new.wanted first (one ++ past) two b.meets_client_promise.matches_tape in

@@ -98,8 +98,8 @@ module _ (s : ServerState) (r : Request) (none : BreaksNone s.grants (owner_of s
             ids = λ h. below 13 13 (omega arith) h;
           })
 
-          pub none_applies : s.last_id + 1 < 2 ^ 64 → IsAcceptable (admission_context s) r
-          none_applies left = ruling.acceptable (admission_context s) r (record {
+          pub not_found_only_if_none_applies : s.last_id + 1 < 2 ^ 64 → IsAcceptable (admission_context s) r
+          not_found_only_if_none_applies left = ruling.acceptable (admission_context s) r (record {
             rules = none;
             ready = λ _. always_ready;
             disk = λ _. never_outside;

@@ -11,7 +11,7 @@ use Rattle.block_machine.specs.Expected.{IsValidRow}
 use Rattle.block_machine.specs.Rules.{HasGrantName, without_row}
 use Rattle.dma_frames.specs.Loan.{Lending}
 use Rattle.dma_frames.specs.FrameTables.{OwnersAndLoans}
-use Rattle.request_queue.specs.BookEntries.{BookEntry, all_revoked_under_grant, waits_under}
+use Rattle.request_queue.specs.BookEntries.{BookEntry, with_requests_under_grant_revoked, waits_under}
 use Rattle.request_queue.specs.Dispositions.{CompletesAllWith}
 use Rattle.server_history.specs.Revoking.{RevokesGrant}
 use Rattle.server_history.specs.IssuingAndAnswering.{IssuesDueOfPort}
@@ -32,7 +32,7 @@ AreTold client number book table before later then replies = (kept : List Lendin
     × CompletesAllWith (waits_under client number) Revoked its (book_and_loans book table kept) (book_and_loans later then kept)
 
 module _ (s : ServerState) (client : ClientId) (number : ℕ) (row : GrantRow) (grants : List GrantRow) (takes : TakesRow s.grants client number row grants)
-    (marked : List BookEntry) (marked_is : marked ≡ all_revoked_under_grant client number s.book) (table : OwnersAndLoans) (table_is : table ≡ s.table) (before : List Reply) (none : before ≡ [])
+    (marked : List BookEntry) (marked_is : marked ≡ with_requests_under_grant_revoked client number s.book) (table : OwnersAndLoans) (table_is : table ≡ s.table) (before : List Reply) (none : before ≡ [])
     (book : List BookEntry) (then : OwnersAndLoans) (replies : List Reply) (told : AreTold client number marked table before book then replies) where
   -- the server once they are
   abbrev pub mid : ServerState
@@ -41,10 +41,10 @@ module _ (s : ServerState) (client : ClientId) (number : ℕ) (row : GrantRow) (
   abbrev kept : List Lending
   kept = quarantined_at s.kept_loans row.port.0
 
-  pub answered : CompletesAllWith (waits_under client number) Revoked replies (book_and_loans (all_revoked_under_grant client number s.book) s.table kept) (book_and_loans book then kept)
+  pub answered : CompletesAllWith (waits_under client number) Revoked replies (book_and_loans (with_requests_under_grant_revoked client number s.book) s.table kept) (book_and_loans book then kept)
   answered =
       let its = told kept in
-      subst (λ (r : List Reply). CompletesAllWith (waits_under client number) Revoked r (book_and_loans (all_revoked_under_grant client number s.book) s.table kept) (book_and_loans book then kept)) (sym (its.1 ∙ ap (λ (b : List Reply). b ++ its.0) none))
+      subst (λ (r : List Reply). CompletesAllWith (waits_under client number) Revoked r (book_and_loans (with_requests_under_grant_revoked client number s.book) s.table kept) (book_and_loans book then kept)) (sym (its.1 ∙ ap (λ (b : List Reply). b ++ its.0) none))
       (subst (λ (b : List BookEntry). CompletesAllWith (waits_under client number) Revoked its.0 (book_and_loans b s.table kept) (book_and_loans book then kept)) marked_is
       (subst (λ (t : OwnersAndLoans). CompletesAllWith (waits_under client number) Revoked its.0 (book_and_loans marked t kept) (book_and_loans book then kept)) table_is its.2))
 

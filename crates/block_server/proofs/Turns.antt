@@ -10,7 +10,7 @@ use Rattle.host_boot.specs.declared.ProbeResult.{ProbeResult}
 use Rattle.host_boot.specs.declared.ProbeResult.TheVariants.{Ready, Unready, Unserved}
 use Rattle.server_history.specs.ServerState.{ServerState, SettledInvariant}
 use Rattle.server_history.specs.Turns.{EachPortTakesTurn}
-use Rattle.port_driver.specs.PortAndShared.{IsSettledWith, TakesTurn, TurnBy, with_served_port}
+use Rattle.port_driver.specs.PortAndShared.{IsSettledWith, TakesTurn, TurnByProbeResult, with_served_port}
 use Rattle.port_driver.specs.declared.served_port.ServedPort.{ServedPort}
 use Rattle.port_driver.specs.declared.served_port.Shared.{Shared}
 use Rattle.block_server.specs.FourPorts.{by_port}
@@ -36,12 +36,12 @@ module _ (Such : Port → List Reply → ServerState → ServerState → Type 0)
   }
 
   -- the port of this number has its turn, and then those after it
-  one_turn : (number : ℕ) → number < length found → (s mid new : ServerState) (its later : List Reply) → SettledInvariant mid → TurnBy Such Other (probe_result_of found number) (port_at number) its s mid
+  one_turn : (number : ℕ) → number < length found → (s mid new : ServerState) (its later : List Reply) → SettledInvariant mid → TurnByProbeResult Such Other (probe_result_of found number) (port_at number) its s mid
       → EachPortTakesTurn Such Other (number + 1) (drop (number + 1) found) later mid new → EachPortTakesTurn Such Other number (drop number found) (its ++ later) s new
   one_turn number low s mid new its later kept turn rest =
       subst (λ (left : List ProbeResult). EachPortTakesTurn Such Other number left (its ++ later) s new) (sym (drop_more found number Unserved low)) (by (probe_result_of found number) turn)
     where
-      by : (one : ProbeResult) → TurnBy Such Other one (port_at number) its s mid → EachPortTakesTurn Such Other number (one ∷ drop (number + 1) found) (its ++ later) s new
+      by : (one : ProbeResult) → TurnByProbeResult Such Other one (port_at number) its s mid → EachPortTakesTurn Such Other number (one ∷ drop (number + 1) found) (its ++ later) s new
       by (Ready info) had = (mid, its, later, refl, kept, had, rest)
       by (Unready state) had = subst (λ (told : List Reply). EachPortTakesTurn Such Other number (Unready state ∷ drop (number + 1) found) (told ++ later) s new) (sym had.0) (mid, kept, had.1, rest)
       by Unserved had = subst (λ (told : List Reply). EachPortTakesTurn Such Other number (Unserved ∷ drop (number + 1) found) (told ++ later) s new) (sym had.0)
@@ -54,13 +54,13 @@ module _ (Such : Port → List Reply → ServerState → ServerState → Type 0)
 
     -- and now it has had its turn
     pub one_more : (low : number < 4) → length found ≡ 4 → (default : ServedPort) (d : Device) (other : Shared) (p : ServedPort) (after : List Reply)
-        → TakesTurn (TurnBy Such Other (get_or ports number default).probe_result (port_at number)) told after (with_ports s device shared ports) (with_served_port (with_ports s device shared ports) d other (port_at number) p)
+        → TakesTurn (TurnByProbeResult Such Other (get_or ports number default).probe_result (port_at number)) told after (with_ports s device shared ports) (with_served_port (with_ports s device shared ports) d other (port_at number) p)
         → TurnsSoFar (set ports number p) after (with_ports s d other (set ports number p)) (number + 1)
     one_more low many default d other p after takes =
         let mid : ServerState = with_ports s d other (set ports number p) in
         let there : (get_or ports number default).probe_result ≡ probe_result_of found number = sym (its_part low default).has_port_and_shared.port_is.probe_result_is ∙ so_far.left number (omega arith) in
-        let turn = subst (λ (one : ProbeResult). TakesTurn (TurnBy Such Other one (port_at number)) told after (with_ports s device shared ports) mid) there
-        (subst (TakesTurn (TurnBy Such Other (get_or ports number default).probe_result (port_at number)) told after (with_ports s device shared ports)) (placing.placed s device shared ports number d other p) takes) in
+        let turn = subst (λ (one : ProbeResult). TakesTurn (TurnByProbeResult Such Other one (port_at number)) told after (with_ports s device shared ports) mid) there
+        (subst (TakesTurn (TurnByProbeResult Such Other (get_or ports number default).probe_result (port_at number)) told after (with_ports s device shared ports)) (placing.placed s device shared ports number d other p) takes) in
         record {
           four = length-set ports number p ∙ so_far.four;
           left = λ q more. placing.other_found ports number p q (λ same. omega (arith, more, same)) ∙ so_far.left q (omega (arith, more));

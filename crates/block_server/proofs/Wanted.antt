@@ -19,8 +19,8 @@ use Rattle.commands.specs.Batches.{PlacedTask}
 use Rattle.server_history.specs.IssuingAndAnswering.{IssuesTogetherIfAny, PutsInSlots}
 use Rattle.server_history.specs.ServerState.{ServerState}
 use Rattle.server_history.specs.Turns.{ServicesPort, EachPortTakesTurn, TakesTickTurn, ProbesUnready, a_tick_older}
-use Rattle.block_server.specs.Calls.{ServicesBy, Services, Submits, TicksBy, TicksServer}
-use Rattle.block_server.specs.Resetting.{DoesReset}
+use Rattle.block_server.specs.Calls.{ServicesOrResolvesByStuck, Services, Submits, TicksUnlessStuck, TicksServer}
+use Rattle.block_server.specs.Resetting.{ResetsOrGetsStuck}
 use Rattle.block_server.specs.Revoking.{Revokes, RevokesAndIssues}
 use Rattle.block_server.specs.ServerView.{ServerView, server_of}
 use Rattle.ata_types.specs.declared.call.NoSuchGrant.{NoSuchGrant}
@@ -68,12 +68,12 @@ ticks_port book port replies old new t = ⊎_elim (λ error_handled. error_handl
 same_port : (port : Port) (old new : ServerState) → new ≡ old → SameWanted old new
 same_port port old new same = ap (λ (s : ServerState). s.wanted) same
 
-services_by : (stuck : Bool) (ports : List ProbeResult) (replies : List Reply) (old new : ServerState) → ServicesBy stuck ports replies old new → SameWanted old new
+services_by : (stuck : Bool) (ports : List ProbeResult) (replies : List Reply) (old new : ServerState) → ServicesOrResolvesByStuck stuck ports replies old new → SameWanted old new
 services_by false ports replies old new s =
     turns ServicesPort ProbesUnready (λ port its one other served. served.is_port_turn.leaves_others.wanted) (λ port one other tried. tried.is_port_turn.leaves_others.wanted) 0 ports replies old new s
 services_by true ports replies old new s = settles 0 ports replies old new s
 
-ticks_by : (stuck : Bool) (replies : List Reply) (old new : ServerState) → TicksBy stuck replies old new → SameWanted old new
+ticks_by : (stuck : Bool) (replies : List Reply) (old new : ServerState) → TicksUnlessStuck stuck replies old new → SameWanted old new
 ticks_by false replies old new t = turns (TakesTickTurn (a_tick_older old).book) (λ port one other. other ≡ one) (ticks_port (a_tick_older old).book) same_port 0 old.probe_results replies (a_tick_older old) new t
 ticks_by true replies old new t = ap (λ (s : ServerState). s.wanted) t.1
 
@@ -88,7 +88,7 @@ module _ {A : Type 0} (device : A → Device) (old new : ServerView A) where
   pub tick_wants : (replies : List Reply) → TicksServer device old new replies → new.wanted ≡ old.wanted
   tick_wants replies ticks = ticks_by old.stuck replies (server_of device old) (server_of device new) ticks.ticks
 
-  pub reset_wants : (replies : List Reply) (result : Result (Unit {0}) AdapterStuck) → DoesReset device old new replies result → new.wanted ≡ old.wanted
+  pub reset_wants : (replies : List Reply) (result : Result (Unit {0}) AdapterStuck) → ResetsOrGetsStuck device old new replies result → new.wanted ≡ old.wanted
   reset_wants replies (Ok done) resets =
       issues 0 resets.0.server_after_take_over.probe_results resets.0.server_after_resolving (server_of device new) resets.0.issues_on_each_ready_port
       ∙ settles 0 resets.0.server_after_take_over.probe_results replies resets.0.server_after_take_over resets.0.server_after_resolving resets.0.resolves_each_port

@@ -20,10 +20,10 @@ with_replies (said.State state) replies = said.State state
 with_replies (said.Stepped done) replies = said.Stepped done
 
 -- what the last call said, if there was one
-abbrev pub last_of : Option (CallResult (Unit {0})) → List Reply → List (CallResult (ArrayVec Reply))
-last_of None replies = []
-last_of (Some result) replies = with_replies result replies ∷ []
+abbrev pub last_result_as_list : Option (CallResult (Unit {0})) → List Reply → List (CallResult (ArrayVec Reply))
+last_result_as_list None replies = []
+last_result_as_list (Some result) replies = with_replies result replies ∷ []
 
 -- what all of them said, in their order
 abbrev pub results_in : CallResults → List (CallResult (ArrayVec Reply))
-results_in s = s.earlier.items ++ last_of s.last s.replies.items
+results_in s = s.earlier.items ++ last_result_as_list s.last s.replies.items

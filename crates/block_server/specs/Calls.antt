@@ -57,26 +57,26 @@ Submits device old new r (Err refusal) = IsFirstRefusal (admission_context (serv
 
 -- Each ready port was served, and each other one that is served was probed, in rising number. Since a reset that got
 -- stuck, all requests were told what their ports are: dead.
-abbrev pub ServicesBy : Bool → List ProbeResult → List Reply → ServerState → ServerState → Type 0
-ServicesBy false ports replies old new = ServicesEachPort 0 ports replies old new
-ServicesBy true ports replies old new = ResolvesEachPort 0 ports replies old new
+abbrev pub ServicesOrResolvesByStuck : Bool → List ProbeResult → List Reply → ServerState → ServerState → Type 0
+ServicesOrResolvesByStuck false ports replies old new = ServicesEachPort 0 ports replies old new
+ServicesOrResolvesByStuck true ports replies old new = ResolvesEachPort 0 ports replies old new
 
 -- So a service does; it doesn't end a reset.
 abbrev pub Services : {A : Type 0} → (A → Device) → ServerView A → ServerView A → List Reply → Type 0
-Services device old new replies = ServicesBy old.stuck old.probe_results replies (server_of device old)
+Services device old new replies = ServicesOrResolvesByStuck old.stuck old.probe_results replies (server_of device old)
     (server_of device new)
     × (new.stuck ≡ old.stuck)
 
 -- Requests got older, and ready ports had their turns. Since a reset that got stuck there is none that is ready:
 -- nothing changed.
-abbrev pub TicksBy : Bool → List Reply → ServerState → ServerState → Type 0
-TicksBy false replies old new = Ticks replies old new
-TicksBy true replies old new = (replies ≡ []) × (new ≡ old)
+abbrev pub TicksUnlessStuck : Bool → List Reply → ServerState → ServerState → Type 0
+TicksUnlessStuck false replies old new = Ticks replies old new
+TicksUnlessStuck true replies old new = (replies ≡ []) × (new ≡ old)
 
 -- So a tick does; it doesn't end a reset either. Where no request is overdue once they got older, or the last reset got
 -- stuck, no access was made.
 pub record TicksServer {A : Type 0} (device : A → Device) (old new : ServerView A) (replies : List Reply) : Type 0 where
-  pub ticks : TicksBy old.stuck replies (server_of device old) (server_of device new)
+  pub ticks : TicksUnlessStuck old.stuck replies (server_of device old) (server_of device new)
   pub stuck_is_unchanged : new.stuck ≡ old.stuck
   pub no_access_if_none_overdue : (HasAnyOverdue (a_tick_older (server_of device old)).book → ⊥)
       → new.adapter ≡ old.adapter
@@ -107,7 +107,7 @@ StoresFrame device old new client frame offset bytes (Err fault) =
 -- The device does what it is told, or nothing; of the server nothing else changes.
 pub record StepsDevice {A : Type 0} (device : A → Device) (old new : ServerView A) (step : DeviceStep)
     (done : Bool) : Type 0 where
-  pub step_is_done : done ≡ true → DoesOrFailsStep step (device old.adapter) (device new.adapter)
+  pub done_means_did_or_failed_step : done ≡ true → DoesOrFailsStep step (device old.adapter) (device new.adapter)
   pub steps : Steps (device old.adapter) (device new.adapter)
   pub undone_changes_nothing : done ≡ false → device new.adapter ≡ device old.adapter
   pub only_adapter_changes : SameButAdapter old new

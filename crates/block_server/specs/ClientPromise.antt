@@ -17,7 +17,7 @@ use Rattle.block_machine.specs.Events.{AbstractCall, AbstractCallResult, EveryRe
 use Rattle.block_machine.specs.Histories.{JointEvent, JointState, events_of, joint_state_after}
 use Rattle.durability.specs.Durable.{EveryPlugFindsFlushed}
 use Rattle.driver_history.specs.PortInvariants.{ShowsDiskInfo}
-use Rattle.driver_history.specs.ConfinedMoves.{ConfinesCallMoves}
+use Rattle.driver_history.specs.ConfinedMoves.{ConfinesCallMovesAndClears}
 use Rattle.host_boot.specs.TakeOver.{IsServed, wanted_of}
 use Rattle.identify.specs.Wanted.{serial_of}
 use Rattle.identify.specs.declared.DiskInfo.{DiskInfo}
@@ -74,7 +74,7 @@ pub record BetweenCallsInvariant (wanted : List Wanted) (i : JointState Device) 
   pub unready_have_none_while_on : (p : Port) → p.0 < 4 → IsOn i.device → EmptyUnlessReady i.abstract p
   pub client_frames_are_same : SameClientFrames i.abstract.machine i.device.memory
   pub disks_are_same : (port : ℕ) → IsDiskOf i.abstract.machine (i.device.port port) port
-  pub sectors_are_same : i.device.telling ≡ true → (port : ℕ)
+  pub sectors_are_same_if_disks_tell : i.device.telling ≡ true → (port : ℕ)
       → SameSectors i.abstract.machine (i.device.port port).disk port
 
 -- ---- the promise
@@ -111,9 +111,10 @@ pub record MeetsClientPromise (first : JointState Device) (past added : List (Jo
 
 -- What is promised of moves of data, which follows: in each of these calls moves and clears keep to their places, of
 -- requests that were accepted when they broke no rule.
-abbrev pub ConfinesMoves : JointState Device → List (JointEvent Device DeviceStep) → List (JointEvent Device DeviceStep)
-    → Type 0
-ConfinesMoves first past added = HoldsOfEachAdded (λ before h. ConfinesCallMoves first.abstract.machine
+abbrev pub ConfinesMovesAndClears : JointState Device → List (JointEvent Device DeviceStep)
+    → List (JointEvent Device DeviceStep) → Type 0
+ConfinesMovesAndClears first past added = HoldsOfEachAdded
+    (λ before h. ConfinesCallMovesAndClears first.abstract.machine
     (steps_of (events_of before))
     h.event.steps (joint_state_after first before).device h.device) past added
 
@@ -121,6 +122,7 @@ ConfinesMoves first past added = HoldsOfEachAdded (λ before h. ConfinesCallMove
 -- its port was accepted that was answered Ok, too, with its disk in from the acceptance of the write to the answer of
 -- the flush, and no other one put in since: where that disk comes back it has, in each sector of it, the bytes that it
 -- put there, or those of a write or trim accepted later, where the adapter's disks tell their sectors.
-pub record FlushesSurviveReplug (first : JointState Device) (calls : List (JointEvent Device DeviceStep)) : Type 0 where
-  pub every_plug_finds_flushed : first.device.telling ≡ true
+pub record FlushesSurviveReplugIfDisksTell (first : JointState Device) (calls : List
+    (JointEvent Device DeviceStep)) : Type 0 where
+  pub plugs_find_flushed_if_disks_tell : first.device.telling ≡ true
       → EveryPlugFindsFlushed first.abstract.machine (steps_of (events_of calls))

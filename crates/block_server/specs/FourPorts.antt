@@ -16,8 +16,8 @@ abbrev pub by_port : {X : Type 0} → (ServedPort → X) → List ServedPort →
 by_port field_of ports = map field_of ports
 
 -- the port, with no loan kept
-abbrev pub without_loans : ServedPort → ServedPort
-without_loans p = record p { kept = [] }
+abbrev pub without_kept_loans : ServedPort → ServedPort
+without_kept_loans p = record p { kept = [] }
 
 -- of four ports, by their numbers, each has become such a one
 pub record EachBecomes (Such : ℕ → ServedPort → ServedPort → Type 0) (old new : List ServedPort) : Type 0 where

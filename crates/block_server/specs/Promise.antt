@@ -24,7 +24,7 @@ use Rattle.driver_history.specs.Histories.{IssuesAllDue}
 use Rattle.host_boot.specs.TakeOver.{probe_result_of}
 use Rattle.server_history.specs.Histories.{LeadsToServer}
 use Rattle.server_history.specs.ServerState.{state_of}
-use Rattle.block_server.specs.ClientPromise.{ConfinesMoves, HoldsOfEachAdded, FlushesSurviveReplug, MeetsClientPromise}
+use Rattle.block_server.specs.ClientPromise.{ConfinesMovesAndClears, HoldsOfEachAdded, FlushesSurviveReplugIfDisksTell, MeetsClientPromise}
 use Rattle.block_server.specs.AbstractCalls.{abstract_call_of, machine_result_of}
 use Rattle.block_server.specs.ServerView.{ServerView, server_of, observed_state_of}
 
@@ -55,9 +55,9 @@ GoesWellForClients port old h = GoesWellFor old h port × MeetsPortPromise port 
 
 -- In a call after these ones, a service answers each request of a port that is ready when it begins of which the bits
 -- of PxCI and PxSACT were clear then; and each port is served well that the call is healthy for.
-pub record KeepsPortPromise (first : JointState Device) (past : List (JointEvent Device DeviceStep))
+pub record ServesPorts (first : JointState Device) (past : List (JointEvent Device DeviceStep))
     (h : JointEvent Device DeviceStep) : Type 0 where
-  pub clear_bits_are_answered : (port : Port) (slot : ℕ) (id : RequestId) → h.event.call ≡ Service
+  pub service_answers_where_bits_are_clear : (port : Port) (slot : ℕ) (id : RequestId) → h.event.call ≡ Service
       → (joint_state_after first past).abstract.ports.state port ≡ Ready
       → ServesRequest (joint_state_after first past).abstract.machine (joint_state_after first past).device.memory
       ((joint_state_after first past).device.port port.0) port.0 slot id
@@ -77,7 +77,7 @@ pub record KeepsPortPromise (first : JointState Device) (past : List (JointEvent
 pub record DrivesDevice {A : Type 0} (device : A → Device) (first : JointState Device)
     (past added : List (JointEvent Device DeviceStep)) (old new : ServerView A) : Type 0 where
   pub history_leads_to_server : LeadsToServer first (added ++ past) (server_of device new)
-  pub calls_keep_port_promise : HoldsOfEachAdded (KeepsPortPromise first) past added
+  pub calls_serve_ports : HoldsOfEachAdded (ServesPorts first) past added
   pub healthy_ports_go_well : (port : Port) → state_of (probe_result_of old.probe_results port.0) ≡ Ready
       → StaysHealthy port.0 (device old.adapter) (device new.adapter)
       → HoldsOfEachAdded (λ before h. (h.event.call ≢ Reset)
@@ -96,15 +96,16 @@ pub record KeepsPromise {A : Type 0} (device : A → Device) (first : JointState
       (observed_state_of device new)
       (map abstract_call_of calls)
       (map machine_result_of said)
-  pub confines_moves : ConfinesMoves first past added
-  pub flushes_survive_replug : FlushesSurviveReplug first (added ++ past)
+  pub confines_moves_and_clears : ConfinesMovesAndClears first past added
+  pub flushes_survive_replug : FlushesSurviveReplugIfDisksTell first (added ++ past)
   pub drives_device : DrivesDevice device first past added old new
 
 -- So it is after each such history. (There is one since the server was made: `begun` of `IsInitialServer`; and with the
 -- calls it leads to the server after them.)
-abbrev pub Simulates : {A : Type 0} → (A → Device) → ServerView A → ServerView A → List (Call DeviceStep)
-    → List (CallResult (ArrayVec Reply)) → Type 0
-Simulates device old new calls said = (first : JointState Device) (past : List (JointEvent Device DeviceStep))
+abbrev pub Simulates : {A : Type 0} → (A → Device) → ServerView A → ServerView A
+    → List (Call DeviceStep) → List (CallResult (ArrayVec Reply)) → Type 0
+Simulates device old new calls said = (first : JointState Device) (past : List
+    (JointEvent Device DeviceStep))
     → LeadsToServer first past (server_of device old) → KeepsPromise device first past old new calls said
 
 -- What the calls of a list said, one thing each, stands at the end of what had been said; and they keep the promise.

@@ -16,10 +16,10 @@ reset_result (Err why) replies = WasReset None
 
 -- The adapter was reset, and so was the server with these replies; or the adapter didn't end its reset, and there is no
 -- reply.
-abbrev pub DoesReset : {A : Type 0} → (A → Device) → ServerView A → ServerView A → List Reply
+abbrev pub ResetsOrGetsStuck : {A : Type 0} → (A → Device) → ServerView A → ServerView A → List Reply
     → Result (Unit {0}) AdapterStuck → Type 0
-DoesReset device old new replies (Ok done) = ResetsServer replies (server_of device old) (server_of device new)
+ResetsOrGetsStuck device old new replies (Ok done) = ResetsServer replies (server_of device old) (server_of device new)
     × (new.stuck ≡ false)
-DoesReset device old new replies (Err why) = (replies ≡ [])
+ResetsOrGetsStuck device old new replies (Err why) = (replies ≡ [])
     × ResetGetsStuck (server_of device old) (server_of device new)
     × (new.stuck ≡ true)

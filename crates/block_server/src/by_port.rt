@@ -5,7 +5,7 @@ ghost use Rattle.block_server.specs.FourPorts.{by_port, port_in};
 ghost use Rattle.host_boot.specs.declared.ProbeResult.TheVariants.{Unserved};
 ghost use Rattle.refinement.specs.Relation.{port_at};
 ghost use Rattle.request_queue.specs.BookEntries.{HasAnyOverdue, HasOverdueOn, is_among};
-ghost use Rattle.server_history.specs.{ErrorHandling.{HasNoUsedSlot}, ServerState.{quarantined_at, plain_mode}, Turns.{is_ready}};
+ghost use Rattle.server_history.specs.{ErrorHandling.{HasAllSlotsFreeAndCountOfMode}, ServerState.{quarantined_at, plain_mode}, Turns.{is_ready}};
 
 use ata_types::{PORTS, Port};
 use identify::Wanted;
@@ -64,7 +64,8 @@ pub(crate) fn unserved_ports(
     ensures found { by_port (λ p. p.probe_result) result ≡ replicate 4 Unserved }
     ensures forgotten { by_port (λ p. p.remembered) result ≡ replicate 4 None }
     ensures modes { by_port (λ p. p.mode) result ≡ replicate 4 plain_mode }
-    ensures unused { (number : ℕ) → number < 4 → HasNoUsedSlot plain_mode (port_in result number).slots }
+    ensures unused { (number : ℕ) → number < 4
+        → HasAllSlotsFreeAndCountOfMode plain_mode (port_in result number).slots }
 {
     let [first, second, third, fourth] = kept;
     [

@@ -11,9 +11,9 @@ ghost use Rattle.block_server.specs.{Promise.{Simulates}, InitialServer.{IsIniti
 
 use adapter::Stepped;
 use driver_history::laws::{
-    law_answers_justified, law_clear_bits_are_answered, law_healthy_calls_go_well,
-    law_histories_are_runs, law_moves_keep_to_their_places, law_reads_hold_if_disks_tell,
-    law_replugs_keep_flushed_writes,
+    law_answers_justified, law_healthy_calls_go_well, law_histories_are_runs,
+    law_moves_keep_to_their_places, law_reads_hold_if_disks_tell,
+    law_replugs_keep_flushed_if_disks_tell, law_services_answer_where_bits_are_clear,
 };
 use host_boot::laws::law_what_was_taken_over_may_be_served;
 
@@ -32,20 +32,21 @@ pub fn law_runs_keep_their_promise<A: Stepped>()
         → new.wanted ≡ old.wanted → Simulates A.device old new (call ∷ []) (one ∷ []) }
     ensures calls_join { (old mid new : ServerView A) (calls further : List (Call DeviceStep))
         (said more : List (CallResult (ArrayVec Reply))) → Simulates A.device old mid calls said
-        → Simulates A.device mid new further more → Simulates A.device old new (calls ++ further) (said ++ more) }
+        → Simulates A.device mid new further more
+        → Simulates A.device old new (calls ++ further) (said ++ more) }
 {
-    law_clear_bits_are_answered();
+    law_services_answer_where_bits_are_clear();
     law_healthy_calls_go_well();
     law_answers_justified();
     law_moves_keep_to_their_places();
     law_histories_are_runs();
     law_reads_hold_if_disks_tell();
-    law_replugs_keep_flushed_writes();
+    law_replugs_keep_flushed_if_disks_tell();
 }
 
 /// A port that is ready when its server is made runs well then, where nothing went wrong on it since the adapter was
 /// idle.
-pub fn law_new_servers_run_well<A: Stepped>()
+pub fn law_new_server_ready_ports_run_well<A: Stepped>()
     ensures { (config : Config) (adapter : A) (server : ServerView A) (port : Port) → IsIdle (A.device adapter)
         → IsInitialServer A.device config adapter server → state_of (probe_result_of server.probe_results port.0)
         ≡ Ready

@@ -3,7 +3,7 @@ ghost use Rattle.std.specs.Prelude.{◌≡◌, ◌<◌, ◌≤◌, ◌+◌, ◌*
 ghost use Rattle.adapter.specs.AccessBounds.{MakesAtMost};
 ghost use Rattle.ata_types.specs.declared.request.Reply.{Reply};
 ghost use Rattle.port_driver.specs.{Costs.{ISSUE_DUE_ACCESSES}, PortAndShared.{NotesProbeResult}};
-ghost use Rattle.block_server.specs.{FourPorts.{EachBecomes, IsAsHostProbed, by_port, without_loans}, ServerFieldsView.{with_ports}};
+ghost use Rattle.block_server.specs.{FourPorts.{EachBecomes, IsAsHostProbed, by_port, without_kept_loans}, ServerFieldsView.{with_ports}};
 ghost use Rattle.server_history.specs.{KeptLoans.{IsKeptIn, MayGiveBack, GivesBackLoans}, Resets.{IssuesOnEachReadyPort, MayResolve, ResolvesEachPort}, ServerState.{InCallInvariant, ServerState, plain_mode}, StuckServer.{found_after_stuck_reset}};
 
 use adapter::Adapter;
@@ -19,7 +19,7 @@ use server_history::stuck_server::law_may_resolve_persists;
 /// Gives back the loans that are kept of all ports: their frames are lent to none.
 pub(crate) fn give_all_back(ports: &mut [ServedPort; PORTS], table: &mut FrameTable)
     requires { MayGiveBack table.old (by_port (λ p. p.kept) ports.old) }
-    ensures ports { ports.new ≡ map without_loans ports.old }
+    ensures ports { ports.new ≡ map without_kept_loans ports.old }
     ensures takes_kept_loans_back { GivesBackLoans table.old table.new (IsKeptIn (by_port (λ p. p.kept) ports.old)) }
 {
     law_loans_end_in_turn();

@@ -18,7 +18,7 @@ use ata_types::{
     AdapterStuck, MOST_UNANSWERED, Op, PORTS, Port, PortState, Range, Refusal, Replies, Request,
     RequestId,
 };
-use block_machine::laws::law_due_is_exact;
+use block_machine::laws::law_due_list_is_exact;
 use configuration::{Config, Plan};
 use dma_frames::FrameTable;
 use grants::{Grants, decide};
@@ -34,8 +34,8 @@ use server_history::laws::{
 };
 use server_history::resets::{law_reset_leads_to_settled, law_resets_extend_history};
 use server_history::stuck_server::{
-    law_quarantined_loans_are_lent, law_server_invariant_holds, law_stuck_calls_extend_history,
-    law_stuck_servers_admit_none,
+    law_in_call_gives_server_invariant, law_quarantined_loans_are_lent,
+    law_stuck_calls_extend_history, law_stuck_servers_admit_none,
 };
 use std::alloc::Global;
 use std::marker::Model;
@@ -67,7 +67,7 @@ impl<A: Adapter> Model for Server<A> {
 
 impl<A: Adapter> Server<A> {
     ghost use Rattle.block_machine.specs.{Events.{Reset, Service, Replied, Submit, Submitted, State, PortStateShown, Tick, WasReset}, Refusals.{IsAcceptable, IsFirstRefusal}};
-    ghost use Rattle.block_server.specs.{Calls.{AcceptsRequest, IsRequestForPort, Submits, Services, TicksServer}, InitialServer.{IsReadyFor, IsInitialServer, IsWhyNoServerIsMade}, ServerView.{server_of}, Resetting.{DoesReset, reset_result}, Costs.{MOST_NEW_ACCESSES, MOST_RESET_ACCESSES, MOST_SERVICE_ACCESSES, MOST_SUBMIT_ACCESSES, MOST_TICK_ACCESSES}};
+    ghost use Rattle.block_server.specs.{Calls.{AcceptsRequest, IsRequestForPort, Submits, Services, TicksServer}, InitialServer.{IsReadyFor, IsInitialServer, IsWhyNoServerIsMade}, ServerView.{server_of}, Resetting.{ResetsOrGetsStuck, reset_result}, Costs.{MOST_NEW_ACCESSES, MOST_RESET_ACCESSES, MOST_SERVICE_ACCESSES, MOST_SUBMIT_ACCESSES, MOST_TICK_ACCESSES}};
     ghost use Rattle.configuration.specs.Rules.{LacksEveryFault};
     ghost use Rattle.host_boot.specs.TakeOver.{probe_result_of};
     ghost use Rattle.server_history.specs.{Histories.{ExtendsHistory}, ServerState.{last_disk_of, remembered_at, admission_context, state_of, last_sectors_of, zeroes_after_trim_of}};
@@ -237,7 +237,7 @@ impl<A: Adapter> Server<A> {
     {
         law_requests_preserve_invariant();
         law_acceptances_extend_history();
-        law_due_is_exact();
+        law_due_list_is_exact();
         let id = RequestId(self.last + 1);
         let entry = PendingRequest {
             id,
@@ -323,7 +323,7 @@ impl<A: Adapter> Server<A> {
             return self.fail_all(replies);
         }
         for number in 0..PORTS {
-            self.ports[number].take_turn(
+            self.ports[number].take_service_turn(
                 &mut self.adapter,
                 &mut self.shared,
                 Port(number as u8),
@@ -342,7 +342,7 @@ impl<A: Adapter> Server<A> {
             (Replied replies.new.items) }
         ensures cost { MakesAtMost 0 (A.access_count self.old.adapter) (A.access_count self.new.adapter) }
     {
-        law_server_invariant_holds();
+        law_in_call_gives_server_invariant();
         law_stuck_calls_extend_history();
         law_book_stays_well_formed();
         resolve_ports(&mut self.ports, &mut self.shared, replies);
@@ -418,8 +418,8 @@ impl<A: Adapter> Server<A> {
     /// project's own). Then each served port is dead until a reset ends: the next `service` tells its requests
     /// `PortDead`, and frames of those that had been issued stay lent. A tick does nothing meanwhile.
     pub fn reset(&mut self) -> Result<Replies, AdapterStuck>
-        ensures done { IfOk result (λ replies. DoesReset A.device self.old self.new replies.items (Ok tt)) }
-        ensures stuck { IfErr result (λ why. DoesReset A.device self.old self.new [] (Err why)) }
+        ensures done { IfOk result (λ replies. ResetsOrGetsStuck A.device self.old self.new replies.items (Ok tt)) }
+        ensures stuck { IfErr result (λ why. ResetsOrGetsStuck A.device self.old self.new [] (Err why)) }
         ensures adds { IfOk result
             (λ replies. ExtendsHistory (server_of A.device self.old) (server_of A.device self.new)
             Reset (WasReset (Some replies.items))) }
@@ -436,13 +436,13 @@ impl<A: Adapter> Server<A> {
 
     /// The same, where the replies stand in a list that the caller keeps, in place of what it had.
     pub fn reset_into(&mut self, replies: &mut Replies) -> Result<(), AdapterStuck>
-        ensures resets { DoesReset A.device self.old self.new replies.new.items result }
+        ensures resets { ResetsOrGetsStuck A.device self.old self.new replies.new.items result }
         ensures extends_history { ExtendsHistory (server_of A.device self.old) (server_of A.device self.new) Reset
             (reset_result result replies.new.items) }
         ensures cost { MakesAtMost MOST_RESET_ACCESSES (A.access_count self.old.adapter)
             (A.access_count self.new.adapter) }
     {
-        law_server_invariant_holds();
+        law_in_call_gives_server_invariant();
         law_quarantined_loans_are_lent();
         law_reset_leads_to_settled();
         law_resets_extend_history();
@@ -467,7 +467,7 @@ impl<A: Adapter> Server<A> {
     pub fn close(self) -> A
         ensures { result ≡ self.adapter }
     {
-        law_server_invariant_holds();
+        law_in_call_gives_server_invariant();
         law_quarantined_loans_are_lent();
         let Server {
             adapter,

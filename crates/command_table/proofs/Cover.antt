@@ -9,7 +9,7 @@ use Rattle.adapter.specs.declared.command.Prd.{Prd}
 use Rattle.adapter.specs.Decoding.{pieces, piece_addresses, IsWholePieces}
 use Rattle.adapter.specs.Encoding.{IsAllowedPrd}
 use Rattle.command_table.specs.SectorPlaces.{place_of, places_of, frame_number}
-use Rattle.command_table.specs.FrameRuns.{IsRunFromFirst, CoversRun, PrdsCoverFrames, frame_count_in}
+use Rattle.command_table.specs.FrameRuns.{IsLongestRunFromFirst, CoversRun, PrdsCoverFrames, frame_count_in}
 
 -- the frames hold so many bytes, and the last of them at least one
 pub record Fits (frames : List Frame) (bytes : ℕ) : Type 0 where
@@ -120,7 +120,7 @@ joined_cover frames bytes es fits j whole = cover_from frames es 0 bytes whole f
 -- the frames from a place on whose numbers were seen to rise, and no further
 pub longest : (frames : List Frame) (from n : ℕ) → from + n ≤ length frames → 0 < n
     → ((k : ℕ) → k < n → frame_number frames (from + k) ≡ frame_number frames from + k)
-    → (n < length frames - from → frame_number frames (from + n) ≡ frame_number frames from + n → ⊥) → IsRunFromFirst (drop from frames) n
+    → (n < length frames - from → frame_number frames (from + n) ≡ frame_number frames from + n → ⊥) → IsLongestRunFromFirst (drop from frames) n
 longest frames from n within some rising ends =
     let d : length (drop from frames) ≡ length frames - from = length-drop from frames in
     let number : (k : ℕ) → frame_number (drop from frames) k ≡ frame_number frames (from + k) = λ (k : ℕ). ap (λ (f : Frame). f.0) (get_or-drop from frames k (record { 0 = 0 })) in
@@ -135,7 +135,7 @@ longest frames from n within some rising ends =
 
 -- one PRD more, of the longest run of the frames that are left
 pub joined_more : (frames : List Frame) (covered left count : ℕ) (e : Prd) (es : List Prd) → covered < length frames → 4096 * (length frames - covered) < left + 4096
-    → IsRunFromFirst (drop covered frames) count → e.address ≡ 4096 * frame_number frames covered → e.bytes ≡ min left (4096 * count)
+    → IsLongestRunFromFirst (drop covered frames) count → e.address ≡ 4096 * frame_number frames covered → e.bytes ≡ min left (4096 * count)
     → PrdsCoverFrames (drop (covered + count) frames) (left - e.bytes) es → PrdsCoverFrames (drop covered frames) left (e ∷ es)
 joined_more frames covered left count e es lt last run address size rest =
     let d : length (drop covered frames) ≡ length frames - covered = length-drop covered frames in
@@ -145,7 +145,7 @@ joined_more frames covered left count e es lt last run address size rest =
     let first : frame_number (drop covered frames) 0 ≡ frame_number frames covered = ap (λ (f : Frame). f.0) (get_or-drop covered frames 0 (record { 0 = 0 })) ∙ ap (frame_number frames) base in
     let back : drop (covered + count) frames ≡ drop (frame_count_in e) (drop covered frames) = sym (drop-drop count covered frames) ∙ ap (λ (n : ℕ). drop n (drop covered frames)) (sym all) in (
       record {
-        run = subst (IsRunFromFirst (drop covered frames)) (sym all) run;
+        run = subst (IsLongestRunFromFirst (drop covered frames)) (sym all) run;
         address = address ∙ ap (λ (x : ℕ). 4096 * x) (sym first);
         size = size ∙ ap (λ (n : ℕ). min left (4096 * n)) (sym all);
       },

@@ -20,13 +20,13 @@ use Rattle.adapter.specs.declared.command.Operation.{Operation}
 use Rattle.adapter.specs.declared.command.Prd.{Prd}
 use Rattle.refinement.specs.Fragments.{AnyAccess, SomeMachineAgrees, IsDrivenBy, IsSimulated, SparesOtherPorts, NoneWrites}
 use Rattle.refinement.specs.PreservedParts.{SameAdapter}
-use Rattle.refinement.specs.Driver.{KeepsTablesAndScratch, MayStore, MissesHeaderAndTable}
+use Rattle.refinement.specs.Driver.{KeepsTablesAndScratchUnlessOwn, MayStore, MissesTableAndHeaderButPrdbc}
 use Rattle.refinement.specs.MemoryLayout.{command_list_address, scratch_frame_address, command_table_address}
 use Rattle.refinement.specs.Slots.{SlotStates, SlotDecodesTo}
 use Rattle.command_table.specs.BufferBytes.{bytes_from}
 use Rattle.command_table.specs.Laws.{Laws}
 use Rattle.command_table.specs.Laws.AccessPurpose.{Tables, TablesAndBlock}
-use Rattle.command_table.specs.TableStores.{IsTableFor, FillsHeaderPlace, IsInTable, IsHeaderTableOrBlockStore, IsHeaderOrTableStore, IsUnused}
+use Rattle.command_table.specs.TableStores.{IsTableFor, FillsHeaderWithPrdbcZero, IsInTable, IsHeaderTableOrBlockStore, IsHeaderOrTableStore, IsUnused}
 use Rattle.command_table.specs.SectorPlaces.{places_of}
 use Rattle.command_table.proofs.Saying.{table_says}
 
@@ -34,7 +34,7 @@ use Rattle.command_table.proofs.Saying.{table_says}
 may_store : (uses : SlotStates) (port slot at : ℕ) (bytes : List ℕ) → port < 4 → slot < 32 → IsUnused port slot uses → IsHeaderOrTableStore port slot (Storing at bytes) → MayStore uses at (length bytes)
 may_store uses port slot at bytes below small free here = inl (record { port = port; slot = slot; port_is_below_4 = below; slot_below = small; free = free; is_in_header_or_table = of here })
   where
-    of : FillsHeaderPlace port slot at bytes ⊎ IsInTable port slot at bytes →
+    of : FillsHeaderWithPrdbcZero port slot at bytes ⊎ IsInTable port slot at bytes →
         ((command_list_address port + 32 * slot ≤ at) × (at + length bytes ≤ command_list_address port + 32 * slot + 32)) ⊎ ((command_table_address port slot ≤ at) × (at + length bytes ≤ command_table_address port slot + TABLE_BYTES))
     of (inl h) = let place = h.0 in let size = h.1 in inl (omega (arith, place), omega (arith, place, size))
     of (inr t) = inr t
@@ -76,7 +76,7 @@ module _ (laws : Laws) (port slot : ℕ) (below : port < 4) (small : slot < 32) 
   store_size = (laws.access_keeps_adapter (Storing at bytes) old new call).memory_size
 
   module _ (on : IsOn old) (uses : SlotStates) (free : IsUnused port slot uses) (a : SomeMachineAgrees uses old) where
-    pub store_left : KeepsTablesAndScratch uses (record old { memory = patched old.memory at bytes }) new
+    pub store_left : KeepsTablesAndScratchUnlessOwn uses (record old { memory = patched old.memory at bytes }) new
     store_left = laws.store_keeps_tables uses a.machine old new a.reached a.driver_relation.state_relation on.no_reset at bytes call
 
     pub store_agrees : SomeMachineAgrees uses new
@@ -124,7 +124,7 @@ module _ (laws : Laws) (port slot : ℕ) (below : port < 4) (small : slot < 32) 
   pub stored_says : (m : Meaning) (places : List ℕ) → IsTableFor slot command prds m places → SlotDecodesTo new.memory (command_list_address port) port slot m places
   stored_says m places is =
       let x = table_says laws.memory stored (command_list_address port) slot (command_table_address port slot) prds table header few size table_there header_there writes command direction fis each heads m places is in
-      laws.own_steps_keep_meaning uses (record mid { memory = stored }) new
+      laws.kept_tables_keep_meaning uses (record mid { memory = stored }) new
       (store_left laws port slot below small (command_list_address port + 32 * slot) header mid new in_header second mid_on uses free mid_agrees)
       port slot m places below small
       (record { decodes_to = x.0; table_is = x.1; prds_are_few = let same = x.2 in rw same few })
@@ -132,7 +132,7 @@ module _ (laws : Laws) (port slot : ℕ) (below : port < 4) (small : slot < 32) 
 -- ---- a block behind them
 
 -- the block is no byte of a table or of a header
-block_misses : (port at n : ℕ) → at ≡ scratch_frame_address port → MissesHeaderAndTable port 0 at n
+block_misses : (port at n : ℕ) → at ≡ scratch_frame_address port → MissesTableAndHeaderButPrdbc port 0 at n
 block_misses port at n is place (inl header) from to = let h = header.1 in omega (arith, is, h, from)
 block_misses port at n is place (inr (inl header)) from to = let h = header.1 in omega (arith, is, h, from)
 block_misses port at n is place (inr (inr table)) from to = let t = table.1 in omega (arith, is, t, from)

@@ -16,7 +16,7 @@ pub record FillFrames (frames : List Frame) (bytes : ℕ) : Type 0 where
 
 -- The first n frames, at least one, are the longest run from the first on: their numbers rise by one, and the next
 -- frame, if there is one, doesn't go on so.
-pub record IsRunFromFirst (frames : List Frame) (n : ℕ) : Type 0 where
+pub record IsLongestRunFromFirst (frames : List Frame) (n : ℕ) : Type 0 where
   pub is_not_empty : 0 < n
   pub length_in_range : n ≤ length frames
   pub numbers_rise_by_one : (k : ℕ) → k < n → frame_number frames k ≡ frame_number frames 0 + k
@@ -29,7 +29,7 @@ frame_count_in e = (e.bytes + (FRAME_BYTES - 1)) / FRAME_BYTES
 
 -- The PRD covers the longest run of the first frames: all of it, or what is left of so many bytes.
 pub record CoversRun (frames : List Frame) (bytes : ℕ) (e : Prd) : Type 0 where
-  pub run : IsRunFromFirst frames (frame_count_in e)
+  pub run : IsLongestRunFromFirst frames (frame_count_in e)
   pub address : e.address ≡ FRAME_BYTES * frame_number frames 0
   pub size : e.bytes ≡ min bytes (FRAME_BYTES * frame_count_in e)
 

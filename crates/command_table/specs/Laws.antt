@@ -10,7 +10,7 @@ use Rattle.adapter.specs.Memory.{bytes_at, patched}
 use Rattle.adapter.specs.Rules.{IsOn, IsStable, IsUnowned}
 use Rattle.block_machine.specs.Histories.{IsReachable}
 use Rattle.block_machine.specs.State.{Machine}
-use Rattle.refinement.specs.Driver.{KeepsTablesAndScratch, MayStore, MissesHeaderAndTable}
+use Rattle.refinement.specs.Driver.{KeepsTablesAndScratchUnlessOwn, MayStore, MissesTableAndHeaderButPrdbc}
 use Rattle.refinement.specs.Laws.{FragmentLaws}
 use Rattle.refinement.specs.PreservedParts.{SameAdapter}
 use Rattle.refinement.specs.MemoryLayout.{command_list_address}
@@ -55,15 +55,15 @@ pub record Laws : Type 0 where
   pub store_keeps_tables : (uses : SlotStates) (m : Machine) (old new : Device) → IsReachable m
       → StateRelation uses m old
       → old.hr ≡ false → (at : ℕ) (bytes : List ℕ) → Stores at bytes old new
-      → KeepsTablesAndScratch uses (record old { memory = patched old.memory at bytes }) new
-  pub own_steps_keep_meaning : (uses : SlotStates) (old new : Device) → KeepsTablesAndScratch uses old new
+      → KeepsTablesAndScratchUnlessOwn uses (record old { memory = patched old.memory at bytes }) new
+  pub kept_tables_keep_meaning : (uses : SlotStates) (old new : Device) → KeepsTablesAndScratchUnlessOwn uses old new
       → (port slot : ℕ) (c : Meaning)
       (places : List ℕ) → port < 4 → slot < 32 → SlotDecodesTo old.memory (command_list_address port) port slot c places
       → SlotDecodesTo new.memory (command_list_address port) port slot c places
   pub store_keeps_other_tables : (uses : SlotStates) (at : ℕ) (bytes : List ℕ) (old new : Device)
-      → KeepsTablesAndScratch uses (record old { memory = patched old.memory at bytes }) new
+      → KeepsTablesAndScratchUnlessOwn uses (record old { memory = patched old.memory at bytes }) new
       → (port slot : ℕ) (c : Meaning)
-      (places : List ℕ) → port < 4 → slot < 32 → MissesHeaderAndTable port slot at (length bytes)
+      (places : List ℕ) → port < 4 → slot < 32 → MissesTableAndHeaderButPrdbc port slot at (length bytes)
       → SlotDecodesTo old.memory (command_list_address port) port slot c places
       → SlotDecodesTo new.memory (command_list_address port) port slot c places
   pub fragments : FragmentLaws AccessPurpose accesses_for slot_uses_for

@@ -51,8 +51,8 @@ pub record IsTableFor (slot : ℕ) (command : Command) (prds : List Prd) (m : Me
 
 -- The bytes stand in the place of the slot's header, as many as it has; of them PRDBC, 4 to 7, is zero: nothing was
 -- moved for the command yet.
-abbrev pub FillsHeaderPlace : ℕ → ℕ → ℕ → List ℕ → Type 0
-FillsHeaderPlace port slot at bytes = (at ≡ command_list_address port + HEADER_BYTES * slot)
+abbrev pub FillsHeaderWithPrdbcZero : ℕ → ℕ → ℕ → List ℕ → Type 0
+FillsHeaderWithPrdbcZero port slot at bytes = (at ≡ command_list_address port + HEADER_BYTES * slot)
     × (length bytes ≡ HEADER_BYTES)
     × (little_from 4 4 bytes ≡ 0)
 
@@ -63,7 +63,8 @@ IsInTable port slot at bytes = (command_table_address port slot ≤ at)
 
 -- it stores such a header, or such bytes
 abbrev pub IsHeaderOrTableStore : ℕ → ℕ → Access → Type 0
-IsHeaderOrTableStore port slot (Storing at bytes) = FillsHeaderPlace port slot at bytes ⊎ IsInTable port slot at bytes
+IsHeaderOrTableStore port slot (Storing at bytes) = FillsHeaderWithPrdbcZero port slot at bytes
+    ⊎ IsInTable port slot at bytes
 IsHeaderOrTableStore port slot access = ⊥
 
 -- A block of 512 bytes is stored at the head of the port's scratch frame, for the command of slot 0: no other slot has

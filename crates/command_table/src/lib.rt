@@ -9,7 +9,7 @@ ghost use Rattle.std.specs.Prelude.{◌≡◌, ℕ, List, [], ◌∷◌, ◌+◌
 ghost use Rattle.byteorder.specs.Endian.{little_from};
 ghost use Rattle.adapter.specs.{Decoding.{pieces, IsWholePieces}, Encoding.{AreZero, EncodesHeader, EncodesPrd, IsAllowedPrd}, Commands.{IsValidMeaning, Meaning, command_of, piece_count, reads_memory}, Memory.{bytes_at}, Rules.{IsUnowned, IsOn, IsStable}, declared.command.Operation.{Operation}, declared.command.Prd.{Prd}, AccessBounds.{MakesAtMost}};
 ghost use Rattle.refinement.specs.{Fragments.{IsSimulated}, MemoryLayout.{command_list_address, scratch_frame_address}, Slots.{SlotDecodesTo}};
-ghost use Rattle.command_table.specs.{TableStores.{FitsTable, IsHeaderTableOrBlockStore, IsTable, IsTableFor, IsHeaderOrTableStore, IsUnused, MayWriteTable, StoresTable}, SectorPlaces.{places_of}, FrameRuns.{PrdsCoverFrames, FillFrames, IsRunFromFirst}, BufferBytes.{StoresBytes}, Costs.{TABLE_WITH_BLOCK_ACCESSES, TABLE_ACCESSES}};
+ghost use Rattle.command_table.specs.{TableStores.{FitsTable, IsHeaderTableOrBlockStore, IsTable, IsTableFor, IsHeaderOrTableStore, IsUnused, MayWriteTable, StoresTable}, SectorPlaces.{places_of}, FrameRuns.{PrdsCoverFrames, FillFrames, IsLongestRunFromFirst}, BufferBytes.{StoresBytes}, Costs.{TABLE_WITH_BLOCK_ACCESSES, TABLE_ACCESSES}};
 
 pub mod laws;
 mod prerequisites;
@@ -116,7 +116,7 @@ pub fn prds_in<const ROOM: usize>(frames: &[Frame], bytes: u32) -> ArrayVec<Prd,
 /// How many frames from this place on have numbers that rise by one: as many as can be.
 fn run_length(frames: &[Frame], from: usize) -> usize
     requires { from < length frames.now }
-    ensures { IsRunFromFirst (drop from frames.now) result }
+    ensures { IsLongestRunFromFirst (drop from frames.now) result }
 {
     let first = frames[from].0 as usize;
     for count in 1..frames.len() - from {

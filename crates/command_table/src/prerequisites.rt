@@ -4,7 +4,7 @@ ghost use Rattle.command_table.specs.Laws.{Laws};
 use adapter::laws::law_memory_reads_back;
 use refinement::access_kinds::law_fragment_prerequisites;
 use refinement::laws::{
-    law_driver_stores_are_permitted, law_free_slots_are_untouched, law_stored_commands_stay,
+    law_driver_stores_are_permitted, law_stored_commands_stay, law_tables_and_idle_scratch_are_kept,
 };
 use refinement::port_facts::law_adapter_stays;
 use std::marker::Brand;
@@ -16,7 +16,7 @@ pub fn law_prerequisites()
     law_memory_reads_back();
     law_adapter_stays();
     law_driver_stores_are_permitted();
-    law_free_slots_are_untouched();
+    law_tables_and_idle_scratch_are_kept();
     law_stored_commands_stay();
     law_fragment_prerequisites::<Brand>();
 }

@@ -20,7 +20,7 @@ use Rattle.refinement.specs.Fragments.{SomeMachineAgreesWith, IsSoleBit, IsSimul
 use Rattle.refinement.specs.MemoryLayout.{command_list_address, scratch_frame_address}
 use Rattle.refinement.specs.Slots.{Free, SlotDecodesTo}
 use Rattle.command_table.specs.TableStores.{IsHeaderTableOrBlockStore, IsTableFor, IsHeaderOrTableStore, IsUnused}
-use Rattle.commands.specs.Batches.{BatchSlotsAreUnused, HasBitsOf, IsBatchStored, IsStoreForBatch, SaysTask, PlacedTask, StoresTransfer, batch_of_one}
+use Rattle.commands.specs.Batches.{BatchSlotsAreUnused, HasExactlySlotBitsOf, IsBatchStored, IsStoreForBatch, MemoryEncodesTask, PlacedTask, StoresTransfer, batch_of_one}
 use Rattle.commands.specs.Issuing.{IsArmedFor, MayIssueTransfer}
 use Rattle.commands.specs.Tasks.{WritesSactIfQueued, IsFitTransfer, IsStoreFor, RunsItsList, meaning_of}
 use Rattle.commands.specs.PlainTasks.{flush_task, trim_task}
@@ -48,7 +48,7 @@ is_trim = record { ranged = λ e. absurd cc; not_ranged = λ _. (refl, refl) }
 
 -- a task alone is armed
 pub armed_one : (port : Port) (t : PlacedTask) (own : ℕ) (old mid armed : Device) → IsOn old → HasPort old port.0 → t.slot < 32 → t.slot ≤ old.cap / 256 % 32 → RunsItsList port.0 old → SomeMachineAgreesWith (IsUnused port.0 t.slot) old →
-    is_queued (meaning_of t.task).operation ≡ t.task.queued → (t.task.op ≡ Trim → t.slot ≡ 0) → IsSimulated (IsStoreFor t.task.op port.0 t.slot) (IsUnused port.0 t.slot) old mid → SaysTask port.0 t mid.memory →
+    is_queued (meaning_of t.task).operation ≡ t.task.queued → (t.task.op ≡ Trim → t.slot ≡ 0) → IsSimulated (IsStoreFor t.task.op port.0 t.slot) (IsUnused port.0 t.slot) old mid → MemoryEncodesTask port.0 t mid.memory →
     IsSoleBit t.slot own → WritesSactIfQueued t.task.queued port own mid armed → IsArmedFor port t.task.queued (t ∷ []) own old armed
 armed_one port t own old mid armed on there small usable may agreed kind head stores say sole arms = record {
   adapter_is_on = on;
@@ -64,7 +64,7 @@ armed_one port t own old mid armed on there small usable may agreed kind head st
   after_stores = mid;
   stores = simulated_as (IsStoreFor t.task.op port.0 t.slot) (IsStoreForBatch port.0 (t ∷ [])) (IsUnused port.0 t.slot) (BatchSlotsAreUnused port.0 (t ∷ [])) old mid (λ access is. (t, contains_here t [], is))
       (λ uses free. All-head (λ x. uses port.0 x.slot ≡ Free) t [] free) stores;
-  slots_say_tasks = all_one (λ x. SaysTask port.0 x mid.memory) t say;
+  slots_say_tasks = all_one (λ x. MemoryEncodesTask port.0 x mid.memory) t say;
   mask_has_slots = one_has_bits t own sole;
   arms = arms;
 }
@@ -88,7 +88,7 @@ armed_transfer port t own old mid armed may x sole arms =
     (stored_for port.0 t.slot old mid t.task.op may.transfer_fits.is_transfer x.stores) x.slot_says_task sole arms
 
 -- a batch that was stored, whose bits of PxSACT are written
-pub armed_batch : (port : Port) (tasks : List PlacedTask) (mask : ℕ) (old mid armed : Device) → IsBatchStored port tasks old mid → HasBitsOf tasks mask → Writes (Px port Sact) mask mid armed → IsArmedFor port true tasks mask old armed
+pub armed_batch : (port : Port) (tasks : List PlacedTask) (mask : ℕ) (old mid armed : Device) → IsBatchStored port tasks old mid → HasExactlySlotBitsOf tasks mask → Writes (Px port Sact) mask mid armed → IsArmedFor port true tasks mask old armed
 armed_batch port tasks mask old mid armed x bits call = record {
   adapter_is_on = x.adapter_is_on;
   has_port = x.has_port;

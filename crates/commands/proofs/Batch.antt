@@ -19,7 +19,7 @@ use Rattle.block_machine.specs.State.{Pending}
 use Rattle.refinement.specs.Acts.{DriverSlots}
 use Rattle.refinement.specs.Fragments.{IsSoleBit}
 use Rattle.refinement.specs.Slots.{SlotState, Armed, Serves, SlotStates, set_slot_state}
-use Rattle.commands.specs.Batches.{HasBitsOf, HaveOwnSlots, IsSlotOf, PlacedTask, with_serving_batch}
+use Rattle.commands.specs.Batches.{HasExactlySlotBitsOf, HaveOwnSlots, IsSlotOf, PlacedTask, with_serving_batch}
 
 -- ---- lists
 
@@ -97,7 +97,7 @@ rest_apart t ts apart = λ i j d less small. apart (suc i) (suc j) d (omega (ari
 pub one_apart : (t : PlacedTask) → HaveOwnSlots (t ∷ [])
 one_apart t = λ i j d less small. absurd (omega (arith, less, small))
 
-pub one_has_bits : (t : PlacedTask) (v : ℕ) → IsSoleBit t.slot v → HasBitsOf (t ∷ []) v
+pub one_has_bits : (t : PlacedTask) (v : ℕ) → IsSoleBit t.slot v → HasExactlySlotBitsOf (t ∷ []) v
 one_has_bits t v sole = record {
   slots_are_set = all_one (λ x. bit v x.slot ≡ true) t sole.bit_is_set;
   no_other_is_set = λ k set. ⊎_elim
@@ -106,15 +106,15 @@ one_has_bits t v sole = record {
       (cases_eq k t.slot);
 }
 
-pub none_has_bits : HasBitsOf [] 0
+pub none_has_bits : HasExactlySlotBitsOf [] 0
 none_has_bits = record {
   slots_are_set = All-nil (λ (t : PlacedTask). bit 0 t.slot ≡ true);
   no_other_is_set = λ k set. absurd (true≢false (sym set ∙ ap (λ (n : ℕ). n == 1) (bit_at-zero k)));
 }
 
 -- a bit more, of a value of 32 bits
-pub bits_grow : (tasks : List PlacedTask) (t : PlacedTask) (mask new : ℕ) → mask < 2 ^ 32 → new < 2 ^ 32 → HasBitsOf tasks mask → bit new t.slot ≡ true → ((k : ℕ) → k < 32 → k ≢ t.slot → bit new k ≡ bit mask k) →
-    HasBitsOf (tasks ++ t ∷ []) new
+pub bits_grow : (tasks : List PlacedTask) (t : PlacedTask) (mask new : ℕ) → mask < 2 ^ 32 → new < 2 ^ 32 → HasExactlySlotBitsOf tasks mask → bit new t.slot ≡ true → ((k : ℕ) → k < 32 → k ≢ t.slot → bit new k ≡ bit mask k) →
+    HasExactlySlotBitsOf (tasks ++ t ∷ []) new
 bits_grow tasks t mask new fits new_fits has set others = record {
   slots_are_set = All-push (λ x. bit new x.slot ≡ true) tasks t (all_as (λ x. bit mask x.slot ≡ true) (λ x. bit new x.slot ≡ true) (λ x was. stays x.slot was) tasks has.slots_are_set) set;
   no_other_is_set = λ k is. ⊎_elim
@@ -257,7 +257,7 @@ bits_unset (t ∷ ts) bits k clear not =
     (ap (λ (b : Bool). b || bit (own_bit t.slot) k) clear ∙ (own_bit_is t.slot).no_other_bit_is_set k (λ e. not (t, contains_here t ts, sym e))) (λ is. not (slot_there t ts k is))
 
 -- bit by bit, or all at once
-pub bits_at_once : (ts : List PlacedTask) (v : ℕ) → HasBitsOf ts v → (bits : ℕ → Bool) → with_bits ts bits ≡ (λ k. bits k || bit v k)
+pub bits_at_once : (ts : List PlacedTask) (v : ℕ) → HasExactlySlotBitsOf ts v → (bits : ℕ → Bool) → with_bits ts bits ≡ (λ k. bits k || bit v k)
 bits_at_once ts v has bits = λ i k. at k i
   where
     at : (k : ℕ) → with_bits ts bits k ≡ (bits k || bit v k)
@@ -340,5 +340,5 @@ module _ (r : BitReg) (port : Port) (d : Device) where
   bits_end v = ap (λ (p : DevicePort). with_port d port.0 p) (r.writes v (length d.tape) (d.port port.0))
 
   -- the slots' bits, one after another, are those that are written at once
-  pub bits_written : (ts : List PlacedTask) (v : ℕ) → HasBitsOf ts v → device_after_write (Px port r.reg) v d ≡ bits_on r port d (with_bits ts (r.get (d.port port.0)))
+  pub bits_written : (ts : List PlacedTask) (v : ℕ) → HasExactlySlotBitsOf ts v → device_after_write (Px port r.reg) v d ≡ bits_on r port d (with_bits ts (r.get (d.port port.0)))
   bits_written ts v has = bits_end v ∙ ap (bits_on r port d) (sym (bits_at_once ts v has (r.get (d.port port.0))))

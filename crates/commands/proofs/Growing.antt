@@ -16,13 +16,13 @@ use Rattle.block_machine.specs.Histories.{IsReachable}
 use Rattle.block_machine.specs.Expected.{after}
 use Rattle.block_machine.specs.State.{Machine}
 use Rattle.refinement.specs.Acts.{Act, ActsReach, AreActsDone, DriverSlots, accesses_of, act_steps, driver_state_of_slots}
-use Rattle.refinement.specs.Fragments.{DeviceStepsKeepSlots, SomeMachineAgreesWith}
-use Rattle.refinement.specs.Driver.{DriverAdvances, DriverRelation, DriverState, MayStore, MissesHeaderAndTable}
+use Rattle.refinement.specs.Fragments.{DeviceStepsKeepUnwrittenPortSlots, SomeMachineAgreesWith}
+use Rattle.refinement.specs.Driver.{DriverAdvances, DriverRelation, DriverState, MayStore, MissesTableAndHeaderButPrdbc}
 use Rattle.refinement.specs.PreservedParts.{SameAdapter}
-use Rattle.refinement.specs.ReadySlots.{IsStored, KeepsStoredCommand}
+use Rattle.refinement.specs.ReadySlots.{IsStoredOnPortWithStSet, KeepsStoredCommand}
 use Rattle.refinement.specs.Slots.{Free, Armed, SlotDecodesTo, SlotStates, set_slot_state}
-use Rattle.command_table.specs.TableStores.{FillsHeaderPlace, IsInTable, IsHeaderOrTableStore, IsUnused}
-use Rattle.commands.specs.Batches.{BatchSlotsAreUnused, IsBatchStored, IsSlotOf, IsStoreForBatch, SaysTask, PlacedTask, StoresTransfer}
+use Rattle.command_table.specs.TableStores.{FillsHeaderWithPrdbcZero, IsInTable, IsHeaderOrTableStore, IsUnused}
+use Rattle.commands.specs.Batches.{BatchSlotsAreUnused, IsBatchStored, IsSlotOf, IsStoreForBatch, MemoryEncodesTask, PlacedTask, StoresTransfer}
 use Rattle.commands.specs.Issuing.{MayIssueTransfer}
 use Rattle.commands.specs.Tasks.{IsFitTransfer, IsStoreFor, IsTransfer, RunsItsList, piece_addresses_of, meaning_of}
 use Rattle.commands.proofs.Batch.{PutsHere, PutsNoOther, all_as, all_in, contains_here}
@@ -34,8 +34,8 @@ pub record Laws : Type 0 where
   pub leaving : Leaving
   pub acts : ActLaws
   pub stays : (port : Port) (slot : ℕ) (c : Meaning) (places : List ℕ) (acts : List Act) (k later : DriverState) (m : Machine) → IsReachable m → DriverRelation m k → AreActsDone acts k m later
-      → All (KeepsStoredCommand port slot) (accesses_of acts) → IsOn k.device → IsStored k.device port.0 slot c places → IsStored later.device port.0 slot c places
-  pub misses : (uses : SlotStates) (port slot at n : ℕ) → uses port slot ≢ Free → port < 4 → slot < 32 → MayStore uses at n → MissesHeaderAndTable port slot at n
+      → All (KeepsStoredCommand port slot) (accesses_of acts) → IsOn k.device → IsStoredOnPortWithStSet k.device port.0 slot c places → IsStoredOnPortWithStSet later.device port.0 slot c places
+  pub misses : (uses : SlotStates) (port slot at n : ℕ) → uses port slot ≢ Free → port < 4 → slot < 32 → MayStore uses at n → MissesTableAndHeaderButPrdbc port slot at n
   pub put_here : PutsHere
   pub put_others : PutsNoOther
 
@@ -52,7 +52,7 @@ none_stored port d on there room may agreed = record {
   transfers_fit = All-nil (λ (t : PlacedTask). IsFitTransfer t.task t.frames);
   all_are_queued = All-nil (λ (t : PlacedTask). t.task.queued ≡ true);
   stores = simulated_none (IsStoreForBatch port.0 []) (BatchSlotsAreUnused port.0 []) d;
-  slots_say_tasks = All-nil (λ (t : PlacedTask). SaysTask port.0 t d.memory);
+  slots_say_tasks = All-nil (λ (t : PlacedTask). MemoryEncodesTask port.0 t d.memory);
 }
 
 -- what is stored for one slot misses header and table of another
@@ -61,7 +61,7 @@ module _ (laws : Laws) (port : Port) (slot other : ℕ) (low : port.0 < 4) (smal
   abbrev uses : SlotStates
   uses = set_slot_state (λ p k. Free) port.0 other Armed
 
-  table_misses : (at : ℕ) (bytes : List ℕ) → IsHeaderOrTableStore port.0 slot (Storing at bytes) → MissesHeaderAndTable port.0 other at (length bytes)
+  table_misses : (at : ℕ) (bytes : List ℕ) → IsHeaderOrTableStore port.0 slot (Storing at bytes) → MissesTableAndHeaderButPrdbc port.0 other at (length bytes)
   table_misses at bytes here =
       laws.misses uses port.0 other at (length bytes) (λ e. let z : Armed ≡ Free = sym (laws.put_here (λ p k. Free) port.0 other Armed) ∙ e in cc) low other_small (inl (record {
         port = port.0;
@@ -70,7 +70,7 @@ module _ (laws : Laws) (port : Port) (slot other : ℕ) (low : port.0 < 4) (smal
         slot_below = small;
         free = laws.put_others (λ p k. Free) port.0 other Armed port.0 slot (λ _ e. apart (sym e));
         is_in_header_or_table = ⊎_elim
-            (λ (h : FillsHeaderPlace port.0 slot at bytes). let e = h.0 in let n = h.1 in inl (omega (arith, e), omega (arith, e, n)))
+            (λ (h : FillsHeaderWithPrdbcZero port.0 slot at bytes). let e = h.0 in let n = h.1 in inl (omega (arith, e), omega (arith, e, n)))
             (λ (t : IsInTable port.0 slot at bytes). inr t)
             here;
       }))
@@ -121,7 +121,7 @@ module _ (laws : Laws) (port : Port) (tasks : List PlacedTask) (t : PlacedTask) 
   s : DriverSlots
   s = record { slot_states = agreed.0; awaiting_disposition = agreed.2.parked }
 
-  x : ActsReach b.stores.is_driven.accesses (driver_state_of_slots s start) agreed.2.machine (driver_state_of_slots s mid) (DeviceStepsKeepSlots (IsStoreForBatch port.0 tasks) agreed.0)
+  x : ActsReach b.stores.is_driven.accesses (driver_state_of_slots s start) agreed.2.machine (driver_state_of_slots s mid) (DeviceStepsKeepUnwrittenPortSlots (IsStoreForBatch port.0 tasks) agreed.0)
   unfolding s
   x = b.stores.acts_reach s agreed.2.machine agreed.2.reached agreed.2.driver_relation (fewer agreed.0 agreed.1)
 
@@ -155,15 +155,15 @@ module _ (laws : Laws) (port : Port) (tasks : List PlacedTask) (t : PlacedTask) 
     new_may : RunsItsList port.0 new
     new_may = stores_may laws.leaving port (IsHeaderOrTableStore port.0 t.slot) (table_stores port.0 t.slot) mid new w.stores.is_driven mid_on mid_may
 
-    stays : (y : PlacedTask) → Contains tasks y → SaysTask port.0 y new.memory
+    stays : (y : PlacedTask) → Contains tasks y → MemoryEncodesTask port.0 y new.memory
     unfolding s m
     stays y is =
-        let says : SaysTask port.0 y mid.memory = All-contains (λ z. SaysTask port.0 z mid.memory) tasks y b.slots_say_tasks is in
+        let says : MemoryEncodesTask port.0 y mid.memory = All-contains (λ z. MemoryEncodesTask port.0 z mid.memory) tasks y b.slots_say_tasks is in
         let its_small : y.slot < 32 = All-contains (λ z. z.slot < 32) tasks y b.slots_in_range is in
         let its_fit : IsFitTransfer y.task y.frames = All-contains (λ z. IsFitTransfer z.task z.frames) tasks y b.transfers_fit is in
         let places : List ℕ = piece_addresses_of port.0 y.task.op y.task.range.count y.frames in
-        let z : ActsReach w.stores.is_driven.accesses (driver_state_of_slots s mid) m (driver_state_of_slots s new) (DeviceStepsKeepSlots (IsHeaderOrTableStore port.0 t.slot) s.slot_states) = w.stores.acts_reach s m m_reached goes.driver_relation (its agreed.0 agreed.1) in
-        let after_both : IsStored new port.0 y.slot (meaning_of y.task) places =
+        let z : ActsReach w.stores.is_driven.accesses (driver_state_of_slots s mid) m (driver_state_of_slots s new) (DeviceStepsKeepUnwrittenPortSlots (IsHeaderOrTableStore port.0 t.slot) s.slot_states) = w.stores.acts_reach s m m_reached goes.driver_relation (its agreed.0 agreed.1) in
+        let after_both : IsStoredOnPortWithStSet new port.0 y.slot (meaning_of y.task) places =
         laws.stays port y.slot (meaning_of y.task) places z.acts (driver_state_of_slots s mid) (driver_state_of_slots s new) m m_reached goes.driver_relation z.acts_are_done
         (subst (All (KeepsStoredCommand port y.slot)) (sym z.accesses_match_acts)
         (all_as (IsHeaderOrTableStore port.0 t.slot) (KeepsStoredCommand port y.slot) (table_leaves laws port t.slot y.slot b.has_port.0 small its_small (λ e. apart (y, is, e))) w.stores.is_driven.accesses w.stores.is_driven.accesses_are_of_kind))
@@ -190,5 +190,5 @@ module _ (laws : Laws) (port : Port) (tasks : List PlacedTask) (t : PlacedTask) 
           (λ access is. (is.0, Contains-append_left tasks (t ∷ []) is.0 is.1, is.2)) fewer b.stores)
           (simulated_as (IsHeaderOrTableStore port.0 t.slot) (IsStoreForBatch port.0 both) (IsUnused port.0 t.slot) (BatchSlotsAreUnused port.0 both) mid new
           (λ access is. (t, Contains-append_right tasks (t ∷ []) t (contains_here t []), store_of_table port.0 t.slot access t.task.op fit.is_transfer is)) its w.stores);
-      slots_say_tasks = All-push (λ y. SaysTask port.0 y new.memory) tasks t (all_in (λ y. SaysTask port.0 y new.memory) tasks stays) w.slot_says_task;
+      slots_say_tasks = All-push (λ y. MemoryEncodesTask port.0 y new.memory) tasks t (all_in (λ y. MemoryEncodesTask port.0 y new.memory) tasks stays) w.slot_says_task;
     }

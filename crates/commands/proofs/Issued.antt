@@ -27,18 +27,18 @@ use Rattle.block_machine.specs.Expected.{after}
 use Rattle.block_machine.specs.State.{Accepted, Pending, Machine}
 use Rattle.block_machine.specs.Steps.{Step, Issue, IsEnabled, after_step}
 use Rattle.block_machine.specs.declared.due.QueueMode.{QueueMode}
-use Rattle.refinement.specs.Acts.{Act, ActsReach, AreActsDone, DriverSlots, IsActDone, IsIssueStepOn, IsIssueStep, IsOneDecision, accesses_of, act_steps, driver_state_of_slots}
+use Rattle.refinement.specs.Acts.{Act, ActsReach, AreActsDone, DriverSlots, IsActDone, IsIssueStepOn, IsIssueStep, IsAtMostOneStepOrIssuesOfPort, accesses_of, act_steps, driver_state_of_slots}
 use Rattle.refinement.specs.Relation.{StateRelation, port_at}
-use Rattle.refinement.specs.Fragments.{IsSoleBit, DeviceStepsKeepSlots, driver_state_of}
-use Rattle.refinement.specs.Driver.{IsBackedByDeviceAlone, DriverAdvances, DriverRelation, DriverState, EndsInSteps, IsPrepared, KeepsTablesAndScratch, MissesHeaderAndTable, with_slot_serving}
+use Rattle.refinement.specs.Fragments.{IsSoleBit, DeviceStepsKeepUnwrittenPortSlots, driver_state_of}
+use Rattle.refinement.specs.Driver.{IsBackedByDeviceAlone, DriverAdvances, DriverRelation, DriverState, EndsInSteps, IsPrepared, KeepsTablesAndScratchUnlessOwn, MissesTableAndHeaderButPrdbc, with_slot_serving}
 use Rattle.refinement.specs.Simulation.{SimulatesSteps}
-use Rattle.refinement.specs.PreservedParts.{DoesNotWrite, LeavesControls, SameAdapter}
-use Rattle.refinement.specs.ReadySlots.{IsReadied, IsReadyToIssue, IsStored}
-use Rattle.refinement.specs.Slots.{SlotState, Free, Armed, Own, Serves, SlotStates, set_slot_state, MeansRequest, HasBlockIfTrim, IsArmed, HasListInPlace, RelatesSlot, SlotDecodesTo}
+use Rattle.refinement.specs.PreservedParts.{DoesNotWrite, ControlsChangeOnlyByTheirWrites, SameAdapter}
+use Rattle.refinement.specs.ReadySlots.{IsReadied, IsReadyToIssue, IsStoredOnPortWithStSet}
+use Rattle.refinement.specs.Slots.{SlotState, Free, Armed, Own, Serves, SlotStates, set_slot_state, MeansRequest, HasBlockIfTrim, IsArmedIfSt, HasListInPlace, RelatesSlot, SlotDecodesTo}
 use Rattle.refinement.specs.StartedPort.{ClearsNoStart}
-use Rattle.commands.specs.Batches.{BatchSlotsAreUnused, HaveOwnSlots, IsBatchIssued, IsBatchAccess, IsSlotOf, IsStoreForBatch, IssuesBatchAtEnd, MayServeBatch, SaysTask, PlacedTask, StoresThenWritesAll, issues_of, with_serving_batch}
+use Rattle.commands.specs.Batches.{BatchSlotsAreUnused, HaveOwnSlots, IsBatchIssued, IsBatchAccess, IsSlotOf, IsStoreForBatch, IssuesBatchAtEnd, MayServeBatch, MemoryEncodesTask, PlacedTask, StoresThenWritesAll, issues_of, with_serving_batch}
 use Rattle.commands.specs.Issuing.{IsArmedFor}
-use Rattle.commands.specs.Tasks.{WritesSactIfQueued, BlockNamesSectors, IsBeingIssued, IsTaskOf, RunsItsList, piece_addresses_of, meaning_of, task_operation, issuing_writes}
+use Rattle.commands.specs.Tasks.{WritesSactIfQueued, BlockNamesSectors, IsFreeArmedOrServing, IsTaskOf, RunsItsList, piece_addresses_of, meaning_of, task_operation, issuing_writes}
 use Rattle.commands.proofs.Batch.{all_as, all_in, all_one, armed_here, armed_others, uses_armed, bits_begin, bits_more, bits_on, bits_written, changed_here, ci_bits, contains_here, contains_there, first_apart, own_bit, own_bit_is, rest_apart, sact_bits, served_armed, served_here, served_others, uses_served, serving_batch_is, with_bits, zip_as}
 use Rattle.commands.proofs.Stores.{ActLaws, IsStoring, Leaving, batch_stores, does_then, store_for, stored_in, stores_may, stores_on, stores_same, stores_there, storing_writes_none}
 use Rattle.commands.proofs.Telling.{task_block, task_means}
@@ -50,8 +50,8 @@ pub record Laws : Type 0 where
   pub acts : ActLaws
   pub same : (access : Access) (old new : Device) → Does access old new → SameAdapter old new
   pub on : (access : Access) (old new : Device) → IsOn old → ((v : ℕ) → access ≡ Writing Ghc v → (bit v 31 ≡ true) × (bit v 0 ≡ false)) → Does access old new → IsOn new
-  pub controls : (port : Port) (access : Access) (old new : Device) → old.hr ≡ false → Does access old new → LeavesControls access port (old.port port.0) (new.port port.0)
-  pub ends : (k later : DriverState) (m : Machine) (access : Access) (own : List Step) → (e : EndsInSteps k m own later) → IsOneDecision access own → Does access k.device later.device
+  pub controls : (port : Port) (access : Access) (old new : Device) → old.hr ≡ false → Does access old new → ControlsChangeOnlyByTheirWrites access port (old.port port.0) (new.port port.0)
+  pub ends : (k later : DriverState) (m : Machine) (access : Access) (own : List Step) → (e : EndsInSteps k m own later) → IsAtMostOneStepOrIssuesOfPort access own → Does access k.device later.device
       → IsActDone k m (record { access = Some access; steps = own ++ e.steps; state_after = later })
   pub part : (k : DriverState) (new : Device) → Steps k.device new → IsSimulatedBySteps DriverRelation k (record k { device = new }) (IsBackedByDeviceAlone k.device new)
   pub access : (k later : DriverState) (m : Machine) → IsSimulatedBySteps DriverRelation k later (IsBackedByDeviceAlone k.device later.device) → IsReachable m → DriverRelation m k
@@ -66,10 +66,10 @@ pub record Laws : Type 0 where
       → IsPrepared k.slot_states m k.device port.0 slot mode e v → DriverAdvances k m (Issue mode e ∷ []) (with_slot_serving k port.0 slot e.request.id (device_after_write (Px port Ci) v k.device))
   pub stays : (uses : SlotStates) (m : Machine) (port : Port) (slot : ℕ) (c : Meaning) (places : List ℕ) (access : Access) (old new : Device) → IsReachable m → StateRelation uses m old
       → old.hr ≡ false → ClearsNoStart port access → DoesNotWrite (Px port Clb) access
-      → ((at : ℕ) (bytes : List ℕ) → access ≡ Storing at bytes → MissesHeaderAndTable port.0 slot at (length bytes)) → Does access old new → IsStored old port.0 slot c places
-      → IsStored new port.0 slot c places
+      → ((at : ℕ) (bytes : List ℕ) → access ≡ Storing at bytes → MissesTableAndHeaderButPrdbc port.0 slot at (length bytes)) → Does access old new → IsStoredOnPortWithStSet old port.0 slot c places
+      → IsStoredOnPortWithStSet new port.0 slot c places
   pub stands : (uses : SlotStates) (m : Machine) (port slot : ℕ) (c : Meaning) (places : List ℕ) (old new : Device) → IsReachable m → StateRelation uses m old → old.hr ≡ false
-      → Steps old new → IsStored old port slot c places → IsStored new port slot c places
+      → Steps old new → IsStoredOnPortWithStSet old port slot c places → IsStoredOnPortWithStSet new port slot c places
   pub permitted : (uses : SlotStates) (m : Machine) (d : Device) (port : Port) (v : ℕ) → IsReachable m → StateRelation uses m d → IsOn d → HasPort d port.0
       → (d.port port.0).st ≡ true → ((slot : ℕ) → bit v slot ≡ true → IsReadyToIssue uses d port.0 slot) → IsStable (MayWrite (Px port Ci) v) d
   pub prepared : (uses : SlotStates) (m : Machine) (d : Device) (port slot : ℕ) (c : Meaning) (places : List ℕ) (mode : QueueMode) (e : Pending) (v : ℕ)
@@ -77,9 +77,9 @@ pub record Laws : Type 0 where
       → MeansRequest port slot e.request c places → is_queued c.operation ≡ not (is_plain mode e.request.asked.op)
       → HasBlockIfTrim e.request.asked.op d.memory port e.request → bit v slot ≡ true → ((k : ℕ) → k ≢ slot → bit v k ≡ false) → IsPrepared uses m d port slot mode e v
   pub follows : (uses : SlotStates) (m : Machine) (old new : Device) → IsReachable m → StateRelation uses m old → Steps old new → SimulatesSteps uses m old new
-  pub leaves : (uses : SlotStates) (m : Machine) (old new : Device) → IsReachable m → StateRelation uses m old → old.hr ≡ false → (r : Reg) (v : ℕ) → Writes r v old new → KeepsTablesAndScratch uses old new
-  pub leaves_steps : (uses : SlotStates) (m : Machine) (old new : Device) → IsReachable m → StateRelation uses m old → old.hr ≡ false → Steps old new → KeepsTablesAndScratch uses old new
-  pub block : (uses : SlotStates) (old new : Device) → KeepsTablesAndScratch uses old new → (port : ℕ) (r : Accepted) → port < 4 → ((o : Operation) → uses port 0 ≡ Own o → ⊥) → HasBlockIfTrim r.asked.op old.memory port r
+  pub leaves : (uses : SlotStates) (m : Machine) (old new : Device) → IsReachable m → StateRelation uses m old → old.hr ≡ false → (r : Reg) (v : ℕ) → Writes r v old new → KeepsTablesAndScratchUnlessOwn uses old new
+  pub leaves_steps : (uses : SlotStates) (m : Machine) (old new : Device) → IsReachable m → StateRelation uses m old → old.hr ≡ false → Steps old new → KeepsTablesAndScratchUnlessOwn uses old new
+  pub block : (uses : SlotStates) (old new : Device) → KeepsTablesAndScratchUnlessOwn uses old new → (port : ℕ) (r : Accepted) → port < 4 → ((o : Operation) → uses port 0 ≡ Own o → ⊥) → HasBlockIfTrim r.asked.op old.memory port r
       → HasBlockIfTrim r.asked.op new.memory port r
   pub put_here : (uses : SlotStates) (port slot : ℕ) (u : SlotState) → set_slot_state uses port slot u port slot ≡ u
   pub put_others : (uses : SlotStates) (port slot : ℕ) (u : SlotState) (other_port other_slot : ℕ) → (other_port ≡ port → other_slot ≡ slot → ⊥)
@@ -91,7 +91,7 @@ pub only_issues : (mode : QueueMode) (es : List Pending) → All IsIssueStep (is
 only_issues mode [] = All-nil IsIssueStep
 only_issues mode (e ∷ es) = All-append IsIssueStep (issues_of mode es) (Issue mode e ∷ []) (only_issues mode es) (all_one IsIssueStep (Issue mode e) tt)
 
-issues_decide : (port : Port) (v : ℕ) (own : List Step) → All (IsIssueStepOn port) own → IsOneDecision (Writing (Px port Ci) v) own
+issues_decide : (port : Port) (v : ℕ) (own : List Step) → All (IsIssueStepOn port) own → IsAtMostOneStepOrIssuesOfPort (Writing (Px port Ci) v) own
 issues_decide port v [] all = tt
 issues_decide port v (step ∷ []) all = tt
 issues_decide port v (step ∷ other ∷ own) all = all
@@ -169,7 +169,7 @@ module _ (laws : Laws) (port : Port) where
       laws.compose k next (driver_state_of (uses_armed port.0 ts put_uses) parked (bits_on sact_bits port d (with_bits ts more))) m [] [] first rest
 
   -- a slot's bytes say what they did, whatever bits of PxCI are set
-  stored_on_bits : (d : Device) (bits : ℕ → Bool) (slot : ℕ) (c : Meaning) (places : List ℕ) → IsStored d port.0 slot c places → IsStored (bits_on ci_bits port d bits) port.0 slot c places
+  stored_on_bits : (d : Device) (bits : ℕ → Bool) (slot : ℕ) (c : Meaning) (places : List ℕ) → IsStoredOnPortWithStSet d port.0 slot c places → IsStoredOnPortWithStSet (bits_on ci_bits port d bits) port.0 slot c places
   stored_on_bits d bits slot c places x =
       let same : (bits_on ci_bits port d bits).port port.0 ≡ record (d.port port.0) { ci = bits } = changed_here d.port port.0 (record (d.port port.0) { ci = bits }) in
       record {
@@ -221,7 +221,7 @@ module _ (laws : Laws) (port : Port) where
         head t e is plain = is.plain_in_slot_0 (is.queued_is ∙ ap not (sym (ap (is_plain mode) is.operation_is) ∙ plain))
 
   -- a trim's block stands still, where no command of the driver's own is in slot 0
-  module _ (uses : SlotStates) (old new : Device) (low : port.0 < 4) (leaves : KeepsTablesAndScratch uses old new) where
+  module _ (uses : SlotStates) (old new : Device) (low : port.0 < 4) (leaves : KeepsTablesAndScratchUnlessOwn uses old new) where
     block_stays : (op : Op) (range : Range) → (op ≡ Trim → uses port.0 0 ≡ Free) → BlockNamesSectors op range port.0 old.memory → BlockNamesSectors op range port.0 new.memory
     block_stays Read range free block = tt
     block_stays Write range free block = tt
@@ -251,9 +251,9 @@ module _ (laws : Laws) (port : Port) where
     mid_there : HasPort b.after_stores port.0
     mid_there = stores_there laws.leaving port (IsStoreForBatch port.0 tasks) stores_only old b.after_stores b.stores.is_driven b.has_port
 
-    stored : (t : PlacedTask) → Contains tasks t → IsStored b.after_stores port.0 t.slot (meaning_of t.task) (places_for port t)
+    stored : (t : PlacedTask) → Contains tasks t → IsStoredOnPortWithStSet b.after_stores port.0 t.slot (meaning_of t.task) (places_for port t)
     stored t is =
-        let says = All-contains (λ x. SaysTask port.0 x b.after_stores.memory) tasks t b.slots_say_tasks is in
+        let says = All-contains (λ x. MemoryEncodesTask port.0 x b.after_stores.memory) tasks t b.slots_say_tasks is in
         stored_in port t.slot (meaning_of t.task) (places_for port t) b.after_stores mid_there (All-contains (λ x. x.slot < 32) tasks t b.slots_in_range is) mid_may says.slot_says_task
 
     kind : (t : PlacedTask) → Contains tasks t → is_queued (meaning_of t.task).operation ≡ t.task.queued
@@ -328,10 +328,10 @@ module _ (laws : Laws) (port : Port) where
     armed_runs false same = ap (λ (d : Device). (d.port port.0).st) same ∙ mid_may.st_is_set
 
     armed_stored : (kind : Bool) → WritesSactIfQueued kind port own b.after_stores armed → (uses : SlotStates) (m : Machine) → IsReachable m → StateRelation uses m b.after_stores → (t : PlacedTask) → Contains tasks t →
-        IsStored armed port.0 t.slot (meaning_of t.task) (places_for port t)
+        IsStoredOnPortWithStSet armed port.0 t.slot (meaning_of t.task) (places_for port t)
     armed_stored true call uses m reached agrees t is =
         laws.stays uses m port t.slot (meaning_of t.task) (places_for port t) (Writing (Px port Sact) own) b.after_stores armed reached agrees mid_on.no_reset (λ v e. absurd cc) (λ e. absurd cc) (λ at bytes e. absurd cc) call (stored t is)
-    armed_stored false same uses m reached agrees t is = subst (λ (d : Device). IsStored d port.0 t.slot (meaning_of t.task) (places_for port t)) (sym same) (stored t is)
+    armed_stored false same uses m reached agrees t is = subst (λ (d : Device). IsStoredOnPortWithStSet d port.0 t.slot (meaning_of t.task) (places_for port t)) (sym same) (stored t is)
 
     armed_used : (kind : Bool) (s : DriverSlots) → BatchSlotsAreUnused port.0 tasks s.slot_states → (t : PlacedTask) → Contains tasks t → (with_armed kind port tasks s).slot_states port.0 t.slot ≡ unused_use kind
     armed_used true s free t is = armed_here laws.put_here laws.put_others port.0 tasks s.slot_states b.slots_are_apart t.slot (t, is, refl)
@@ -362,7 +362,7 @@ module _ (laws : Laws) (port : Port) where
     armed_block kind call is_kind t is Flush e block = tt
 
     block_then : (t : PlacedTask) → Contains tasks t → BlockNamesSectors t.task.op t.task.range port.0 armed.memory
-    block_then t is = let says = All-contains (λ x. SaysTask port.0 x b.after_stores.memory) tasks t b.slots_say_tasks is in armed_block queued b.arms refl t is t.task.op refl says.block_names_sectors
+    block_then t is = let says = All-contains (λ x. MemoryEncodesTask port.0 x b.after_stores.memory) tasks t b.slots_say_tasks is in armed_block queued b.arms refl t is t.task.op refl says.block_names_sectors
 
     -- from a machine that agrees, acts lead to the armed slots, which are ready for PxCI
     record Stage (s : DriverSlots) (m : Machine) : Type 0 where
@@ -377,7 +377,7 @@ module _ (laws : Laws) (port : Port) where
         later : DriverState
         later = driver_state_of_slots (with_armed queued port tasks s) armed
 
-        x : ActsReach b.stores.is_driven.accesses (driver_state_of_slots s old) m (driver_state_of_slots s b.after_stores) (DeviceStepsKeepSlots (IsStoreForBatch port.0 tasks) s.slot_states)
+        x : ActsReach b.stores.is_driven.accesses (driver_state_of_slots s old) m (driver_state_of_slots s b.after_stores) (DeviceStepsKeepUnwrittenPortSlots (IsStoreForBatch port.0 tasks) s.slot_states)
         x = b.stores.acts_reach s m reached knows free
 
         g : DriverAdvances (driver_state_of_slots s old) m (act_steps x.acts) (driver_state_of_slots s b.after_stores)
@@ -510,7 +510,7 @@ module _ (laws : Laws) (port : Port) where
           issue_ends =
               let x : (steps : List Step) × AllByDevice steps × DriverAdvances k m steps between = laws.access k between m (laws.part k call.at_access call.steps) reached knows in
               let bits : ℕ → Bool = (call.at_access.port port.0).ci in
-              let leaves : KeepsTablesAndScratch s.slot_states armed call.at_access = laws.leaves_steps s.slot_states m armed call.at_access reached knows.state_relation on_armed.no_reset call.steps in
+              let leaves : KeepsTablesAndScratchUnlessOwn s.slot_states armed call.at_access = laws.leaves_steps s.slot_states m armed call.at_access reached knows.state_relation on_armed.no_reset call.steps in
               let y : DriverAdvances (driver_state_of s.slot_states s.awaiting_disposition (bits_on ci_bits port call.at_access bits)) (after m x.0) (issues_of mode es)
               (driver_state_of (uses_served port.0 tasks es s.slot_states) s.awaiting_disposition (bits_on ci_bits port call.at_access (with_bits tasks bits))) =
               all_issued mode tasks es s.slot_states s.awaiting_disposition bits call.at_access (after m x.0) zip b.slots_are_apart (laws.acts.reached k between m x.0 reached x.2)
@@ -539,8 +539,8 @@ module _ (laws : Laws) (port : Port) where
             last_act_issues = (x.reaches.acts, act, refl, x.reaches.device);
             only_device_before = laws.acts.device ends.steps (act_steps x.reaches.acts) ends.all_steps_are_devices x.reaches.device;
             issues_come_last = laws.acts.steps x.reaches.acts (act ∷ []) ∙ append_assoc (issues_of mode es) ends.steps (act_steps x.reaches.acts);
-            own_slots_are_being_issued = zip_as (λ t e. uses_served port.0 tasks es s.slot_states port.0 t.slot ≡ Serves e.request.id) (λ t e. All (λ a. IsBeingIssued e.request.id (a.state_after.slot_states port.0 t.slot)) (x.reaches.acts ++ act ∷ [])) tasks es
-                (λ t e is serves. let P : Act → Type 0 = λ a. IsBeingIssued e.request.id (a.state_after.slot_states port.0 t.slot) in
+            own_slots_are_being_issued = zip_as (λ t e. uses_served port.0 tasks es s.slot_states port.0 t.slot ≡ Serves e.request.id) (λ t e. All (λ a. IsFreeArmedOrServing e.request.id (a.state_after.slot_states port.0 t.slot)) (x.reaches.acts ++ act ∷ [])) tasks es
+                (λ t e is serves. let P : Act → Type 0 = λ a. IsFreeArmedOrServing e.request.id (a.state_after.slot_states port.0 t.slot) in
                 All-append P x.reaches.acts (act ∷ [])
                 (all_as (λ a. IsUnissued (a.state_after.slot_states port.0 t.slot)) P (λ a u. ⊎_elim (λ free. inl free) (λ is_armed. inr (inl is_armed)) u) x.reaches.acts (x.reaches.own t is))
                 (all_one P act (inr (inr (ap (λ (z : DriverSlots). z.slot_states port.0 t.slot) (sym (serving_batch_is port tasks es s)) ∙ serves)))))
@@ -589,7 +589,7 @@ module _ (laws : Laws) (port : Port) where
           ∙ (ap (λ (p : DevicePort). p.ci t.slot) (changed_here call.at_access.port port.0 _)
           ∙ or_right ((call.at_access.port port.0).ci t.slot) (bit own t.slot) (All-contains (λ x. bit own x.slot ≡ true) tasks t b.mask_has_slots.slots_are_set is))
 
-      stored_then : (t : PlacedTask) → Contains tasks t → IsStored new port.0 t.slot (meaning_of t.task) (places_for port t)
+      stored_then : (t : PlacedTask) → Contains tasks t → IsStoredOnPortWithStSet new port.0 t.slot (meaning_of t.task) (places_for port t)
       stored_then t is =
           laws.stays uses0 m0 port t.slot (meaning_of t.task) (places_for port t) (Writing (Px port Ci) own) armed new known_stage.reached known_stage.goes.driver_relation.state_relation on_armed.no_reset
           (λ v e. absurd cc) (λ e. absurd cc) (λ at bytes e. absurd cc) call (known_stage.readied t is).stored
@@ -604,7 +604,7 @@ module _ (laws : Laws) (port : Port) where
       active t is its_queued =
           let f : SimulatesSteps uses0 m0 armed call.at_access = laws.follows uses0 m0 armed call.at_access known_stage.reached known_stage.goes.driver_relation.state_relation call.steps in
           let used : uses0 port.0 t.slot ≡ Armed = (known_stage.readied t is).slot_state_is ∙ cond-true (is_queued (meaning_of t.task).operation) Armed Free (kind t is ∙ its_queued) in
-          let h : IsArmed (call.at_access.port port.0) t.slot = subst (λ (u : SlotState). RelatesSlot (after m0 f.steps) call.at_access.memory call.at_access.tape (call.at_access.port port.0) port.0 t.slot u) used (f.state_relation.relates_slots port.0 t.slot) in
+          let h : IsArmedIfSt (call.at_access.port port.0) t.slot = subst (λ (u : SlotState). RelatesSlot (after m0 f.steps) call.at_access.memory call.at_access.tape (call.at_access.port port.0) port.0 t.slot u) used (f.state_relation.relates_slots port.0 t.slot) in
           ap (λ (d : Device). (d.port port.0).sact t.slot) call.effect
           ∙ (ap (λ (p : DevicePort). p.sact t.slot) (changed_here call.at_access.port port.0 _)
           ∙ (h.armed
@@ -622,7 +622,7 @@ module _ (laws : Laws) (port : Port) where
           stores_come_first = in_order;
           machine_follows = λ mode es zip. comes mode es zip;
         };
-        stored = all_in (λ t. IsStored new port.0 t.slot (meaning_of t.task) (places_for port t)) tasks stored_then;
+        stored = all_in (λ t. IsStoredOnPortWithStSet new port.0 t.slot (meaning_of t.task) (places_for port t)) tasks stored_then;
         block_names_sectors = all_in (λ t. BlockNamesSectors t.task.op t.task.range port.0 new.memory) tasks block_new;
         ci_is_set = all_in (λ t. (new.port port.0).ci t.slot ≡ true) tasks set;
         sact_is_set = all_in (λ t. t.task.queued ≡ true → (new.port port.0).sact t.slot ≡ true) tasks active;

@@ -23,7 +23,7 @@ use Rattle.refinement.specs.Driver.{EndsInSteps, DriverAdvances, TapeBacksSteps,
 use Rattle.refinement.specs.Slots.{Own, SlotState, client_operation_of}
 use Rattle.commands.specs.Masks.{ReadsDone, ReadsCiOrSact}
 use Rattle.commands.specs.Batches.{IsBatchAccess, IsSlotOf, IssuesBatch, IssuesBatchAtEnd, MayServeBatch, PlacedTask, issues_of, with_serving_batch}
-use Rattle.commands.specs.Tasks.{IsBeingIssued, IsTaskOf}
+use Rattle.commands.specs.Tasks.{IsFreeArmedOrServing, IsTaskOf}
 use Rattle.commands.proofs.Batch.{all_as, slot_cases, zip_at}
 
 -- ---- of one port
@@ -55,7 +55,7 @@ pub record Laws : Type 0 where
       → All (λ act. act.state_after.slot_states port 0 ≡ Own o → ⊥) acts → AreActsDone acts k m later → GainsNoMove port o k.device later.device
 
 -- a slot on its way has no command of the driver's own
-not_own : (id : RequestId) (o : Operation) (u : SlotState) → IsBeingIssued id u → u ≡ Own o → ⊥
+not_own : (id : RequestId) (o : Operation) (u : SlotState) → IsFreeArmedOrServing id u → u ≡ Own o → ⊥
 not_own id o u (inl e) own = absurd cc
 not_own id o u (inr (inl e)) own = absurd cc
 not_own id o u (inr (inr e)) own = absurd cc
@@ -94,8 +94,8 @@ module _ (laws : Laws) (port : Port) (tasks : List PlacedTask) (mode : QueueMode
 
       never : (q ≡ port.0) ⊎ (q ≡ port.0 → ⊥) → IsSlotOf tasks 0 ⊎ (IsSlotOf tasks 0 → ⊥) → All P x.acts
       never (inl at_port) (inl t) =
-          let z = zip_at (λ t e. All (λ act. IsBeingIssued e.request.id (act.state_after.slot_states port.0 t.slot)) x.acts) tasks es x.acts_are_such.own_slots_are_being_issued t.0 t.1 in
-          all_as (λ act. IsBeingIssued z.0.request.id (act.state_after.slot_states port.0 t.0.slot)) P
+          let z = zip_at (λ t e. All (λ act. IsFreeArmedOrServing e.request.id (act.state_after.slot_states port.0 t.slot)) x.acts) tasks es x.acts_are_such.own_slots_are_being_issued t.0 t.1 in
+          all_as (λ act. IsFreeArmedOrServing z.0.request.id (act.state_after.slot_states port.0 t.0.slot)) P
           (λ act way is_own. not_own z.0.request.id o (act.state_after.slot_states port.0 t.0.slot) way (ap (act.state_after.slot_states port.0) t.2 ∙ (sym (ap (λ (n : ℕ). act.state_after.slot_states n 0) at_port) ∙ is_own))) x.acts z.1
       never (inr other) slots = beside (λ a b. other a)
       never (inl at_port) (inr other) = beside (λ a b. other b)

@@ -22,7 +22,7 @@ use Rattle.refinement.specs.Acts.{Act, DriverSlots, IsActDone, ActsReach, driver
 use Rattle.refinement.specs.Relation.{StateRelation}
 use Rattle.refinement.specs.Driver.{DriverState, DriverRelation, IsBackedByDeviceAlone, DriverAdvances}
 use Rattle.refinement.specs.PortFacts.{EndedIn, IsSlotClear}
-use Rattle.refinement.specs.PreservedParts.{LeavesControls}
+use Rattle.refinement.specs.PreservedParts.{ControlsChangeOnlyByTheirWrites}
 use Rattle.refinement.specs.Slots.{Serves, SlotStates}
 use Rattle.commands.specs.Masks.{IsDoneMask, ReadsDone, FindsEnds, ReadsCiOrSact, FindsEachClearSlot}
 use Rattle.commands.proofs.Batch.{changed_here}
@@ -32,7 +32,7 @@ pub record Laws : Type 0 where
   pub access : (k later : DriverState) (m : Machine) (access : Access) → IsSimulatedBySteps DriverRelation k later (IsBackedByDeviceAlone k.device later.device) → IsReachable m → DriverRelation m k
       → Does access k.device later.device → (steps : List Step) × AllByDevice steps × IsActDone k m (record { access = Some access; steps = steps; state_after = later })
   pub on : (access : Access) (old new : Device) → IsOn old → ((v : ℕ) → access ≡ Writing Ghc v → (bit v 31 ≡ true) × (bit v 0 ≡ false)) → Does access old new → IsOn new
-  pub controls : (port : Port) (access : Access) (old new : Device) → old.hr ≡ false → Does access old new → LeavesControls access port (old.port port.0) (new.port port.0)
+  pub controls : (port : Port) (access : Access) (old new : Device) → old.hr ≡ false → Does access old new → ControlsChangeOnlyByTheirWrites access port (old.port port.0) (new.port port.0)
   pub ends : (uses : SlotStates) (m : Machine) (d : Device) (port : Port) (slot : ℕ) (id : RequestId) → StateRelation uses m d → uses port.0 slot ≡ Serves id → (d.port port.0).st ≡ true
       → (d.port port.0).ci slot ≡ false → (d.port port.0).sact slot ≡ false → IsSlotClear (d.port port.0) slot × EndedIn m port id
   pub reached : (k later : DriverState) (m : Machine) (steps : List Step) → IsReachable m → DriverAdvances k m steps later → IsReachable (after m steps)
@@ -77,7 +77,7 @@ module _ (laws : Laws) (port : Port) (mask done issued active : ℕ) (old mid ne
 
   -- what was read clear is clear, and what was clear is read so
   ci_clear : (slot : ℕ) → slot < 32 → bit issued slot ≡ false → (new.port port.0).ci slot ≡ false
-  ci_clear slot small read = new_ci slot ∙ ((laws.keeps mid second.at_access second.steps).ports_are_kept port.0).ci_stays_clear slot (mid_ci slot ∙ (sym (first.shows slot small) ∙ read))
+  ci_clear slot small read = new_ci slot ∙ ((laws.keeps mid second.at_access second.steps).port_bits_only_fall port.0).ci_stays_clear slot (mid_ci slot ∙ (sym (first.shows slot small) ∙ read))
 
   sact_clear : (slot : ℕ) → slot < 32 → bit active slot ≡ false → (new.port port.0).sact slot ≡ false
   sact_clear slot small read = new_sact slot ∙ (sym (second.shows slot small) ∙ read)
@@ -85,9 +85,9 @@ module _ (laws : Laws) (port : Port) (mask done issued active : ℕ) (old mid ne
   sees : FindsEachClearSlot port mask done old
   sees slot small asked ci sact =
       clear slot small
-      ∙ are_clear (bit mask slot) (bit issued slot) (bit active slot) asked (first.shows slot small ∙ ((laws.keeps old first.at_access first.steps).ports_are_kept port.0).ci_stays_clear slot ci)
+      ∙ are_clear (bit mask slot) (bit issued slot) (bit active slot) asked (first.shows slot small ∙ ((laws.keeps old first.at_access first.steps).port_bits_only_fall port.0).ci_stays_clear slot ci)
       (second.shows slot small
-      ∙ ((laws.keeps mid second.at_access second.steps).ports_are_kept port.0).sact_stays_clear slot (mid_sact slot ∙ ((laws.keeps old first.at_access first.steps).ports_are_kept port.0).sact_stays_clear slot sact))
+      ∙ ((laws.keeps mid second.at_access second.steps).port_bits_only_fall port.0).sact_stays_clear slot (mid_sact slot ∙ ((laws.keeps old first.at_access first.steps).port_bits_only_fall port.0).sact_stays_clear slot sact))
 
   started : (old.port port.0).st ≡ true → (new.port port.0).st ≡ true
   started st =

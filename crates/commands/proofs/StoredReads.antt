@@ -15,7 +15,7 @@ use Rattle.refinement.specs.Relation.{port_at}
 use Rattle.refinement.specs.TwoReadsWitness.{ReadsIntoFrame, TwoStoredReads, two_reads_memory}
 use Rattle.refinement.specs.Slots.{Free}
 use Rattle.refinement.specs.ReadWitness.{ready_device}
-use Rattle.commands.specs.Batches.{BatchSlotsAreUnused, HasBitsOf, IsSlotOf, IsStoreForBatch, SaysTask, PlacedTask}
+use Rattle.commands.specs.Batches.{BatchSlotsAreUnused, HasExactlySlotBitsOf, IsSlotOf, IsStoreForBatch, MemoryEncodesTask, PlacedTask}
 use Rattle.commands.specs.Tasks.{IsFitTransfer, IsTaskOf}
 use Rattle.commands.specs.Witness.{BatchIssueWitness}
 use Rattle.commands.proofs.Batch.{all_one, contains_here, contains_there, one_apart}
@@ -39,7 +39,7 @@ both P one other = All-cons P (read_in 0 100 100) (read_in 1 108 101 ∷ []) one
 fits : (slot first frame : ℕ) → first < 281474976710656 → IsFitTransfer (read_in slot first frame).task (read_in slot first frame).frames
 fits slot first frame small = record { is_transfer = inl refl; count_is_positive = omega arith; count_is_allowed = omega arith; first_in_range = small; frame_count_is = refl }
 
-has_bits : HasBitsOf tasks 3
+has_bits : HasExactlySlotBitsOf tasks 3
 has_bits = record { slots_are_set = both (λ t. bit 3 t.slot ≡ true) refl refl; no_other_is_set = alone }
   where
     alone : (slot : ℕ) → bit 3 slot ≡ true → IsSlotOf tasks slot
@@ -78,7 +78,7 @@ module _ (known : TwoStoredReads) where
       transfers_fit = both (λ t. IsFitTransfer t.task t.frames) (fits 0 100 100 (omega arith)) (fits 1 108 101 (omega arith));
       all_are_queued = both (λ t. t.task.queued ≡ true) refl refl;
       stores = simulated_none (IsStoreForBatch 0 tasks) (BatchSlotsAreUnused 0 tasks) (ready_device two_reads_memory);
-      slots_say_tasks = both (λ t. SaysTask 0 t two_reads_memory) (record { slot_says_task = known.first_says; block_names_sectors = tt }) (record { slot_says_task = known.second_says; block_names_sectors = tt });
+      slots_say_tasks = both (λ t. MemoryEncodesTask 0 t two_reads_memory) (record { slot_says_task = known.first_says; block_names_sectors = tt }) (record { slot_says_task = known.second_says; block_names_sectors = tt });
     };
     mask = 3;
     mask_has_slots = has_bits;

@@ -17,11 +17,11 @@ use Rattle.block_machine.specs.Expected.{after}
 use Rattle.block_machine.specs.State.{Machine}
 use Rattle.block_machine.specs.Steps.{Step}
 use Rattle.refinement.specs.Acts.{Act, AreActsDone, driver_state_of_slots, accesses_of, act_steps}
-use Rattle.refinement.specs.Fragments.{AnyAccess, IsDrivenBy, IsSimulated, LeavesPort, SparesOtherPorts}
+use Rattle.refinement.specs.Fragments.{AnyAccess, IsDrivenBy, IsSimulated, OnlyDeviceChangesPort, SparesOtherPorts}
 use Rattle.refinement.specs.Driver.{DriverAdvances, DriverRelation, DriverState}
 use Rattle.refinement.specs.PreservedParts.{SameAdapter, DoesNotWrite}
 use Rattle.refinement.specs.MemoryLayout.{command_list_address}
-use Rattle.refinement.specs.ReadySlots.{IsStored}
+use Rattle.refinement.specs.ReadySlots.{IsStoredOnPortWithStSet}
 use Rattle.refinement.specs.Slots.{SlotDecodesTo, SlotStates}
 use Rattle.command_table.specs.TableStores.{IsHeaderTableOrBlockStore, IsHeaderOrTableStore}
 use Rattle.commands.specs.Batches.{IsStoreForBatch, PlacedTask}
@@ -73,7 +73,7 @@ storing_writes_none r (Writing q v) here = absurd here
 
 -- what laws say: accesses of another port leave the port to the device, and any leave the adapter what it is
 pub record Leaving : Type 0 where
-  pub left : (port : Port) (q : ℕ) (old new : Device) → q ≢ port.0 → IsOn old → IsDrivenBy (SparesOtherPorts port) old new → LeavesPort (old.port q) (new.port q)
+  pub left : (port : Port) (q : ℕ) (old new : Device) → q ≢ port.0 → IsOn old → IsDrivenBy (SparesOtherPorts port) old new → OnlyDeviceChangesPort (old.port q) (new.port q)
   pub on : (port : Port) (old new : Device) → IsOn old → IsDrivenBy (SparesOtherPorts port) old new → IsOn new
   pub adapter : (old new : Device) → IsDrivenBy AnyAccess old new → SameAdapter old new
 
@@ -86,7 +86,7 @@ module _ (laws : Leaving) (port : Port) (May : Access → Type 0) (stores : (acc
   }
 
   -- no store is of a register, so the port is left as by accesses of another one
-  stores_left : IsOn old → LeavesPort (old.port port.0) (mid.port port.0)
+  stores_left : IsOn old → OnlyDeviceChangesPort (old.port port.0) (mid.port port.0)
   stores_left on =
       let q : Port = record { 0 = port.0 + 1 } in
       laws.left q port.0 old mid (λ (e : port.0 ≡ port.0 + 1). omega (arith, e)) on (as_kind (SparesOtherPorts q) (storing_spares q))
@@ -103,10 +103,10 @@ module _ (laws : Leaving) (port : Port) (May : Access → Type 0) (stores : (acc
   pub stores_may : IsOn old → RunsItsList port.0 old → RunsItsList port.0 mid
   stores_may on may = record {
     st_is_set = (stores_left on).controls.st_is_kept ∙ may.st_is_set;
-    list_is_in_place = ap (λ (x : Bases). x.clb) (stores_left on).port_is_kept_by_device.bases_are_kept ∙ may.list_is_in_place;
+    list_is_in_place = ap (λ (x : Bases). x.clb) (stores_left on).bits_only_fall.bases_are_kept ∙ may.list_is_in_place;
   }
 
-pub stored_in : (port : Port) (slot : ℕ) (c : Meaning) (places : List ℕ) (d : Device) → HasPort d port.0 → slot < 32 → RunsItsList port.0 d → SlotDecodesTo d.memory (command_list_address port.0) port.0 slot c places → IsStored d port.0 slot c places
+pub stored_in : (port : Port) (slot : ℕ) (c : Meaning) (places : List ℕ) (d : Device) → HasPort d port.0 → slot < 32 → RunsItsList port.0 d → SlotDecodesTo d.memory (command_list_address port.0) port.0 slot c places → IsStoredOnPortWithStSet d port.0 slot c places
 stored_in port slot c places d there small may told = record {
   st_is_set = may.st_is_set;
   list_is_in_place = record { port_below = there.0; slot_below = small; list = may.list_is_in_place };

@@ -129,7 +129,7 @@ module _ (port : Port) (slot : ℕ) (r : Task) (frames : List Frame) (mode : Que
   pub task_means : MeansRequest port.0 slot e.request (meaning_of r) (piece_addresses_of port.0 r.op r.range.count frames)
   task_means = record {
     op_is = op_is r.queued r.op ∙ ap Some (sym is.operation_is);
-    first_sector_is = names_first r.queued r.op;
+    first_sector_is_if_ranged = names_first r.queued r.op;
     places_are =
         subst (λ (o : Op). AreRequestPlaces o port.0 e.request (piece_addresses_of port.0 r.op r.range.count frames)) (sym is.operation_is)
         (are_places r.op port.0 r.range.count frames e.request is.count_is is.frames_are);

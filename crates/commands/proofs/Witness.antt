@@ -54,7 +54,7 @@ module _ (known : PreparedReadWitness) (one : (memory : ℕ → ℕ) (list slot 
       some_read e = cc
 
   first_is : request.asked.first.0 ≡ 100
-  first_is = sym (prepared.means.first_sector_is (ap (λ (m : Meaning). is_ranged m.operation) same.0)) ∙ ap (λ (m : Meaning). m.first) same.0
+  first_is = sym (prepared.means.first_sector_is_if_ranged (ap (λ (m : Meaning). is_ranged m.operation) same.0)) ∙ ap (λ (m : Meaning). m.first) same.0
 
   count_is : request.asked.count ≡ 8
   count_is = sym (subst (λ (op : Op). AreRequestPlaces op 0 request prepared.places) read_is prepared.means.places_are).0 ∙ ap (λ (places : List ℕ). length places) same.1

@@ -20,10 +20,10 @@ use Rattle.block_machine.specs.declared.due.QueueMode.{QueueMode}
 use Rattle.refinement.specs.Acts.{Act, ActsReachWith, DriverSlots, act_steps}
 use Rattle.refinement.specs.Fragments.{IsDrivenBy, IsSimulated, SomeMachineAgreesWith}
 use Rattle.refinement.specs.MemoryLayout.{command_list_address}
-use Rattle.refinement.specs.ReadySlots.{IsStored}
+use Rattle.refinement.specs.ReadySlots.{IsStoredOnPortWithStSet}
 use Rattle.refinement.specs.Slots.{Free, SlotDecodesTo, SlotStates}
 use Rattle.command_table.specs.TableStores.{IsHeaderTableOrBlockStore, IsHeaderOrTableStore, IsUnused}
-use Rattle.commands.specs.Tasks.{BlockNamesSectors, IsBeingIssued, IsFitTransfer, IsStoreFor, IsTaskOf, RunsItsList, piece_addresses_of, meaning_of, with_serving, issuing_writes}
+use Rattle.commands.specs.Tasks.{BlockNamesSectors, IsFreeArmedOrServing, IsFitTransfer, IsStoreFor, IsTaskOf, RunsItsList, piece_addresses_of, meaning_of, with_serving, issuing_writes}
 use Rattle.commands.specs.declared.ncq.Task.{Task}
 
 -- ---- a batch
@@ -51,12 +51,12 @@ abbrev pub BatchSlotsAreUnused : ℕ → List PlacedTask → SlotStates → Type
 BatchSlotsAreUnused port tasks uses = All (λ t. uses port t.slot ≡ Free) tasks
 
 -- the value has the bits of their slots, and no other
-pub record HasBitsOf (tasks : List PlacedTask) (v : ℕ) : Type 0 where
+pub record HasExactlySlotBitsOf (tasks : List PlacedTask) (v : ℕ) : Type 0 where
   pub slots_are_set : All (λ t. bit v t.slot ≡ true) tasks
   pub no_other_is_set : (slot : ℕ) → bit v slot ≡ true → IsSlotOf tasks slot
 
 -- the slot's header and table say what the task is to do, and a trim's block names its sectors
-pub record SaysTask (port : ℕ) (t : PlacedTask) (memory : ℕ → ℕ) : Type 0 where
+pub record MemoryEncodesTask (port : ℕ) (t : PlacedTask) (memory : ℕ → ℕ) : Type 0 where
   pub slot_says_task : SlotDecodesTo memory (command_list_address port) port t.slot (meaning_of t.task)
       (piece_addresses_of port t.task.op t.task.range.count t.frames)
   pub block_names_sectors : BlockNamesSectors t.task.op t.task.range port memory
@@ -71,7 +71,7 @@ IsStoreForBatch port tasks access = (t : PlacedTask) × Contains tasks t × IsSt
 pub record StoresTransfer (port : Port) (t : PlacedTask) (old new : Device) : Type 0 where
   pub adapter_is_on : IsOn new
   pub stores : IsSimulated (IsHeaderOrTableStore port.0 t.slot) (IsUnused port.0 t.slot) old new
-  pub slot_says_task : SaysTask port.0 t new.memory
+  pub slot_says_task : MemoryEncodesTask port.0 t new.memory
 
 -- Accesses that store for queued transfers led there, and no others: each transfer has a slot of its own that the
 -- adapter has (AHCI 1.3.1, 3.1.1, CAP.NCS) and that wasn't in use, and the slot says it. The port runs.
@@ -87,7 +87,7 @@ pub record IsBatchStored (port : Port) (tasks : List PlacedTask) (old stored : D
   pub transfers_fit : All (λ t. IsFitTransfer t.task t.frames) tasks
   pub all_are_queued : All (λ t. t.task.queued ≡ true) tasks
   pub stores : IsSimulated (IsStoreForBatch port.0 tasks) (BatchSlotsAreUnused port.0 tasks) old stored
-  pub slots_say_tasks : All (λ t. SaysTask port.0 t stored.memory) tasks
+  pub slots_say_tasks : All (λ t. MemoryEncodesTask port.0 t stored.memory) tasks
 
 -- ---- it is issued
 
@@ -104,7 +104,7 @@ pub record StoresThenWritesAll (port : Port) (queued : Bool) (tasks : List Place
     pub stores : List Access
     pub all_are_batch_stores : All (IsStoreForBatch port.0 tasks) stores
     pub mask : ℕ
-    pub mask_has_slots : HasBitsOf tasks mask
+    pub mask_has_slots : HasExactlySlotBitsOf tasks mask
     pub accesses_are : accesses ≡ stores ++ issuing_writes port queued mask
 
 -- the requests' issues, the last one first
@@ -135,7 +135,7 @@ pub record IssuesBatchAtEnd (port : Port) (tasks : List PlacedTask) (mode : Queu
   pub only_device_before : AllByDevice device_steps
   pub issues_come_last : act_steps acts ≡ issues_of mode es ++ device_steps
   pub own_slots_are_being_issued : AllZip
-      (λ t e. All (λ act. IsBeingIssued e.request.id (act.state_after.slot_states port.0 t.slot)) acts) tasks
+      (λ t e. All (λ act. IsFreeArmedOrServing e.request.id (act.state_after.slot_states port.0 t.slot)) acts) tasks
       es
   pub other_slots_are_kept : (q k : ℕ) → (q ≡ port.0 → IsSlotOf tasks k → ⊥)
       → All (λ act. act.state_after.slot_states q k ≡ uses q k) acts
@@ -159,7 +159,7 @@ pub record IssuesBatch (port : Port) (tasks : List PlacedTask) (old new : Device
 pub record IsBatchIssued (port : Port) (tasks : List PlacedTask) (old new : Device) : Type 0 where
   pub adapter_is_on : IsOn new
   pub issues : IssuesBatch port tasks old new
-  pub stored : All (λ t. IsStored new port.0 t.slot (meaning_of t.task)
+  pub stored : All (λ t. IsStoredOnPortWithStSet new port.0 t.slot (meaning_of t.task)
       (piece_addresses_of port.0 t.task.op t.task.range.count t.frames)) tasks
   pub block_names_sectors : All (λ t. BlockNamesSectors t.task.op t.task.range port.0 new.memory) tasks
   pub ci_is_set : All (λ t. (new.port port.0).ci t.slot ≡ true) tasks

@@ -10,7 +10,7 @@ use Rattle.adapter.specs.Device.{Device}
 use Rattle.adapter.specs.Rules.{IsOn, HasPort}
 use Rattle.refinement.specs.Fragments.{SomeMachineAgreesWith, IsSimulated}
 use Rattle.command_table.specs.TableStores.{IsUnused}
-use Rattle.commands.specs.Batches.{BatchSlotsAreUnused, HasBitsOf, HaveOwnSlots, IsBatchIssued, IsStoreForBatch, SaysTask, PlacedTask, batch_of_one}
+use Rattle.commands.specs.Batches.{BatchSlotsAreUnused, HasExactlySlotBitsOf, HaveOwnSlots, IsBatchIssued, IsStoreForBatch, MemoryEncodesTask, PlacedTask, batch_of_one}
 use Rattle.commands.specs.Tasks.{WritesSactIfQueued, IsFitTransfer, RunsItsList, meaning_of}
 use Rattle.commands.specs.declared.ncq.Task.{Task}
 
@@ -47,8 +47,8 @@ pub record IsArmedFor (port : Port) (queued : Bool) (tasks : List PlacedTask) (m
     pub trim_in_slot_0 : All (λ t. t.task.op ≡ Trim → t.slot ≡ 0) tasks
     pub after_stores : Device
     pub stores : IsSimulated (IsStoreForBatch port.0 tasks) (BatchSlotsAreUnused port.0 tasks) old after_stores
-    pub slots_say_tasks : All (λ t. SaysTask port.0 t after_stores.memory) tasks
-    pub mask_has_slots : HasBitsOf tasks mask
+    pub slots_say_tasks : All (λ t. MemoryEncodesTask port.0 t after_stores.memory) tasks
+    pub mask_has_slots : HasExactlySlotBitsOf tasks mask
     pub arms : WritesSactIfQueued queued port mask after_stores armed
 
 -- What the write of PxCI makes of one task.

@@ -123,5 +123,5 @@ abbrev pub with_serving : Port → ℕ → RequestId → DriverSlots → DriverS
 with_serving port slot id s = record s { slot_states = set_slot_state s.slot_states port.0 slot (Serves id) }
 
 -- on its way from being free to serving this request
-abbrev pub IsBeingIssued : RequestId → SlotState → Type 0
-IsBeingIssued id u = (u ≡ Free) ⊎ ((u ≡ Armed) ⊎ (u ≡ Serves id))
+abbrev pub IsFreeArmedOrServing : RequestId → SlotState → Type 0
+IsFreeArmedOrServing id u = (u ≡ Free) ⊎ ((u ≡ Armed) ⊎ (u ≡ Serves id))

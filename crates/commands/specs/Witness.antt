@@ -12,7 +12,7 @@ use Rattle.refinement.specs.Fragments.{SomeMachineAgrees}
 use Rattle.refinement.specs.Slots.{Free}
 use Rattle.refinement.specs.TwoReadsWitness.{two_reads_memory}
 use Rattle.refinement.specs.ReadWitness.{prepared_read, ready_device}
-use Rattle.commands.specs.Batches.{HasBitsOf, IsBatchStored, MayServeBatch, PlacedTask}
+use Rattle.commands.specs.Batches.{HasExactlySlotBitsOf, IsBatchStored, MayServeBatch, PlacedTask}
 use Rattle.commands.specs.Tasks.{IsFitTransfer, IsTaskOf, RunsItsList}
 use Rattle.commands.specs.declared.ncq.Task.{Task}
 
@@ -42,7 +42,7 @@ pub record BatchIssueWitness : Type 0 where
   pub has_two_tasks : length tasks ≡ 2
   pub stored : IsBatchStored (port_at 0) tasks (ready_device two_reads_memory) (ready_device two_reads_memory)
   pub mask : ℕ
-  pub mask_has_slots : HasBitsOf tasks mask
+  pub mask_has_slots : HasExactlySlotBitsOf tasks mask
   pub mode : QueueMode
   pub requests : List Pending
   pub are_tasks : AllZip (λ t e. IsTaskOf (port_at 0) t.slot t.task t.frames mode e) tasks requests

@@ -5,7 +5,7 @@ ghost use Rattle.hba_regs.specs.{Bits.{bit}, declared.reg.Reg.TheVariants.{Px}, 
 ghost use Rattle.adapter.specs.{Access.{Access, Writes}, Device.{Device}, Rules.{HasPort, IsOn, MayWrite, IsStable}, declared.command.Operation.{Operation}};
 ghost use Rattle.block_machine.specs.{Histories.{IsReachable}, State.{Machine, Pending}, declared.due.QueueMode.{QueueMode}};
 ghost use Rattle.refinement.specs.{Acts.{DriverSlots, driver_state_of_slots}, Fragments.{AnySlotStates, IsSimulated, SomeMachineAgreesWith, SparesOtherPorts, GainsNoMove}, Driver.{EndsInSteps, DriverRelation}, Slots.{Own, client_operation_of}};
-ghost use Rattle.commands.specs.{Batches.{BatchSlotsAreUnused, HasBitsOf, IsBatchIssued, IsBatchStored, IsBatchAccess, IsSlotOf, IssuesBatch, MayServeBatch, PlacedTask, StoresTransfer, issues_of, with_serving_batch}, Issuing.{IsArmedFor, MayIssueTransfer}, Masks.{ReadsDone, ReadsCiOrSact}, Tasks.{IsFitTransfer, IsTaskOf, RunsItsList}, Witness.{BatchIssueWitness, TransferIssueWitness}};
+ghost use Rattle.commands.specs.{Batches.{BatchSlotsAreUnused, HasExactlySlotBitsOf, IsBatchIssued, IsBatchStored, IsBatchAccess, IsSlotOf, IssuesBatch, MayServeBatch, PlacedTask, StoresTransfer, issues_of, with_serving_batch}, Issuing.{IsArmedFor, MayIssueTransfer}, Masks.{ReadsDone, ReadsCiOrSact}, Tasks.{IsFitTransfer, IsTaskOf, RunsItsList}, Witness.{BatchIssueWitness, TransferIssueWitness}};
 
 use adapter::laws::{law_a_first_read_exists, law_decoding_is_unique};
 use block_machine::laws::law_issues_keep_rules_but_frames;
@@ -15,13 +15,13 @@ use refinement::acts::{
 use refinement::fragments::law_other_ports_are_untouched;
 use refinement::laws::{
     law_a_prepared_read_agrees, law_advances_compose, law_device_is_followed,
-    law_device_steps_are_parts, law_enabled_issues_stay, law_free_slots_are_untouched,
-    law_histories_compose, law_setting_changes_one_slot, law_stored_commands_stay,
+    law_device_steps_are_parts, law_enabled_issues_stay, law_histories_compose,
+    law_setting_changes_one_slot, law_stored_commands_stay, law_tables_and_idle_scratch_are_kept,
     law_two_reads_are_stored,
 };
 use refinement::port_facts::{law_adapter_stays, law_controls_stay};
 use refinement::readying::{
-    law_bits_are_followed_in_turn, law_readied_is_issued, law_stored_stays,
+    law_bits_are_followed_in_turn, law_readied_may_be_issued, law_stored_stays,
     law_stored_stays_over_acts,
 };
 
@@ -48,12 +48,12 @@ pub fn law_writing_issues()
     law_device_is_followed();
     law_device_steps_are_parts();
     law_enabled_issues_stay();
-    law_free_slots_are_untouched();
+    law_tables_and_idle_scratch_are_kept();
     law_advances_compose();
     law_histories_compose();
     law_other_ports_are_untouched();
     law_setting_changes_one_slot();
-    law_readied_is_issued();
+    law_readied_may_be_issued();
     law_stored_stays();
     law_stored_commands_stay();
 }
@@ -83,10 +83,10 @@ pub fn law_batches_grow()
 
 /// So does its mask, of 32 bits: it begins with none, and has the bit of the task's slot more.
 pub fn law_batch_masks_grow()
-    ensures empty_mask { HasBitsOf [] 0 }
+    ensures empty_mask { HasExactlySlotBitsOf [] 0 }
     ensures one_more_bit { (tasks : List PlacedTask) (t : PlacedTask) (mask later : ℕ) → mask < 2 ^ 32 → later < 2 ^ 32
-        → HasBitsOf tasks mask → bit later t.slot ≡ true
-        → ((k : ℕ) → k < 32 → k ≢ t.slot → bit later k ≡ bit mask k) → HasBitsOf (tasks ++ t ∷ []) later }
+        → HasExactlySlotBitsOf tasks mask → bit later t.slot ≡ true
+        → ((k : ℕ) → k < 32 → k ≢ t.slot → bit later k ≡ bit mask k) → HasExactlySlotBitsOf (tasks ++ t ∷ []) later }
 {}
 
 /// Issuing a batch is a part of a call. From a machine that agrees with the slots free, and on which requests that are
@@ -100,7 +100,7 @@ pub fn law_batch_issues_come_last()
         → DriverRelation m (driver_state_of_slots s old) → MayServeBatch port tasks mode es s m
         → EndsInSteps (driver_state_of_slots s old) m (issues_of mode es)
         (driver_state_of_slots (with_serving_batch port tasks es s) new) }
-    ensures no_page_moves { (port : Port) (tasks : List PlacedTask) (mode : QueueMode) (es : List Pending)
+    ensures no_unasked_page_moves { (port : Port) (tasks : List PlacedTask) (mode : QueueMode) (es : List Pending)
         (old new : Device)
         (s : DriverSlots) (m : Machine) → IssuesBatch port tasks old new
         → AllZip (λ t e. IsTaskOf port t.slot t.task t.frames mode e) tasks es → IsReachable m
@@ -112,7 +112,7 @@ pub fn law_batch_issues_come_last()
 }
 
 /// What is found done is a fragment that is followed, with each slot used as it was.
-pub fn law_finding_is_followed()
+pub fn law_reading_done_is_simulated()
     ensures { (port : Port) (mask done : ℕ) (old new : Device) → ReadsDone port mask done old new
         → IsSimulated (ReadsCiOrSact port) AnySlotStates old new }
 {}

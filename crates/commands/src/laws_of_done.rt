@@ -9,7 +9,8 @@ ghost use Rattle.commands.specs.Masks.{IsDoneMask, ReadsDone, FindsEachClearSlot
 use adapter::laws::law_step_lists_keep_what_steps_keep;
 use refinement::acts::law_accesses_and_decisions_are_acts;
 use refinement::laws::{
-    law_advances_compose, law_histories_compose, law_reading_is_followed, law_steps_spare_the_book,
+    law_advances_compose, law_book_only_advances_over_device_steps, law_histories_compose,
+    law_reading_is_followed,
 };
 use refinement::port_facts::{law_adapter_stays, law_controls_stay, law_ended_is_clear};
 
@@ -27,5 +28,5 @@ pub fn law_reading_finds_done()
     law_histories_compose();
     law_reading_is_followed();
     law_step_lists_keep_what_steps_keep();
-    law_steps_spare_the_book();
+    law_book_only_advances_over_device_steps();
 }

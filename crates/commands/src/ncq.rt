@@ -10,7 +10,7 @@ ghost use Rattle.std.specs.Prelude.{◌≡◌, ◌≤◌, ◌<◌, ◌*◌, ◌/
 ghost use Rattle.adapter.specs.{Commands.{command_of}, Device.{Device}, Rules.{IsOn, HasPort}, AccessBounds.{MakesAtMost}};
 ghost use Rattle.refinement.specs.Fragments.{IsSoleBit};
 ghost use Rattle.hba_regs.specs.{declared.reg.PortReg.TheVariants.{Ci, Sact}, declared.reg.Reg.TheVariants.{Px}};
-ghost use Rattle.commands.specs.{Batches.{HasBitsOf, IsBatchIssued, IsBatchStored, PlacedTask, StoresTransfer}, Issuing.{IsIssued, MayIssueTask, MayIssueTransfer}, Masks.{IsDoneMask, ReadsDone, FindsEachClearSlot}, Tasks.{WritesSactIfQueued, IsFitTransfer, IsTransfer, task_operation}, Costs.{BATCH_WRITE_ACCESSES, DONE_ACCESSES, ISSUE_ACCESSES}};
+ghost use Rattle.commands.specs.{Batches.{HasExactlySlotBitsOf, IsBatchIssued, IsBatchStored, PlacedTask, StoresTransfer}, Issuing.{IsIssued, MayIssueTask, MayIssueTransfer}, Masks.{IsDoneMask, ReadsDone, FindsEachClearSlot}, Tasks.{WritesSactIfQueued, IsFitTransfer, IsTransfer, task_operation}, Costs.{BATCH_WRITE_ACCESSES, DONE_ACCESSES, ISSUE_ACCESSES}};
 ghost use Rattle.command_table.specs.Costs.{TABLE_ACCESSES};
 
 use crate::laws::law_writing_issues;
@@ -23,7 +23,7 @@ use ata_types::{
 use command_table::{prds_in, write_table};
 use hba_regs::{PortReg, Reg, with_bit};
 use refinement::fragments::law_other_ports_are_untouched;
-use refinement::laws::law_writing_stays_permitted;
+use refinement::laws::law_writes_but_ci_stay_permitted;
 use refinement::port_facts::law_adapter_stays;
 
 /// Where a queued command has its tag, which is its slot: bits 7:3 of the count field (ACS-3).
@@ -94,7 +94,7 @@ fn arm<A: Adapter>(adapter: &mut A, port: Port, own: u32, queued: bool)
     ensures arms { WritesSactIfQueued queued port own (A.device adapter.old) (A.device adapter.new) }
     ensures cost { MakesAtMost 1 (A.access_count adapter.old) (A.access_count adapter.new) }
 {
-    law_writing_stays_permitted();
+    law_writes_but_ci_stay_permitted();
     if queued {
         adapter.write(Reg::Px(port, PortReg::Sact), own);
     }
@@ -114,21 +114,25 @@ pub fn store_transfer<A: Adapter>(
         (A.device adapter.old) (A.device adapter.new) }
     ensures cost { MakesAtMost TABLE_ACCESSES (A.access_count adapter.old) (A.access_count adapter.new) }
 {
+    let meant = command(transfer, slot);
     if frames.len() <= FEW_FRAMES {
-        store_transfer_in::<A, FEW_FRAMES>(adapter, port, slot, transfer, frames);
+        store_command::<A, FEW_FRAMES>(adapter, port, slot, &meant, transfer, frames);
     } else {
-        store_transfer_in::<A, MOST_REQUEST_FRAMES>(adapter, port, slot, transfer, frames);
+        store_command::<A, MOST_REQUEST_FRAMES>(adapter, port, slot, &meant, transfer, frames);
     }
 }
 
-/// Does so with a list of PRDs that has room for so many frames.
-fn store_transfer_in<A: Adapter, const ROOM: usize>(
+/// Stores header and table of a transfer whose command is `meant`, with a list of PRDs that has room for `ROOM`.
+fn store_command<A: Adapter, const ROOM: usize>(
     adapter: &mut A,
     port: Port,
     slot: Slot,
+    meant: &Command,
     transfer: &Task,
     frames: &[Frame],
 )
+    requires is_command { meant.now ≡ command_of (task_operation transfer.now.queued transfer.now.op) slot.0
+        transfer.now.range.first.0 transfer.now.range.count }
     requires may { MayIssueTransfer port slot.0 transfer.now frames.now (A.device adapter.old) }
     requires room { length frames.now ≤ ROOM }
     requires small { ROOM ≤ MOST_REQUEST_FRAMES }
@@ -137,13 +141,7 @@ fn store_transfer_in<A: Adapter, const ROOM: usize>(
     ensures cost { MakesAtMost TABLE_ACCESSES (A.access_count adapter.old) (A.access_count adapter.new) }
 {
     let prds = prds_in::<ROOM>(frames, SECTOR_BYTES * transfer.range.count);
-    write_table(
-        adapter,
-        port,
-        slot,
-        &command(transfer, slot),
-        prds.as_slice(),
-    );
+    write_table(adapter, port, slot, meant, prds.as_slice());
 }
 
 /// Issues a transfer, eight sectors to a frame, in an unused slot of a port that runs: a queued one as READ or WRITE
@@ -168,14 +166,14 @@ pub fn issue<A: Adapter>(adapter: &mut A, port: Port, slot: Slot, transfer: &Tas
 /// all of PxCI.
 pub fn issue_all<A: Adapter>(adapter: &mut A, port: Port, mask: u32)
     requires stored { (start : Device) × (tasks : List PlacedTask)
-        × IsBatchStored port tasks start (A.device adapter.old) × HasBitsOf tasks mask }
+        × IsBatchStored port tasks start (A.device adapter.old) × HasExactlySlotBitsOf tasks mask }
     ensures issued { (start : Device) (tasks : List PlacedTask)
-        → IsBatchStored port tasks start (A.device adapter.old) → HasBitsOf tasks mask
+        → IsBatchStored port tasks start (A.device adapter.old) → HasExactlySlotBitsOf tasks mask
         → IsBatchIssued port tasks start (A.device adapter.new) }
     ensures cost { MakesAtMost BATCH_WRITE_ACCESSES (A.access_count adapter.old) (A.access_count adapter.new) }
 {
     law_other_ports_are_untouched();
-    law_writing_stays_permitted();
+    law_writes_but_ci_stay_permitted();
     adapter.write(Reg::Px(port, PortReg::Sact), mask);
     law_writing_issues();
     adapter.write(Reg::Px(port, PortReg::Ci), mask);

@@ -4,7 +4,7 @@ use Rattle.toml.specs.Data.{Members}
 use Rattle.configuration.specs.declared.Config.{Config}
 use Rattle.configuration.specs.declared.FaultKind.{FaultKind}
 use Rattle.configuration.specs.declared.FaultKind.TheVariants.{NotToml, WrongKeys, WrongTypes, OutOfRange, Duplicate, SharedFrames, UnknownClient, UnknownPort}
-use Rattle.configuration.specs.Document.{IsDocument, IsDocumentFault, DocumentReadsAs, TextReadsAs, IsTextFault, document_fault, wrong_keys, negative_number, broken_rule, wrong_types, not_a_document}
+use Rattle.configuration.specs.Document.{IsDocument, IsLeastDocumentFault, DocumentReadsAsValidConfig, TextReadsAsValidConfig, IsLeastTextFault, document_fault, wrong_keys, negative_number, broken_rule, wrong_types, not_a_document}
 use Rattle.configuration.specs.Rules.{IsLeastFault, kind_number}
 use Rattle.configuration.specs.TomlTables.{Spells}
 use Rattle.configuration.proofs.Same.{meets-alike, same-values}
@@ -47,7 +47,7 @@ broken-alike m c d k a b h = (
   (λ l less. meets-alike d c l (same-values m d c b a) (h.1 l less)),
 )
 
-pub one-fault : (m : Members) (k l : FaultKind) → IsDocumentFault m k → IsDocumentFault m l → k ≡ l
+pub one-fault : (m : Members) (k l : FaultKind) → IsLeastDocumentFault m k → IsLeastDocumentFault m l → k ≡ l
 one-fault m _ _ (wrong_keys wrong) (wrong_keys wrong') = refl
 one-fault m _ _ (wrong_keys wrong) (wrong_types right wrong') = absurd (wrong right)
 one-fault m _ _ (wrong_keys wrong) (negative_number right t none) = absurd (wrong right)
@@ -68,21 +68,21 @@ one-fault m _ _ (broken_rule k c right t s b) (broken_rule l d right' t' s' b') 
 one-document : (text : List ℕ) (m n : Members) → IsDocument text m → IsDocument text n → m ≡ n
 one-document text m n a b = let both = sym a.parses_as_document ∙ b.parses_as_document in cc
 
-pub told-kind-is-one : (text : List ℕ) (k l : FaultKind) → IsTextFault text k → IsTextFault text l → k ≡ l
+pub told-kind-is-one : (text : List ℕ) (k l : FaultKind) → IsLeastTextFault text k → IsLeastTextFault text l → k ≡ l
 told-kind-is-one text _ _ (not_a_document wrong) (not_a_document wrong') = refl
 told-kind-is-one text _ _ (not_a_document wrong) (document_fault l m is fault) = absurd (wrong m is)
 told-kind-is-one text _ _ (document_fault k m is fault) (not_a_document wrong) = absurd (wrong m is)
 told-kind-is-one text _ _ (document_fault k m is fault) (document_fault l n is' fault') =
-    one-fault m k l fault (subst (λ o. IsDocumentFault o l) (one-document text n m is' is) fault')
+    one-fault m k l fault (subst (λ o. IsLeastDocumentFault o l) (one-document text n m is' is) fault')
 
-read-has-no-fault : (m : Members) (c : Config) (k : FaultKind) → DocumentReadsAs m c → IsDocumentFault m k → ⊥
-read-has-no-fault m c _ read (wrong_keys wrong) = wrong read.has_all_keys
+read-has-no-fault : (m : Members) (c : Config) (k : FaultKind) → DocumentReadsAsValidConfig m c → IsLeastDocumentFault m k → ⊥
+read-has-no-fault m c _ read (wrong_keys wrong) = wrong read.has_valid_keys
 read-has-no-fault m c _ read (wrong_types right wrong) = wrong read.has_all_types
 read-has-no-fault m c _ read (negative_number right t none) = none c read.spells_config
 read-has-no-fault m c _ read (broken_rule k d right t s b) =
     b.0 (meets-alike c d k (same-values m c d read.spells_config s) (read.lacks_every_fault k))
 
-pub read-text-has-no-fault : (text : List ℕ) (c : Config) (k : FaultKind) → TextReadsAs text c → IsTextFault text k → ⊥
+pub read-text-has-no-fault : (text : List ℕ) (c : Config) (k : FaultKind) → TextReadsAsValidConfig text c → IsLeastTextFault text k → ⊥
 read-text-has-no-fault text c _ read (not_a_document wrong) = wrong read.0 read.1
 read-text-has-no-fault text c _ read (document_fault k m is fault) =
-    read-has-no-fault m c k (subst (λ o. DocumentReadsAs o c) (one-document text read.0 m read.1 is) read.2) fault
+    read-has-no-fault m c k (subst (λ o. DocumentReadsAsValidConfig o c) (one-document text read.0 m read.1 is) read.2) fault

@@ -8,26 +8,26 @@ use Rattle.configuration.specs.declared.ConfigFault.{ConfigFault}
 use Rattle.configuration.specs.declared.ConfigFault.TheVariants.{Refused, NoMemory}
 use Rattle.configuration.specs.declared.FaultKind.{FaultKind}
 use Rattle.configuration.specs.declared.FaultKind.TheVariants.{NotToml, WrongKeys, WrongTypes, OutOfRange}
-use Rattle.configuration.specs.Schema.{HasAllKeys, HasAllTypes}
+use Rattle.configuration.specs.Schema.{HasValidKeys, HasAllTypes}
 use Rattle.configuration.specs.Rules.{LacksEveryFault, IsLeastFault}
 use Rattle.configuration.specs.TomlTables.{Spells}
 
 -- the document has the right keys and types, and these values, which meet every rule
-pub record DocumentReadsAs (document : Members) (c : Config) : Type 0 where
-  pub has_all_keys : HasAllKeys document
+pub record DocumentReadsAsValidConfig (document : Members) (c : Config) : Type 0 where
+  pub has_valid_keys : HasValidKeys document
   pub has_all_types : HasAllTypes document
   pub spells_config : Spells document c
   pub lacks_every_fault : LacksEveryFault c
 
 -- The least kind of fault that a document has. Where its keys and types are right, and it has the values of no
 -- `Config`, whose numbers aren't negative, one of its numbers is negative, and so out of range.
-pub data IsDocumentFault (document : Members) : FaultKind → Type 0 where
-  wrong_keys : (HasAllKeys document → ⊥) → IsDocumentFault document WrongKeys
-  wrong_types : HasAllKeys document → (HasAllTypes document → ⊥) → IsDocumentFault document WrongTypes
-  negative_number : HasAllKeys document → HasAllTypes document → ((c : Config) → Spells document c → ⊥)
-      → IsDocumentFault document OutOfRange
-  broken_rule : (kind : FaultKind) (c : Config) → HasAllKeys document → HasAllTypes document → Spells document c
-      → IsLeastFault c kind → IsDocumentFault document kind
+pub data IsLeastDocumentFault (document : Members) : FaultKind → Type 0 where
+  wrong_keys : (HasValidKeys document → ⊥) → IsLeastDocumentFault document WrongKeys
+  wrong_types : HasValidKeys document → (HasAllTypes document → ⊥) → IsLeastDocumentFault document WrongTypes
+  negative_number : HasValidKeys document → HasAllTypes document → ((c : Config) → Spells document c → ⊥)
+      → IsLeastDocumentFault document OutOfRange
+  broken_rule : (kind : FaultKind) (c : Config) → HasValidKeys document → HasAllTypes document → Spells document c
+      → IsLeastFault c kind → IsLeastDocumentFault document kind
 
 -- the text is UTF-8 and a TOML document, which is this one
 pub record IsDocument (text : List ℕ) (document : Members) : Type 0 where
@@ -35,14 +35,15 @@ pub record IsDocument (text : List ℕ) (document : Members) : Type 0 where
   pub parses_as_document : parse_document text ≡ Some document
 
 -- the text is a document with these values, which meet every rule
-abbrev pub TextReadsAs : List ℕ → Config → Type 0
-TextReadsAs text c = (document : Members) × IsDocument text document × DocumentReadsAs document c
+abbrev pub TextReadsAsValidConfig : List ℕ → Config → Type 0
+TextReadsAsValidConfig text c = (document : Members) × IsDocument text document × DocumentReadsAsValidConfig document c
 
 -- the least kind of fault that a text has
-pub data IsTextFault (text : List ℕ) : FaultKind → Type 0 where
-  not_a_document : ((document : Members) → IsDocument text document → ⊥) → IsTextFault text NotToml
-  document_fault : (kind : FaultKind) (document : Members) → IsDocument text document → IsDocumentFault document kind
-      → IsTextFault text kind
+pub data IsLeastTextFault (text : List ℕ) : FaultKind → Type 0 where
+  not_a_document : ((document : Members) → IsDocument text document → ⊥) → IsLeastTextFault text NotToml
+  document_fault : (kind : FaultKind) (document : Members) → IsDocument text document
+      → IsLeastDocumentFault document kind
+      → IsLeastTextFault text kind
 
 -- memory ran out, or the kind is so
 abbrev pub IsNoMemoryOr : (FaultKind → Type 0) → ConfigFault → Type 0

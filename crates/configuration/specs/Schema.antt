@@ -58,28 +58,29 @@ HasType Text value = IsSome (as_str value)
 HasType Tables value = (items : Items) × (as_array value ≡ Some items) × AreTables items
 
 -- the key is there, if it has to be
-abbrev pub IsPresent : Members → KeyRule → Type 0
-IsPresent members key = IsTrue key.is_required → IsSome (get_member key.name members)
+abbrev pub IsPresentIfRequired : Members → KeyRule → Type 0
+IsPresentIfRequired members key = IsTrue key.is_required → IsSome (get_member key.name members)
 
 -- the key's value, if it is there, is of the key's type
-abbrev pub HasItsType : Members → KeyRule → Type 0
-HasItsType members key = IfSome (get_member key.name members) (HasType key.value_type)
+abbrev pub HasItsTypeIfPresent : Members → KeyRule → Type 0
+HasItsTypeIfPresent members key = IfSome (get_member key.name members) (HasType key.value_type)
 
 -- one of the keys has the name
 unfoldable pub IsKnown : List KeyRule → List ℕ → Type 0
 IsKnown keys name = Any (λ key. key.name ≡ name) keys
 
 -- the table has the keys that it has to have, and none that isn't listed
-unfoldable pub HasKeys : List KeyRule → Members → Type 0
-HasKeys keys members = All (IsPresent members) keys × All (IsKnown keys) (names_of members)
+unfoldable pub HasRequiredAndOnlyKnownKeys : List KeyRule → Members → Type 0
+HasRequiredAndOnlyKnownKeys keys members = All (IsPresentIfRequired members) keys
+    × All (IsKnown keys) (names_of members)
 
 -- the value of each key is of the key's type
 unfoldable pub HasTypes : List KeyRule → Members → Type 0
-HasTypes keys members = All (HasItsType members) keys
+HasTypes keys members = All (HasItsTypeIfPresent members) keys
 
 -- the table passes this check
 abbrev pub Passes : KeyCheck → List KeyRule → Members → Type 0
-Passes Names = HasKeys
+Passes Names = HasRequiredAndOnlyKnownKeys
 Passes Types = HasTypes
 
 -- the document passes it, and each table in it
@@ -90,8 +91,8 @@ pub record AllPass (check : KeyCheck) (document : Members) : Type 0 where
   pub grants : All (Passes check grant_keys) (tables_at (codes "grant") document)
 
 -- the document, and each table in it, has its keys and no others
-abbrev pub HasAllKeys : Members → Type 0
-HasAllKeys = AllPass Names
+abbrev pub HasValidKeys : Members → Type 0
+HasValidKeys = AllPass Names
 
 -- each value has its type
 abbrev pub HasAllTypes : Members → Type 0

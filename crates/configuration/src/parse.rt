@@ -2,7 +2,7 @@
 
 ghost use Rattle.std.specs.Prelude.{◌≡◌, ◌↔◌, IsTrue, IfOk, IfErr, All, codes};
 ghost use Rattle.toml.specs.{Errors.{IsBlank}, View.{table_view}};
-ghost use Rattle.configuration.specs.{TomlTables.{tables_at}, Schema.{AllPass, HasAllKeys, HasAllTypes, Passes, document_keys, port_keys, client_keys, grant_keys}};
+ghost use Rattle.configuration.specs.{TomlTables.{tables_at}, Schema.{AllPass, HasValidKeys, HasAllTypes, Passes, document_keys, port_keys, client_keys, grant_keys}};
 
 use super::read::ReadFault;
 use super::schema::{Key, KeyCheck, ValueType};
@@ -157,14 +157,14 @@ fn all_pass(check: KeyCheck, table: &Table) -> bool
 }
 
 impl Config {
-    ghost use Rattle.configuration.specs.Document.{IsNoMemoryOr, IsDocumentFault, DocumentReadsAs, TextReadsAs, IsTextFault};
+    ghost use Rattle.configuration.specs.Document.{IsNoMemoryOr, IsLeastDocumentFault, DocumentReadsAsValidConfig, TextReadsAsValidConfig, IsLeastTextFault};
 
     /// The values of a document, or the least kind of fault that it has.
     fn from_document(alloc: Global, table: &Table) -> Result<Config, ConfigFault>
-        ensures ok { IfOk result (DocumentReadsAs (table_view table.now)) }
-        ensures refused { IfErr result (IsNoMemoryOr (IsDocumentFault (table_view table.now))) }
+        ensures ok { IfOk result (DocumentReadsAsValidConfig (table_view table.now)) }
+        ensures refused { IfErr result (IsNoMemoryOr (IsLeastDocumentFault (table_view table.now))) }
         ensures memory { result ≡ Err ConfigFault.NoMemory
-            → HasAllKeys (table_view table.now) × HasAllTypes (table_view table.now) }
+            → HasValidKeys (table_view table.now) × HasAllTypes (table_view table.now) }
     {
         if !all_pass(KeyCheck::Names, table) {
             return Err(ConfigFault::Refused(FaultKind::WrongKeys));
@@ -187,8 +187,8 @@ impl Config {
     /// told. A number that isn't within 64 bits with a sign is of the kind `NotToml`; a negative one is out of range
     /// (this project's own).
     pub fn parse(alloc: Global, text: &[u8]) -> Result<Config, ConfigFault>
-        ensures ok { IfOk result (TextReadsAs text.now) }
-        ensures refused { IfErr result (IsNoMemoryOr (IsTextFault text.now)) }
+        ensures ok { IfOk result (TextReadsAsValidConfig text.now) }
+        ensures refused { IfErr result (IsNoMemoryOr (IsLeastTextFault text.now)) }
 
         // When memory runs out is no matter of the text; but a text with white space and comments alone takes none.
         ensures blank_wants_no_memory { result ≡ Err ConfigFault.NoMemory → IsBlank text.now → ⊥ }

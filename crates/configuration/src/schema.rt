@@ -2,7 +2,7 @@
 
 ghost use Rattle.std.specs.{Prelude.{◌≡◌, ◌↔◌, IsTrue, IsSome, IfSome, All, Any, map, string_bytes}, BTreeMap.{keys}};
 ghost use Rattle.toml.specs.{Data.{as_table}, View.{view, table_view}};
-ghost use Rattle.configuration.specs.{TomlTables.{tables_at}, Schema.{HasKeys, HasTypes, Passes, key_rule_of}};
+ghost use Rattle.configuration.specs.{TomlTables.{tables_at}, Schema.{HasRequiredAndOnlyKnownKeys, HasTypes, Passes, key_rule_of}};
 
 use super::table::{items_at, value_at};
 use toml::{Table, Value};
@@ -56,16 +56,16 @@ pub struct Key {
 }
 
 impl Key {
-    ghost use Rattle.configuration.specs.Schema.{HasItsType, IsKnown, IsPresent};
+    ghost use Rattle.configuration.specs.Schema.{HasItsTypeIfPresent, IsKnown, IsPresentIfRequired};
 
     fn is_present(&self, table: &Table) -> bool
-        ensures { IsTrue result ↔ IsPresent (table_view table.now) (key_rule_of self.now) }
+        ensures { IsTrue result ↔ IsPresentIfRequired (table_view table.now) (key_rule_of self.now) }
     {
         !self.is_required || value_at(table, self.name).is_some()
     }
 
     fn has_its_type(&self, table: &Table) -> bool
-        ensures { IsTrue result ↔ HasItsType (table_view table.now) (key_rule_of self.now) }
+        ensures { IsTrue result ↔ HasItsTypeIfPresent (table_view table.now) (key_rule_of self.now) }
     {
         match value_at(table, self.name) {
             Some(value) => self.value_type.fits(value),
@@ -88,7 +88,7 @@ impl Key {
 
     /// Whether the keys that have to be there are there.
     fn are_present(keys: &[Key], table: &Table) -> bool
-        ensures { IsTrue result ↔ All (λ key. IsPresent (table_view table.now) (key_rule_of key)) keys.now }
+        ensures { IsTrue result ↔ All (λ key. IsPresentIfRequired (table_view table.now) (key_rule_of key)) keys.now }
     {
         keys.iter().all(|key| key.is_present(table))
     }
@@ -102,14 +102,14 @@ impl Key {
     }
 
     fn have_their_types(keys: &[Key], table: &Table) -> bool
-        ensures { IsTrue result ↔ All (λ key. HasItsType (table_view table.now) (key_rule_of key)) keys.now }
+        ensures { IsTrue result ↔ All (λ key. HasItsTypeIfPresent (table_view table.now) (key_rule_of key)) keys.now }
     {
         keys.iter().all(|key| key.has_its_type(table))
     }
 
     /// Whether a table has the keys that it has to have, and none that isn't listed.
     pub fn are_keys_of(keys: &[Key], table: &Table) -> bool
-        ensures { IsTrue result ↔ HasKeys (map key_rule_of keys.now) (table_view table.now) }
+        ensures { IsTrue result ↔ HasRequiredAndOnlyKnownKeys (map key_rule_of keys.now) (table_view table.now) }
     {
         Key::are_present(keys, table) && Key::know_all(keys, table)
     }

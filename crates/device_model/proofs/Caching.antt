@@ -313,7 +313,7 @@ module _ {S : Type 0} (size : S → ℕ) (told : S → Option (ℕ → List ℕ)
         failed_count_is_allowed = few_of t.failed t.few;
         writes_fail = t.fails;
         size_is_kept = t.sized;
-        sectors_are_rolled_back = t.back;
+        unfailed_sectors_are_rolled_back = t.back;
         failed_are_kept = t.left;
       }
     where
@@ -327,7 +327,7 @@ module _ {S : Type 0} (size : S → ℕ) (told : S → Option (ℕ → List ℕ)
   turned_each into was now t k =
       elim (is_there t.failed k) [
         | inl at ↦ inl (t.failed_are_kept k (inr at))
-        | inr never ↦ elim (below_or k (size was)) [ inl lt ↦ inr (t.sectors_are_rolled_back k lt never) | inr past ↦ inl (t.failed_are_kept k (inl past)) ]
+        | inr never ↦ elim (below_or k (size was)) [ inl lt ↦ inr (t.unfailed_sectors_are_rolled_back k lt never) | inr past ↦ inl (t.failed_are_kept k (inl past)) ]
       ]
 
 -- each sector is as it was, or has its old bytes

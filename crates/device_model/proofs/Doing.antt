@@ -12,7 +12,7 @@ use Rattle.adapter.proofs.Runs.{Steps-refl}
 use Rattle.adapter.specs.Steps.{Can, Steps}
 use Rattle.adapter.specs.Steps.DeviceTransition.{Fault}
 use Rattle.sector_store.specs.declared.store.Failures.{Failures}
-use Rattle.device_model.specs.StepEffects.{AnswersStep, MayAskStore, ClearsFewer, Completes, DidStep, FailsToClear, FailsToMove, OwnStepsKeep, CommandFails, IsLeftOut, LacksMemory, IsAddressable, NoCallFailed, StepKeeps, IsPossible, asked_port, page_source_after_failure}
+use Rattle.device_model.specs.StepEffects.{AnswersStep, MayAskStore, ClearsFewer, Completes, DidStep, FailsToClear, FailsToMove, OwnStepsKeep, CommandFails, IsLeftOut, LacksMemory, IsMemoryAddressableForStep, NoCallFailed, StepKeeps, IsPossible, asked_port, page_source_after_failure}
 use Rattle.device_model.specs.Disks.{bay_of, port_has_cache, disk_in_bay, numbered_disk, disk_failures, identity_of, page_source_of, disk_index_of}
 use Rattle.device_model.specs.ModelState.{device_at}
 use Rattle.device_model.specs.DiskPages.{GainsOwnPages}
@@ -47,13 +47,13 @@ same_flag false false forth back = refl
 
 module _ {S : Type 0} (size : S → ℕ) (told : S → Option (ℕ → List ℕ)) (failures : S → Option Failures) where
   pub keeps_same : (m : Model S) → StepKeeps size m m
-  keeps_same m = record { identities_are_kept = λ _ _. refl; absent_disks_are_kept = λ _ _ _. refl; caches_are_kept = λ _. refl; queue_is_kept = refl; access_count_is_kept = refl }
+  keeps_same m = record { identities_are_kept = λ _ _. refl; disks_not_last_in_are_kept = λ _ _ _. refl; cache_modes_are_kept = λ _. refl; queue_is_kept = refl; access_count_is_kept = refl }
 
   pub keeps_on : (a b c : Model S) → ((q : ℕ) → disk_index_of b q ≡ disk_index_of a q) → StepKeeps size a b → StepKeeps size b c → StepKeeps size a c
   keeps_on a b c same first then = record {
-    absent_disks_are_kept = λ q w ne. then.absent_disks_are_kept q w (λ is. ne (sym (same q) ∙ is)) ∙ first.absent_disks_are_kept q w ne;
+    disks_not_last_in_are_kept = λ q w ne. then.disks_not_last_in_are_kept q w (λ is. ne (sym (same q) ∙ is)) ∙ first.disks_not_last_in_are_kept q w ne;
     identities_are_kept = λ q w. then.identities_are_kept q w ∙ first.identities_are_kept q w;
-    caches_are_kept = λ q. then.caches_are_kept q ∙ first.caches_are_kept q;
+    cache_modes_are_kept = λ q. then.cache_modes_are_kept q ∙ first.cache_modes_are_kept q;
     queue_is_kept = then.queue_is_kept ∙ first.queue_is_kept;
     access_count_is_kept = then.access_count_is_kept ∙ first.access_count_is_kept;
   }
@@ -95,7 +95,7 @@ module _ {S : Type 0} (size : S → ℕ) (told : S → Option (ℕ → List ℕ)
     disk_index_is = refl;
     other_bays_are_kept = λ _ _. refl;
     disks_are_kept = λ _. refl;
-    lacks_memory = λ _ possible. absurd (never possible);
+    possible_step_lacks_memory = λ _ possible. absurd (never possible);
     step_keeps = keeps_same m;
     stays_starved = λ yes. yes;
     starves_for_want = λ yes. inl yes;
@@ -129,7 +129,7 @@ module _ {S : Type 0} (size : S → ℕ) (told : S → Option (ℕ → List ℕ)
 
   -- the same, whatever is queued
   keeps_queued : (old new : Model S) (q : Vec QueuedStep) → StepKeeps size old new → StepKeeps size (record old { queue = q }) (record new { queue = q })
-  keeps_queued old new q k = record { absent_disks_are_kept = k.absent_disks_are_kept; identities_are_kept = k.identities_are_kept; caches_are_kept = k.caches_are_kept; queue_is_kept = refl; access_count_is_kept = k.access_count_is_kept }
+  keeps_queued old new q k = record { disks_not_last_in_are_kept = k.disks_not_last_in_are_kept; identities_are_kept = k.identities_are_kept; cache_modes_are_kept = k.cache_modes_are_kept; queue_is_kept = refl; access_count_is_kept = k.access_count_is_kept }
 
   pub answers_queued : (s : DeviceStep) (answer : Bool) (old new : Model S) (q : Vec QueuedStep) → AnswersStep size told failures s answer old new →
       AnswersStep size told failures s answer (record old { queue = q }) (record new { queue = q })
@@ -137,7 +137,7 @@ module _ {S : Type 0} (size : S → ℕ) (told : S → Option (ℕ → List ℕ)
     a.0,
     record {
       completes_or_fails = elim a.1.completes_or_fails [
-        | inl whole ↦ inl (record { does_asked_step = whole.does_asked_step; no_call_failed = whole.no_call_failed; page_source_is = whole.page_source_is; does_all_it_asks = whole.does_all_it_asks; loses_cache = whole.loses_cache })
+        | inl whole ↦ inl (record { does_asked_step = whole.does_asked_step; no_call_failed = whole.no_call_failed; page_source_is = whole.page_source_is; clear_and_finish_do_all_below_4_gib = whole.clear_and_finish_do_all_below_4_gib; lose_plug_loses_cache = whole.lose_plug_loses_cache })
         | inr failed ↦ inr failed
       ];
       held_ports_are = a.1.held_ports_are;
@@ -156,7 +156,7 @@ module _ {S : Type 0} (size : S → ℕ) (told : S → Option (ℕ → List ℕ)
     disk_index_is = a.disk_index_is;
     other_bays_are_kept = a.other_bays_are_kept;
     disks_are_kept = a.disks_are_kept;
-    lacks_memory = a.lacks_memory;
+    possible_step_lacks_memory = a.possible_step_lacks_memory;
     step_keeps = keeps_queued old new q a.step_keeps;
     stays_starved = a.stays_starved;
     starves_for_want = a.starves_for_want;
@@ -167,7 +167,7 @@ module _ {S : Type 0} (size : S → ℕ) (told : S → Option (ℕ → List ℕ)
       (did ≡ true → SlotGoesOn (SendsEnd slot.0) p.0 slot.0 (device_at size told old) (device_at size told mid)) → (did ≡ false → device_at size told mid ≡ device_at size told old) →
       Meanwhile size p.0 old mid → ((MayAskStore (asked.Finish p slot) (device_at size told old) → ⊥) → (which : DiskIndex) → numbered_disk mid p.0 which ≡ numbered_disk old p.0 which) →
       (did ≡ false → (which : DiskIndex) → numbered_disk mid p.0 which ≡ numbered_disk old p.0 which) → NoCallFailed failures old mid → asked_port s ≡ p.0 → IsLeftOut size told failures s mid new →
-      ((device_at size told old).memory_size ≤ 2 ^ 32 → IsAddressable s (device_at size told mid)) → IsPossible s (device_at size told mid) →
+      ((device_at size told old).memory_size ≤ 2 ^ 32 → IsMemoryAddressableForStep s (device_at size told mid)) → IsPossible s (device_at size told mid) →
       (LacksMemory s (device_at size told mid) mid.hardware mid.bays.items → ⊥) → (t : FetchedCommand) → ((device_at size told mid).port p.0).taken slot.0 ≡ Some t →
       AnswersStep size told failures (asked.Finish p slot) did old new
   cut_short s p slot did old mid new may went stayed meanwhile same untouched none at step needs possible room t taken = by did went stayed untouched
@@ -183,7 +183,7 @@ module _ {S : Type 0} (size : S → ℕ) (told : S → Option (ℕ → List ℕ)
       disks q which = each_port (option_map (λ (x : Bay S). disk_in_bay x which)) mid new p.0 (of_port (λ m k. numbered_disk m k which) (step.disks_are_kept which)) others q
 
       unserved : (device_at size told old).memory_size ≤ 2 ^ 32 → ⊥
-      unserved small_enough = room (step.lacks_memory (needs small_enough) possible).0
+      unserved small_enough = room (step.possible_step_lacks_memory (needs small_enough) possible).0
 
       told_before : new.hardware.starved ≡ true → mid.hardware.starved ≡ true
       told_before now = elim (step.starves_for_want now) [ inl before ↦ before | inr lacks ↦ absurd (room lacks.1) ]
@@ -209,8 +209,8 @@ module _ {S : Type 0} (size : S → ℕ) (told : S → Option (ℕ → List ℕ)
             does_asked_step = subst (λ (d : Device). SlotGoesOn (SendsEnd slot.0) p.0 slot.0 (device_at size told old) d) (sym step.device_is_kept) (on refl);
             no_call_failed = λ _ q which. ap (option_map (λ (x : ModelDisk S). failures x.store)) (disks q which) ∙ none q which;
             page_source_is = all.says;
-            does_all_it_asks = λ small_enough. absurd (unserved small_enough);
-            loses_cache = λ yes. true-false yes refl;
+            clear_and_finish_do_all_below_4_gib = λ small_enough. absurd (unserved small_enough);
+            lose_plug_loses_cache = λ yes. true-false yes refl;
           });
           held_ports_are = all.held;
           disk_index_is = all.which;
@@ -228,7 +228,7 @@ module _ {S : Type 0} (size : S → ℕ) (told : S → Option (ℕ → List ℕ)
         disk_index_is = all.which;
         other_bays_are_kept = all.others;
         disks_are_kept = λ which. disks p.0 which ∙ first refl which;
-        lacks_memory = λ served _.
+        possible_step_lacks_memory = λ served _.
             let there = ap (λ (d : Device). (d.port p.0).taken slot.0) (sym (stays refl)) ∙ taken in
             absurd (unserved (served t there));
         step_keeps = all.keeps;
@@ -273,7 +273,7 @@ module _ {S : Type 0} (size : S → ℕ) (told : S → Option (ℕ → List ℕ)
         fails_finish step.held_ports_are step.disk_index_is step.other_bays_are_kept step.gains_own_pages step.step_keeps step.starved_is_kept (
           device_at size told mid,
           before_it p slot did _ _ went stayed,
-          inl (subst (λ on. FailsToMove on p.0 slot.0 (disk_failures failures old p.0) (disk_failures failures new p.0) (page_source_of old p.0) (page_source_of new p.0) (device_at size told mid) (device_at size told new)) (meanwhile.keeps.caches_are_kept p.0)
+          inl (subst (λ on. FailsToMove on p.0 slot.0 (disk_failures failures old p.0) (disk_failures failures new p.0) (page_source_of old p.0) (page_source_of new p.0) (device_at size told mid) (device_at size told new)) (meanwhile.keeps.cache_modes_are_kept p.0)
               (subst (λ was. FailsToMove (port_has_cache mid p.0) p.0 slot.0 was (disk_failures failures new p.0) (page_source_of old p.0) (page_source_of new p.0) (device_at size told mid) (device_at size told new)) fine
               (subst (λ says. FailsToMove (port_has_cache mid p.0) p.0 slot.0 (disk_failures failures mid p.0) (disk_failures failures new p.0) says (page_source_of new p.0) (device_at size told mid) (device_at size told new)) meanwhile.says f))),
         )
@@ -284,7 +284,7 @@ module _ {S : Type 0} (size : S → ℕ) (told : S → Option (ℕ → List ℕ)
         fails_finish step.held_ports_are step.disk_index_is step.other_bays_are_kept step.gains_own_pages step.step_keeps step.starved_is_kept (
           last,
           on cleared,
-          inr (subst (λ on. FailsToClear on p.0 slot.0 (disk_failures failures old p.0) (disk_failures failures new p.0) (page_source_of old p.0) (page_source_of new p.0) last (device_at size told new)) (meanwhile.keeps.caches_are_kept p.0)
+          inr (subst (λ on. FailsToClear on p.0 slot.0 (disk_failures failures old p.0) (disk_failures failures new p.0) (page_source_of old p.0) (page_source_of new p.0) last (device_at size told new)) (meanwhile.keeps.cache_modes_are_kept p.0)
               (subst (λ was. FailsToClear (port_has_cache mid p.0) p.0 slot.0 was (disk_failures failures new p.0) (page_source_of old p.0) (page_source_of new p.0) last (device_at size told new)) fine
               (subst (λ says. FailsToClear (port_has_cache mid p.0) p.0 slot.0 (disk_failures failures mid p.0) (disk_failures failures new p.0) says (page_source_of new p.0) last (device_at size told new)) meanwhile.says f))),
         )
@@ -331,7 +331,7 @@ module _ {S : Type 0} (size : S → ℕ) (told : S → Option (ℕ → List ℕ)
               starved = a.1.starved_is_kept;
             }
       ]
-  is_failed p slot error t false old new a port small can room = absurd ((a.lacks_memory tt (port, small, t, can)).0 room)
+  is_failed p slot error t false old new a port small can room = absurd ((a.possible_step_lacks_memory tt (port, small, t, can)).0 room)
 
   -- ---- what the model does by itself
 

@@ -7,7 +7,7 @@ use Rattle.adapter.specs.Device.{Disk, FetchedCommand, Halt, DevicePort, Device}
 use Rattle.adapter.specs.Memory.{changed}
 use Rattle.adapter.specs.OneCommand.{IsFreeSlot}
 use Rattle.adapter.specs.Decoding.{pieces}
-use Rattle.adapter.specs.Steps.{Can, IsWorking, WorksOn, admits, newly_fetched, MayBring, next_place, next_sector, port_after_fetch, port_after_move, port_after_clear, port_after_done, port_after_flush, block_after}
+use Rattle.adapter.specs.Steps.{Can, IsWorking, WorksOn, admits, newly_fetched, MayBring, next_place, next_sector, port_after_fetch, port_after_move, port_after_clear, port_after_done, port_with_lasting_after_operation, block_after}
 use Rattle.adapter.specs.Steps.DeviceTransition.{Fetch, Move, Done}
 use Rattle.adapter.specs.declared.command.Operation.{Operation}
 use Rattle.adapter.specs.declared.command.Operation.TheVariants.{Trim}
@@ -15,7 +15,7 @@ use Rattle.device_model.proofs.Absurd.{some-none, some_one, true-false}
 use Rattle.device_model.proofs.Places.{changed_same}
 use Rattle.adapter.proofs.SaysLemmas.{says_meaning, says_places}
 use Rattle.device_model.specs.StepEffects.{HasCleared, HasEndedSlot}
-use Rattle.device_model.specs.Finishing.{HasDisksOrIsRanged, HasMove, HasMovesLeft, IsInProgress, MayFinish}
+use Rattle.device_model.specs.Finishing.{HasDisksOrIsRanged, HasMove, HasMovesLeftInMemory, IsInProgress, MayFinish}
 use Rattle.device_model.specs.SentFises.{SendsEnd}
 use Rattle.device_model.specs.Slots.{CanClear, WorksOnIn, IsNextMove}
 use Rattle.device_model.specs.Trims.{HasClear, HasClearsLeft, next_run_length, uncleared}
@@ -59,7 +59,7 @@ still_works p new o w cr present fresh halt broken = record {
 
 module _ (port slot : ℕ) where
   -- it was just taken
-  just_fetched : (left clears : ℕ) (old new : Device) (m : Meaning) (places : List ℕ) → HasMovesLeft (newly_fetched m places) old.memory_size left →
+  just_fetched : (left clears : ℕ) (old new : Device) (m : Meaning) (places : List ℕ) → HasMovesLeftInMemory (newly_fetched m places) old.memory_size left →
       HasClearsLeft m.operation old.memory (newly_fetched m places) clears → Can (Fetch port slot m places) old → DoesFetch port slot old new →
       IsInProgress new port slot left clears
   just_fetched left clears old new m places covered clearing can f =
@@ -71,11 +71,11 @@ module _ (port slot : ℕ) where
       let taken : state.taken slot ≡ Some (newly_fetched m places) =
       changed_same p.taken slot (Some (newly_fetched f.meaning f.places)) ∙ (λ i. Some (newly_fetched (meaning i) (same i))) in
       let P : DevicePort → Type 0 = λ x. WorksOn x slot (newly_fetched m places) m.operation in
-      let Q : ℕ → Type 0 = λ size. HasMovesLeft (newly_fetched m places) size left in
+      let Q : ℕ → Type 0 = λ size. HasMovesLeftInMemory (newly_fetched m places) size left in
       record {
         fetched_command = newly_fetched m places;
-        is_covered = subst Q (sym (ap (λ (d : Device). d.memory_size) f.effect)) covered;
-        has_clears_left = subst (λ (memory : ℕ → ℕ). HasClearsLeft m.operation memory (newly_fetched m places) clears) (sym (ap (λ (d : Device). d.memory) f.effect)) clearing;
+        has_moves_left = subst Q (sym (ap (λ (d : Device). d.memory_size) f.effect)) covered;
+        has_trim_runs_left = subst (λ (memory : ℕ → ℕ). HasClearsLeft m.operation memory (newly_fetched m places) clears) (sym (ap (λ (d : Device). d.memory) f.effect)) clearing;
         works = subst P (sym there)
             (record { taken = taken; working = still_works p state m.operation can.working refl refl refl refl refl });
       }
@@ -91,12 +91,12 @@ module _ (port slot : ℕ) where
           ⊎ (Can (Fetch port slot ready.fetched_command.meaning ready.fetched_command.places) old × (ready.fetched_command ≡ newly_fetched ready.fetched_command.meaning ready.fetched_command.places)) → IsInProgress new port slot left clears
       by true e (inl works) = some-none works.taken (fetched e).can.fetchable.free
       by true e (inr (can, is)) =
-          let P : FetchedCommand → Type 0 = λ t. HasMovesLeft t old.memory_size left in
+          let P : FetchedCommand → Type 0 = λ t. HasMovesLeftInMemory t old.memory_size left in
           let Q : FetchedCommand → Type 0 = λ t. HasClearsLeft t.meaning.operation old.memory t clears in
-          just_fetched left clears old new ready.fetched_command.meaning ready.fetched_command.places (subst P is ready.is_covered) (subst Q is ready.has_clears_left) can (fetched e)
+          just_fetched left clears old new ready.fetched_command.meaning ready.fetched_command.places (subst P is ready.has_moves_left) (subst Q is ready.has_trim_runs_left) can (fetched e)
       by false e (inl works) =
           let P : Device → Type 0 = λ d. IsInProgress d port slot left clears in
-          subst P (sym (same e)) (record { fetched_command = ready.fetched_command; is_covered = ready.is_covered; has_clears_left = ready.has_clears_left; works = works })
+          subst P (sym (same e)) (record { fetched_command = ready.fetched_command; has_moves_left = ready.has_moves_left; has_trim_runs_left = ready.has_trim_runs_left; works = works })
       by false e (inr (can, is)) = absurd (only e ready.fetched_command.meaning ready.fetched_command.places can)
 
   -- a piece of it is moved
@@ -111,14 +111,14 @@ module _ (port slot : ℕ) where
       let there : new.port port ≡ state = ap (λ (d : Device). d.port port) m.effect ∙ changed_same old.port port state in
       let size : new.memory_size ≡ old.memory_size = ap (λ (d : Device). d.memory_size) m.effect in
       let P : DevicePort → Type 0 = λ x. WorksOn x slot u m.fetched_command.meaning.operation in
-      let Q : FetchedCommand → Type 0 = λ x. HasMovesLeft x old.memory_size (suc left) in
-      let covered : HasMovesLeft m.fetched_command old.memory_size (suc left) = subst Q (sym same) going.is_covered in
+      let Q : FetchedCommand → Type 0 = λ x. HasMovesLeftInMemory x old.memory_size (suc left) in
+      let covered : HasMovesLeftInMemory m.fetched_command old.memory_size (suc left) = subst Q (sym same) going.has_moves_left in
       record {
         fetched_command = u;
-        has_clears_left = subst (λ (memory : ℕ → ℕ). HasClearsLeft m.fetched_command.meaning.operation memory u clears) (sym (ap (λ (d : Device). d.memory) m.effect))
+        has_trim_runs_left = subst (λ (memory : ℕ → ℕ). HasClearsLeft m.fetched_command.meaning.operation memory u clears) (sym (ap (λ (d : Device). d.memory) m.effect))
             (moved_clears m.fetched_command.meaning.operation p.disk old.memory m.fetched_command m.bytes clears m.can.piece_is_left m.can.brings
-            (subst (λ (x : FetchedCommand). HasClearsLeft x.meaning.operation old.memory x clears) (sym same) going.has_clears_left));
-        is_covered = record {
+            (subst (λ (x : FetchedCommand). HasClearsLeft x.meaning.operation old.memory x clears) (sym same) going.has_trim_runs_left));
+        has_moves_left = record {
           moves_left_are = omega (arith, covered.moves_left_are);
           pieces_are_inside = λ k small. omega (arith, size, covered.pieces_are_inside k small);
         };
@@ -142,15 +142,15 @@ module _ (port slot : ℕ) where
       let taken : (new.port port).taken slot ≡ Some u =
       has.command_after ∙ (λ i. Some (record (same i) { cleared = (same i).cleared + next_run_length (whole i) (same i) })) in
       let size : new.memory_size ≡ old.memory_size = ap (λ (d : Device). d.memory_size) c.effect in
-      let all : t.moved ≡ length t.places = omega (arith, going.is_covered.moves_left_are) in
+      let all : t.moved ≡ length t.places = omega (arith, going.has_moves_left.moves_left_are) in
       record {
         fetched_command = u;
-        is_covered = record {
-          moves_left_are = going.is_covered.moves_left_are;
-          pieces_are_inside = λ k small. omega (arith, size, going.is_covered.pieces_are_inside k small);
+        has_moves_left = record {
+          moves_left_are = going.has_moves_left.moves_left_are;
+          pieces_are_inside = λ k small. omega (arith, size, going.has_moves_left.pieces_are_inside k small);
         };
-        has_clears_left = subst (λ (memory : ℕ → ℕ). HasClearsLeft t.meaning.operation memory u clears) (sym (ap (λ (d : Device). d.memory) c.effect))
-            (span_less old.memory t clears all going.has_clears_left);
+        has_trim_runs_left = subst (λ (memory : ℕ → ℕ). HasClearsLeft t.meaning.operation memory u clears) (sym (ap (λ (d : Device). d.memory) c.effect))
+            (span_less old.memory t clears all going.has_trim_runs_left);
         works = record {
           taken = taken;
           working =
@@ -160,11 +160,11 @@ module _ (port slot : ℕ) where
       }
 
   -- and it has ended
-  pub done_port : (old new : Device) (e : EndsAndPosts (SendsEnd slot) port slot old new) → new.port port ≡ port_after_flush (port_after_done (old.port port) slot e.done.cause_bit e.done.fetched_command.meaning.operation) e.done.fetched_command.meaning.operation (length old.tape)
+  pub done_port : (old new : Device) (e : EndsAndPosts (SendsEnd slot) port slot old new) → new.port port ≡ port_with_lasting_after_operation (port_after_done (old.port port) slot e.done.cause_bit e.done.fetched_command.meaning.operation) e.done.fetched_command.meaning.operation (length old.tape)
   done_port old new e =
       let f : DoesDone port slot old e.after_end = e.done in
       ap (λ (d : Device). d.port port) (end_rest port slot f.cause_bit f.fetched_command.meaning.operation e.after_end new e.posts)
-      ∙ (ap (λ (d : Device). d.port port) f.effect ∙ changed_same old.port port (port_after_flush (port_after_done (old.port port) slot f.cause_bit f.fetched_command.meaning.operation) f.fetched_command.meaning.operation (length old.tape)))
+      ∙ (ap (λ (d : Device). d.port port) f.effect ∙ changed_same old.port port (port_with_lasting_after_operation (port_after_done (old.port port) slot f.cause_bit f.fetched_command.meaning.operation) f.fetched_command.meaning.operation (length old.tape)))
 
   done_gone : (old new : Device) → EndsAndPosts (SendsEnd slot) port slot old new → (new.port port).taken slot ≡ None
   done_gone old new e = ap (λ (p : DevicePort). p.taken slot) (done_port old new e) ∙ changed_same (old.port port).taken slot None
@@ -238,7 +238,7 @@ module _ (port slot : ℕ) where
   done_frees old new going plain e =
       let f : DoesDone port slot old e.after_end = e.done in
       let p : DevicePort = old.port port in
-      let state : DevicePort = port_after_flush (port_after_done p slot f.cause_bit f.fetched_command.meaning.operation) f.fetched_command.meaning.operation (length old.tape) in
+      let state : DevicePort = port_with_lasting_after_operation (port_after_done p slot f.cause_bit f.fetched_command.meaning.operation) f.fetched_command.meaning.operation (length old.tape) in
       let same : f.fetched_command ≡ going.fetched_command = some_one (sym f.can.works.taken ∙ going.works.taken) in
       let issued : state.ci ≡ changed p.ci slot false =
       ap (λ b. if b then p.ci else changed p.ci slot false) (ap (λ (x : FetchedCommand). is_queued x.meaning.operation) same ∙ plain) in
@@ -252,8 +252,8 @@ module _ (port slot : ℕ) where
   going_may_end d going = record {
     works = going.works;
     finished = record {
-      all_is_moved = omega (arith, going.is_covered.moves_left_are);
-      all_is_cleared = none_left going.fetched_command.meaning.operation d.memory going.fetched_command (omega (arith, going.is_covered.moves_left_are)) going.has_clears_left;
+      all_is_moved = omega (arith, going.has_moves_left.moves_left_are);
+      all_is_cleared = none_left going.fetched_command.meaning.operation d.memory going.fetched_command (omega (arith, going.has_moves_left.moves_left_are)) going.has_trim_runs_left;
     };
     cause_is_allowed = inl refl;
   }
@@ -339,8 +339,8 @@ going_has_move d port slot left clears has going =
     let t : FetchedCommand = going.fetched_command in
     record {
       works = going.works;
-      piece_is_left = omega (arith, going.is_covered.moves_left_are);
-      piece_is_inside = going.is_covered.pieces_are_inside t.moved (omega (arith, going.is_covered.moves_left_are));
+      piece_is_left = omega (arith, going.has_moves_left.moves_left_are);
+      piece_is_inside = going.has_moves_left.pieces_are_inside t.moved (omega (arith, going.has_moves_left.moves_left_are));
       has_disks = has;
     }
 
@@ -349,14 +349,14 @@ pub going_has_clear : (d : Device) (port slot clears : ℕ) → HasDisks d port 
     HasClear d port slot (length (uncleared going.fetched_command)) going.fetched_command
 going_has_clear d port slot clears has going =
     let t : FetchedCommand = going.fetched_command in
-    let all : t.moved ≡ length t.places = omega (arith, going.is_covered.moves_left_are) in
-    let trim = is_a_trim d.memory t clears all going.has_clears_left in
+    let all : t.moved ≡ length t.places = omega (arith, going.has_moves_left.moves_left_are) in
+    let trim = is_a_trim d.memory t clears all going.has_trim_runs_left in
     record {
       has_disks = has;
       works = subst (λ (o : Operation). WorksOn (d.port port) slot t o) trim going.works;
       trim = trim;
       block_is_moved = all;
-      count_is_positive = some_uncleared d.memory t clears all going.has_clears_left;
+      count_is_positive = some_uncleared d.memory t clears all going.has_trim_runs_left;
       enough_are_left = omega arith;
     }
 

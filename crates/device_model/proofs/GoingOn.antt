@@ -4,7 +4,7 @@ use Rattle.std.proofs.lemmas.Bool.Decides.{eqb_tells}
 use Rattle.adapter.specs.Device.{DevicePort, Device}
 use Rattle.adapter.specs.Memory.{changed}
 use Rattle.adapter.specs.AskedSteps.{DoesSlotStep, DoesSlotSteps, SlotGoesOn}
-use Rattle.adapter.specs.Steps.{MayLinkUp, port_after_clear, port_after_done, port_after_flush, port_after_fetch, port_after_link_up, port_after_move, with_port, port_after_reset}
+use Rattle.adapter.specs.Steps.{MayLinkUp, port_after_clear, port_after_done, port_with_lasting_after_operation, port_after_fetch, port_after_link_up, port_after_move, with_port, port_after_reset}
 use Rattle.adapter.specs.Steps.DeviceTransition.{Fall, FrFall, LinkUp}
 use Rattle.device_model.proofs.Places.{fun_ext, changed_same, changed_other, changed_each}
 use Rattle.device_model.proofs.Own.{own_none, own_on, own_one}
@@ -79,8 +79,8 @@ linked_settled settled was linked m same fallen area due engine received =
     let fre : linked.fre ≡ settled.fre = received.0 ∙ ap (λ (x : PortModel). x.fre) same in
     let fr : linked.fr ≡ settled.fr = received.1 ∙ ap (λ (x : PortModel). x.fr) same in
     record {
-      cr_has_fallen = λ off on. let e : false ≡ true = fallen (sym st ∙ off) (sym cr ∙ on) in cc;
-      fr_has_fallen = λ off stopped on. let e : false ≡ true = area (sym fre ∙ off) (sym cr ∙ stopped) (sym fr ∙ on) in cc;
+      cr_is_clear_without_st = λ off on. let e : false ≡ true = fallen (sym st ∙ off) (sym cr ∙ on) in cc;
+      fr_is_clear_without_fre_and_cr = λ off stopped on. let e : false ≡ true = area (sym fre ∙ off) (sym cr ∙ stopped) (sym fr ∙ on) in cc;
       no_link_may_come = λ sig may. let e : false ≡ true = due may.present may.no_comreset may.link_is_due in cc;
     }
 
@@ -91,7 +91,7 @@ pub blank_reset : (m : Media) → port_after_reset (port_of blank_port m) ≡ po
 blank_reset m = λ i. record (port_of blank_port m) { ci = sym no_bits i; sact = sym no_bits i; is = sym no_bits i }
 
 pub blank_settled : (m : Media) → IsSettledPort (port_of blank_port m)
-blank_settled m = record { cr_has_fallen = λ _ cr. cc; fr_has_fallen = λ _ _ fr. cc; no_link_may_come = λ sig may. let e : false ≡ true = may.present in cc }
+blank_settled m = record { cr_is_clear_without_st = λ _ cr. cc; fr_is_clear_without_fre_and_cr = λ _ _ fr. cc; no_link_may_come = λ sig may. let e : false ≡ true = may.present in cc }
 
 -- ---- a command goes on, and what the model does by itself stays done
 
@@ -111,20 +111,20 @@ settled_with old new port p hr is same held settled =
     λ (P : ℕ → DevicePort → Type 0) (here : P port p) (others : (k : ℕ) → P k (old.port k)) (k : ℕ).
     subst (λ (f : ℕ → DevicePort). P k (f k)) (sym is) (changed_each old.port port p P here others k) in
     record {
-      reset_has_ended = λ on. settled.reset_has_ended (sym hr ∙ on);
-      crs_have_fallen = ports (λ k x. (x.st ≡ false) × (x.cr ≡ true) → IsPortHeld held k) (λ may. settled.crs_have_fallen port (sym same.st ∙ may.0, sym same.cr ∙ may.1)) settled.crs_have_fallen;
-      frs_have_fallen = ports (λ k x. (x.fre ≡ false) × (x.cr ≡ false) × (x.fr ≡ true) → IsPortHeld held k)
-          (λ may. settled.frs_have_fallen port (sym same.fre ∙ may.0, sym same.cr ∙ may.1, sym same.fr ∙ may.2)) settled.frs_have_fallen;
-      no_links_may_come = λ k sig n.
+      reset_waits_only_if_all_are_held = λ on. settled.reset_waits_only_if_all_are_held (sym hr ∙ on);
+      cr_may_fall_only_where_held = ports (λ k x. (x.st ≡ false) × (x.cr ≡ true) → IsPortHeld held k) (λ may. settled.cr_may_fall_only_where_held port (sym same.st ∙ may.0, sym same.cr ∙ may.1)) settled.cr_may_fall_only_where_held;
+      fr_may_fall_only_where_held = ports (λ k x. (x.fre ≡ false) × (x.cr ≡ false) × (x.fr ≡ true) → IsPortHeld held k)
+          (λ may. settled.fr_may_fall_only_where_held port (sym same.fre ∙ may.0, sym same.cr ∙ may.1, sym same.fr ∙ may.2)) settled.fr_may_fall_only_where_held;
+      link_may_come_up_only_where_held = λ k sig n.
           ports (λ q x. MayLinkUp x sig → IsPortHeld held q)
-          (λ may. settled.no_links_may_come port sig n
+          (λ may. settled.link_may_come_up_only_where_held port sig n
           (record {
             present = sym same.present ∙ may.present;
             no_comreset = sym same.det ∙ may.no_comreset;
             link_is_due = sym same.due ∙ may.link_is_due;
             sig_fits = may.sig_fits;
           }))
-          (λ q may. settled.no_links_may_come q sig n may) k;
+          (λ q may. settled.link_may_come_up_only_where_held q sig n may) k;
     }
 
 -- what a step of a command changes is none of these
@@ -144,7 +144,7 @@ one_settled port slot old new (inr (inr (inr (most, c)))) =
     (same _ _ refl refl refl refl refl refl refl)
 one_settled port slot old new (inr (inr (inl e))) =
     let rest = end_rest port slot e.done.cause_bit e.done.fetched_command.meaning.operation e.after_end new e.posts in
-    settled_with old new port (port_after_flush (port_after_done (old.port port) slot e.done.cause_bit e.done.fetched_command.meaning.operation) e.done.fetched_command.meaning.operation (length old.tape))
+    settled_with old new port (port_with_lasting_after_operation (port_after_done (old.port port) slot e.done.cause_bit e.done.fetched_command.meaning.operation) e.done.fetched_command.meaning.operation (length old.tape))
     (ap (λ (d : Device). d.hr) rest ∙ ap (λ (d : Device). d.hr) e.done.effect)
     (ap (λ (d : Device). d.port) rest ∙ ap (λ (d : Device). d.port) e.done.effect) (same _ _ refl refl refl refl refl refl refl)
 

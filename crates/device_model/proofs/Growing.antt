@@ -11,10 +11,10 @@ use Rattle.adapter.specs.declared.access.DeviceStep.{DeviceStep}
 use Rattle.sector_store.specs.declared.store.Failures.{Failures}
 use Rattle.device_model.specs.WriteCaches.{HasRoomForOldSectors, KeepsSameOldSectors}
 use Rattle.device_model.specs.Disks.{ModelHasRoomForOldSectors, BayHasRoomForOldSectors, BaysHaveRoomForOldSectors, bay_of, disk_in_bay, numbered_disk, lasting_of}
-use Rattle.device_model.specs.StepEffects.{HasCleared, IsLeftOut, LacksMemory, IsAddressable, IsPossible, StepKeeps, asked_port, cleared_count_on_disk}
+use Rattle.device_model.specs.StepEffects.{HasCleared, IsLeftOut, LacksMemory, IsMemoryAddressableForStep, IsPossible, StepKeeps, asked_port, cleared_count_on_disk}
 use Rattle.device_model.specs.ModelState.{device_at, all_media_at}
 use Rattle.device_model.specs.OldSectors.{with_old_bytes}
-use Rattle.device_model.specs.Trims.{HasClear, changes_ahead, next_uncleared, next_run_length, written_ahead}
+use Rattle.device_model.specs.Trims.{HasClear, sectors_left_to_change, next_uncleared, next_run_length, sectors_left_to_write}
 use Rattle.device_model.specs.WholeAdapter.{AllMedia, device_of}
 use Rattle.device_model.specs.declared.bay.Bay.{Bay}
 use Rattle.device_model.specs.declared.cache.Cache.{Cache}
@@ -57,7 +57,7 @@ module _ {S : Type 0} (size : S → ℕ) (told : S → Option (ℕ → List ℕ)
   -- a step is left
   pub grown_left : (s : DeviceStep) → asked_port s ≡ port → device_of new.hardware (all_media_at size told m) ≡ device_at size told m → new.held ≡ m.held → new.queue ≡ m.queue →
       new.accesses ≡ m.accesses →
-      (IsAddressable s (device_at size told m) → IsPossible s (device_at size told m) → LacksMemory s (device_at size told m) m.hardware m.bays.items × (new.hardware.starved ≡ true)) →
+      (IsMemoryAddressableForStep s (device_at size told m) → IsPossible s (device_at size told m) → LacksMemory s (device_at size told m) m.hardware m.bays.items × (new.hardware.starved ≡ true)) →
       (m.hardware.starved ≡ true → new.hardware.starved ≡ true) →
       (new.hardware.starved ≡ true → (m.hardware.starved ≡ true) ⊎ (IsPossible s (device_at size told m) × LacksMemory s (device_at size told m) m.hardware m.bays.items)) →
       IsLeftOut size told failures s m new
@@ -68,7 +68,7 @@ module _ {S : Type 0} (size : S → ℕ) (told : S → Option (ℕ → List ℕ)
     disk_index_is = store_whichs m new port a grown was items refl (asked_port s);
     other_bays_are_kept = λ q ne. seated_others m new port a grown was items q (λ here. ne (here ∙ sym at));
     disks_are_kept = λ w. grown_disks (asked_port s) w at;
-    lacks_memory = why;
+    possible_step_lacks_memory = why;
     step_keeps = grown_keeps queue accesses;
     stays_starved = on;
     starves_for_want = since;
@@ -85,12 +85,12 @@ less_room_at {S} m port more less le = by (bay_of m port)
 -- there is room for the old bytes of what the command that is taken in a slot is going to change, of so many moves
 abbrev pub RoomAhead : {S : Type 0} → (S → ℕ) → (S → Option (ℕ → List ℕ)) → Model S → (port slot left : ℕ) → Type 0
 RoomAhead size told m port slot left = (t : FetchedCommand) → ((device_at size told m).port port).taken slot ≡ Some t →
-    ModelHasRoomForOldSectors m port (changes_ahead t.meaning.operation (device_at size told m).memory t left)
+    ModelHasRoomForOldSectors m port (sectors_left_to_change t.meaning.operation (device_at size told m).memory t left)
 
 module _ {S : Type 0} (size : S → ℕ) (told : S → Option (ℕ → List ℕ)) (port slot : ℕ) (old new : Model S) where
   -- a piece was moved
   pub moved_room : (left : ℕ) → DoesMove port slot (device_at size told old) (device_at size told new) → RoomAhead size told old port slot (suc left) →
-      ((t : FetchedCommand) → ((device_at size told old).port port).taken slot ≡ Some t → (n : ℕ) → ModelHasRoomForOldSectors old port (written_ahead t.meaning.operation 1 + n) → ModelHasRoomForOldSectors new port n) →
+      ((t : FetchedCommand) → ((device_at size told old).port port).taken slot ≡ Some t → (n : ℕ) → ModelHasRoomForOldSectors old port (sectors_left_to_write t.meaning.operation 1 + n) → ModelHasRoomForOldSectors new port n) →
       RoomAhead size told new port slot left
   moved_room left m ahead takes t taken =
       let d : Device = device_at size told old in
@@ -102,7 +102,7 @@ module _ {S : Type 0} (size : S → ℕ) (told : S → Option (ℕ → List ℕ)
       let memory = ap (λ (x : Device). x.memory) m.effect in
       let is = moved_changes m.fetched_command.meaning.operation p.disk d.memory m.fetched_command m.bytes left m.can.piece_is_left m.can.brings in
       let P : ℕ → Type 0 = λ n. ModelHasRoomForOldSectors old port n in
-      let Q : (ℕ → ℕ) → FetchedCommand → Type 0 = λ f x. ModelHasRoomForOldSectors new port (changes_ahead x.meaning.operation f x left) in
+      let Q : (ℕ → ℕ) → FetchedCommand → Type 0 = λ f x. ModelHasRoomForOldSectors new port (sectors_left_to_change x.meaning.operation f x left) in
       let now = takes m.fetched_command m.can.works.taken _ (subst P is (ahead m.fetched_command m.can.works.taken)) in
       subst (Q (device_at size told new).memory) same (subst (λ f. Q f u) (sym memory) now)
 
@@ -118,16 +118,16 @@ module _ {S : Type 0} (size : S → ℕ) (told : S → Option (ℕ → List ℕ)
       let one : c.fetched_command ≡ has.fetched_command = some_one (sym c.can.works.taken ∙ has.command_before) in
       let memory = ap (λ (x : Device). x.memory) c.effect in
       let less = cleared_changes d.memory has.fetched_command most (subst (λ (x : FetchedCommand). x.moved ≡ length x.places) one c.can.block_is_moved) (subst (λ (x : FetchedCommand). x.meaning.operation ≡ Trim) one c.can.trim) in
-      let Q : (ℕ → ℕ) → FetchedCommand → Type 0 = λ f x. ModelHasRoomForOldSectors new port (changes_ahead x.meaning.operation f x 0) in
-      let now = takes has.fetched_command has.command_before (changes_ahead u.meaning.operation d.memory u 0) (less_room_at old port _ _ less (ahead has.fetched_command has.command_before)) in
+      let Q : (ℕ → ℕ) → FetchedCommand → Type 0 = λ f x. ModelHasRoomForOldSectors new port (sectors_left_to_change x.meaning.operation f x 0) in
+      let now = takes has.fetched_command has.command_before (sectors_left_to_change u.meaning.operation d.memory u 0) (less_room_at old port _ _ less (ahead has.fetched_command has.command_before)) in
       subst (Q (device_at size told new).memory) same (subst (λ f. Q f u) (sym memory) now)
 
 -- there is room for the next piece
 pub one_room : {S : Type 0} (bays : List (Option (Bay S))) (port : ℕ) (t : FetchedCommand) (memory : ℕ → ℕ) (left : ℕ) →
-    BaysHaveRoomForOldSectors bays port (changes_ahead t.meaning.operation memory t (suc left)) → BaysHaveRoomForOldSectors bays port (written_ahead t.meaning.operation 1)
+    BaysHaveRoomForOldSectors bays port (sectors_left_to_change t.meaning.operation memory t (suc left)) → BaysHaveRoomForOldSectors bays port (sectors_left_to_write t.meaning.operation 1)
 one_room {S} bays port t memory left = by (slice_index_or bays port None)
   where
-    few : (o : Operation) → written_ahead o 1 ≤ changes_ahead o memory t (suc left)
+    few : (o : Operation) → sectors_left_to_write o 1 ≤ sectors_left_to_change o memory t (suc left)
     few operation.Write = omega arith
     few operation.WriteQueued = omega arith
     few operation.Identify = omega arith
@@ -137,7 +137,7 @@ one_room {S} bays port t memory left = by (slice_index_or bays port None)
     few operation.Trim = omega arith
     few operation.ReadLog = omega arith
 
-    by : (x : Option (Bay S)) → BayHasRoomForOldSectors x (changes_ahead t.meaning.operation memory t (suc left)) → BayHasRoomForOldSectors x (written_ahead t.meaning.operation 1)
+    by : (x : Option (Bay S)) → BayHasRoomForOldSectors x (sectors_left_to_change t.meaning.operation memory t (suc left)) → BayHasRoomForOldSectors x (sectors_left_to_write t.meaning.operation 1)
     by None room = tt
     by (Some b) room = less_room b.cache _ _ (few t.meaning.operation) room
 

@@ -43,22 +43,22 @@ module _ {S : Type 0} (size : S → ℕ) (told : S → Option (ℕ → List ℕ)
   tells_back : a.cache.is_on ≡ true → TellsBack olds (told a.disk.store) (told b.disk.store)
   tells_back e =
       let P : Option (ℕ → List ℕ) → Type 0 = λ into. RollsBack size told failures into a.disk.store b.disk.store in
-      turned_tells size told failures olds a.disk.store b.disk.store (subst P (with_cache e) (lost.is_rolled_back e))
+      turned_tells size told failures olds a.disk.store b.disk.store (subst P (with_cache e) (lost.is_rolled_back_with_cache e))
 
   lost_size : (on : Bool) → a.cache.is_on ≡ on → size b.disk.store ≡ size a.disk.store
-  lost_size true e = (lost.is_rolled_back e).size_is_kept
-  lost_size false e = ap size (lost.store_is_kept e)
+  lost_size true e = (lost.is_rolled_back_with_cache e).size_is_kept
+  lost_size false e = ap size (lost.store_is_kept_without_cache e)
 
   lost_tells : (on : Bool) → a.cache.is_on ≡ on → is_some (told b.disk.store) ≡ is_some (told a.disk.store)
   lost_tells true e = back_some olds (told a.disk.store) (told b.disk.store) (tells_back e)
-  lost_tells false e = ap (λ (s : S). is_some (told s)) (lost.store_is_kept e)
+  lost_tells false e = ap (λ (s : S). is_some (told s)) (lost.store_is_kept_without_cache e)
 
   lost_lasts : (on : Bool) → a.cache.is_on ≡ on → lasting_in a.cache (told b.disk.store) (told a.lasting.value) ≡ lasting_of told a
   lost_lasts true e =
       let Q : Option (ℕ → List ℕ) → Bool → Option (ℕ → List ℕ) = λ x on. if on then option_map (with_old_bytes olds) x else told a.lasting.value in
       ap (Q (told b.disk.store)) e
       ∙ (back_lasts olds (told a.disk.store) (told b.disk.store) (tells_back e) ∙ sym (ap (Q (told a.disk.store)) e))
-  lost_lasts false e = ap (λ (s : S). lasting_in a.cache (told s) (told a.lasting.value)) (lost.store_is_kept e)
+  lost_lasts false e = ap (λ (s : S). lasting_in a.cache (told s) (told a.lasting.value)) (lost.store_is_kept_without_cache e)
 
   lost_holds : (on : Bool) → a.cache.is_on ≡ on → (last comes : ℕ → List ℕ) → told a.disk.store ≡ Some last → told b.disk.store ≡ Some comes → (k : ℕ) →
       (comes k ≡ last k) ⊎ (option_map (λ (f : ℕ → List ℕ). f k) (lasting_of told a) ≡ Some (comes k))
@@ -69,7 +69,7 @@ module _ {S : Type 0} (size : S → ℕ) (told : S → Option (ℕ → List ℕ)
             inr (ap (option_map (λ (f : ℕ → List ℕ). f k)) (with_cache e) ∙ held)
       ]
   lost_holds false e last comes is at k =
-      inl (ap (λ (f : ℕ → List ℕ). f k) (same_Some comes last (sym at ∙ (ap told (lost.store_is_kept e) ∙ is))))
+      inl (ap (λ (f : ℕ → List ℕ). f k) (same_Some comes last (sym at ∙ (ap told (lost.store_is_kept_without_cache e) ∙ is))))
 
 -- ---- where no call has failed
 
@@ -100,7 +100,7 @@ none_failed l was now fail few same k at =
 module _ {S : Type 0} (size : S → ℕ) (told : S → Option (ℕ → List ℕ)) (failures : S → Option Failures) (into : Option (ℕ → List ℕ)) (was now : S) (t : RollsBack size told failures into was now)
     (fits : size was < 2 ^ 64) where
   pub all_back : failures now ≡ failures was → (k : ℕ) → k < size was → sector_told (told now) k ≡ sector_told into k
-  all_back same k lt = t.sectors_are_rolled_back k lt (none_failed t.failed (failures was) (failures now) t.writes_fail (let few = t.failed_count_is_allowed in omega (arith, few, fits)) same k)
+  all_back same k lt = t.unfailed_sectors_are_rolled_back k lt (none_failed t.failed (failures was) (failures now) t.writes_fail (let few = t.failed_count_is_allowed in omega (arith, few, fits)) same k)
 
   -- one that isn't was not written back, since a call has failed
   pub each_back_or : (k : ℕ) → k < size was →
@@ -108,7 +108,7 @@ module _ {S : Type 0} (size : S → ℕ) (told : S → Option (ℕ → List ℕ)
   each_back_or k lt =
       elim (is_there t.failed k) [
         | inl at ↦ inr (t.failed_are_kept k (inr at), λ same. none_failed t.failed (failures was) (failures now) t.writes_fail (let few = t.failed_count_is_allowed in omega (arith, few, fits)) same k at)
-        | inr never ↦ inl (t.sectors_are_rolled_back k lt never)
+        | inr never ↦ inl (t.unfailed_sectors_are_rolled_back k lt never)
       ]
 
 -- a LosePlug that was done
@@ -117,7 +117,7 @@ pub lost_of : {S : Type 0} (size : S → ℕ) (told : S → Option (ℕ → List
 lost_of {S} size told failures old new p a b was is did =
     let both : Option (Bay S) → Option (Bay S) → Type 0 = λ x y. LosesCacheIn size told failures x y in
     elim did.completes_or_fails [
-      | inl whole ↦ subst (both (Some a)) is (subst (λ x. both x (bay_of new p.0)) was (whole.loses_cache refl))
+      | inl whole ↦ subst (both (Some a)) is (subst (λ x. both x (bay_of new p.0)) was (whole.lose_plug_loses_cache refl))
       | inr never ↦ absurd never
     ]
 
@@ -138,7 +138,7 @@ module _ {S : Type 0} (size : S → ℕ) (told : S → Option (ℕ → List ℕ)
         disk_index_is = seated_same m new p.0 a b was items (option_map (λ (x : Bay S). x.which)) (ap (λ (x : Bay S). Some x.which) rest) p.0;
         other_bays_are_kept = seated_others m new p.0 a b was items;
         disks_are_kept = λ w. seated_same m new p.0 a b was items (option_map (λ (x : Bay S). disk_in_bay x w)) (ap Some (kept w)) p.0;
-        lacks_memory = λ _ _. (lacks, starved);
+        possible_step_lacks_memory = λ _ _. (lacks, starved);
         step_keeps = seated_keeps m new p.0 a b was items size (λ w _. kept w) (λ w. ap (identity size) (kept w)) (ap (λ (x : Bay S). x.cache.is_on) rest) queue accesses;
         stays_starved = λ _. starved;
         starves_for_want = λ _. inr (may, lacks);
@@ -194,8 +194,8 @@ module _ {S : Type 0} (size : S → ℕ) (told : S → Option (ℕ → List ℕ)
                   (plugged_so size told failures m new p held queue accesses a b was items tells_so first later_so lasts that (disk_number a.which) (ap disk_number which_is) free are so);
               no_call_failed = λ no. true-false refl no;
               page_source_is = seated_same m new p.0 a b was items (option_map (λ (x : Bay S). x.page_source)) (ap (λ (x : Bay S). Some x.page_source) rest) p.0;
-              does_all_it_asks = λ _. tt;
-              loses_cache = λ _. subst (λ x. both x (bay_of new p.0)) (sym was) (subst (both (Some a)) (sym (seated_here m new p.0 a b was items)) lost);
+              clear_and_finish_do_all_below_4_gib = λ _. tt;
+              lose_plug_loses_cache = λ _. subst (λ x. both x (bay_of new p.0)) (sym was) (subst (both (Some a)) (sym (seated_here m new p.0 a b was items)) lost);
             });
             held_ports_are = held;
             disk_index_is = seated_same m new p.0 a b was items (option_map (λ (x : Bay S). x.which)) (ap Some which_is) p.0;

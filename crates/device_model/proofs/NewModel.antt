@@ -6,7 +6,7 @@ use Rattle.hba_regs.specs.Bits.{bit}
 use Rattle.adapter.specs.Device.{HasValidSectors}
 use Rattle.adapter.specs.Idle.{IsIdlePort}
 use Rattle.device_model.specs.Disks.{disks_given_for}
-use Rattle.device_model.specs.ModelState.{IsNewMedia, IsNewPort, HasInitialValues, all_tell, media_of}
+use Rattle.device_model.specs.ModelState.{IsNewMedia, HasFirstGivenDiskOrNone, HasInitialValues, all_bay_stores_are_known, media_of}
 use Rattle.device_model.specs.declared.disks.Disks.{Disks}
 use Rattle.device_model.specs.declared.disks.PortDisks.{PortDisks}
 use Rattle.sector_store.specs.Stores.{AreSectors}
@@ -65,15 +65,15 @@ both_tell None other here there = here
 both_tell (Some f) other here there = there
 
 -- where all stores tell, all disks do
-pub all_told : {S : Type 0} (told : S → Option (ℕ → List ℕ)) → ((s : S) → is_some (told s) ≡ true) → (bays : List (Option (Bay S))) → all_tell told bays ≡ true
+pub all_told : {S : Type 0} (told : S → Option (ℕ → List ℕ)) → ((s : S) → is_some (told s) ≡ true) → (bays : List (Option (Bay S))) → all_bay_stores_are_known told bays ≡ true
 all_told told all [] = refl
 all_told told all (None ∷ bays) = all_told told all bays
 all_told told all (Some b ∷ bays) =
-    ap (λ x. x && all_tell told bays) (both_tell (told b.disk.store) (told b.other.store) (all b.disk.store) (all b.other.store)) ∙ all_told told all bays
+    ap (λ x. x && all_bay_stores_are_known told bays) (both_tell (told b.disk.store) (told b.other.store) (all b.disk.store) (all b.other.store)) ∙ all_told told all bays
 
 -- a new port has in it what is given for it
 pub new_port : {S : Type 0} (size : S → ℕ) (told : S → Option (ℕ → List ℕ)) (given : Option (PortDisks S)) (p : PortModel) (m : Media) → p.present ≡ is_some given → p.lasting_tape_length ≡ 0 →
-    IsNewMedia size told given m → IsNewPort size told given (port_of p m)
+    IsNewMedia size told given m → HasFirstGivenDiskOrNone size told given (port_of p m)
 new_port size told None p m present since is = (present, ap (λ (x : Media). x.plugged) is)
 new_port size told (Some disks) p m present since is = (present, is.0, is.1, λ i. record { sectors = is.2 i; tape_length = since i })
 

@@ -11,13 +11,13 @@ use Rattle.adapter.specs.declared.access.FatalError.{FatalError}
 use Rattle.adapter.specs.declared.command.Operation.{Operation}
 use Rattle.device_model.proofs.Absurd.{some-none, some_one, true-false}
 use Rattle.device_model.proofs.Places.{changed_other, changed_same}
-use Rattle.adapter.specs.Steps.{DeviceTransition, Can, Steps, device_after, newly_fetched, block_after, port_after_clear, port_after_done, port_after_flush, port_after_fault, port_after_fetch, port_after_move}
+use Rattle.adapter.specs.Steps.{DeviceTransition, Can, Steps, device_after, newly_fetched, block_after, port_after_clear, port_after_done, port_with_lasting_after_operation, port_after_fault, port_after_fetch, port_after_move}
 use Rattle.adapter.proofs.Runs.{Steps-one, Steps-refl, Steps-trans}
 use Rattle.adapter.specs.Steps.DeviceTransition.{Fetch, FetchFault, Move, Clear, Done, Fault, Fatal, Fall, FrFall, LinkUp, Unplug, Plug, ResetEnds, Scribble}
 use Rattle.device_model.specs.Finishing.{sends_page}
 use Rattle.device_model.specs.HeldPorts.{IsPortHeld, IsPortReleased}
-use Rattle.device_model.specs.SentFises.{SendsAfter, SendsEnd, SendsFaultOfOperation, SendsFault}
-use Rattle.device_model.specs.ModelOwnSteps.{DoesSpontaneousSteps, EndsResetUnlessHeld, SendsPages, IsSpontaneousStep, LeadsBySteps, LeadsSending}
+use Rattle.device_model.specs.SentFises.{SendsFisAfterTransition, SendsEnd, SendsFaultOfOperation, SendsFault}
+use Rattle.device_model.specs.ModelOwnSteps.{DoesSpontaneousSteps, EndsPendingResetUnlessAllHeld, SendsPages, IsSpontaneousStep, LeadsBySteps, LeadsByStepsWithFises}
 use Rattle.device_model.proofs.Posting.{after_rest, after_steps, end_rest, fault_rest}
 use Rattle.device_model.proofs.Transfers.{page_plain}
 
@@ -28,11 +28,11 @@ all_one : {X : Type 0} (P : X → Type 0) (x : X) → P x → All P (x ∷ [])
 all_one P x here zero d small = here
 all_one P x here (suc k) d small = absurd (omega (arith, small))
 
-pub own_one : (Own : DeviceTransition → Type 0) (step : DeviceTransition) (old new : Device) → Own step → Can step old → SendsAfter step (device_after step old) new → LeadsBySteps Own old new
+pub own_one : (Own : DeviceTransition → Type 0) (step : DeviceTransition) (old new : Device) → Own step → Can step old → SendsFisAfterTransition step (device_after step old) new → LeadsBySteps Own old new
 own_one Own step old new own can sends = record { steps = step ∷ []; steps_are_own = all_one Own step own; steps_lead = (can, new, sends, refl) }
 
-leads_on : (first more : List DeviceTransition) (old mid new : Device) → LeadsSending first old mid → LeadsSending more mid new → LeadsSending (first ++ more) old new
-leads_on [] more old mid new e rest = let P : Device → Type 0 = λ d. LeadsSending more d new in subst P e rest
+leads_on : (first more : List DeviceTransition) (old mid new : Device) → LeadsByStepsWithFises first old mid → LeadsByStepsWithFises more mid new → LeadsByStepsWithFises (first ++ more) old new
+leads_on [] more old mid new e rest = let P : Device → Type 0 = λ d. LeadsByStepsWithFises more d new in subst P e rest
 leads_on (step ∷ steps) more old mid new (can, next, sends, lead) rest = (can, next, sends, leads_on steps more next mid new lead rest)
 
 pub own_on : (Own : DeviceTransition → Type 0) (old mid new : Device) → LeadsBySteps Own old mid → LeadsBySteps Own mid new → LeadsBySteps Own old new
@@ -42,7 +42,7 @@ own_on Own old mid new a b = record {
   steps_lead = leads_on a.steps b.steps old mid new a.steps_lead b.steps_lead;
 }
 
-leads_steps : (steps : List DeviceTransition) (old new : Device) → LeadsSending steps old new → Steps old new
+leads_steps : (steps : List DeviceTransition) (old new : Device) → LeadsByStepsWithFises steps old new → Steps old new
 leads_steps [] old new e = let P : Device → Type 0 = λ d. Steps old d in subst P (sym e) (Steps-refl old)
 leads_steps (step ∷ steps) old new (can, next, sends, lead) =
     Steps-trans (Steps-one step old (device_after step old) can refl) (Steps-trans (after_steps step (device_after step old) next sends) (leads_steps steps next new lead))
@@ -50,7 +50,7 @@ leads_steps (step ∷ steps) old new (can, next, sends, lead) =
 pub own_steps : (Own : DeviceTransition → Type 0) (old new : Device) → LeadsBySteps Own old new → Steps old new
 own_steps Own old new d = leads_steps d.steps old new d.steps_lead
 
-pub reset_steps : (was held : List Bool) (old new : Device) → EndsResetUnlessHeld was held old new → Steps old new
+pub reset_steps : (was held : List Bool) (old new : Device) → EndsPendingResetUnlessAllHeld was held old new → Steps old new
 reset_steps was held old new (inl stays) = record { steps = []; lead = stays.2 }
 reset_steps was held old new (inr ends) = Steps-one ResetEnds old new ends.0 ends.3
 
@@ -75,7 +75,7 @@ one_keeps_present q port slot old new (inr (inr (inr (most, c)))) =
     ap (λ (d : Device). (d.port q).present) c.effect ∙ present_with q old.port port (port_after_clear (old.port port) slot c.fetched_command c.first c.count) refl
 one_keeps_present q port slot old new (inr (inr (inl e))) =
     ap (λ (d : Device). (d.port q).present) (end_rest port slot e.done.cause_bit e.done.fetched_command.meaning.operation e.after_end new e.posts)
-    ∙ (ap (λ (d : Device). (d.port q).present) e.done.effect ∙ present_with q old.port port (port_after_flush (port_after_done (old.port port) slot e.done.cause_bit e.done.fetched_command.meaning.operation) e.done.fetched_command.meaning.operation (length old.tape)) refl)
+    ∙ (ap (λ (d : Device). (d.port q).present) e.done.effect ∙ present_with q old.port port (port_with_lasting_after_operation (port_after_done (old.port port) slot e.done.cause_bit e.done.fetched_command.meaning.operation) e.done.fetched_command.meaning.operation (length old.tape)) refl)
 
 pub fault_keeps_present : (q : ℕ) (port slot error kept : ℕ) (old new : Device) → FailsAndPosts SendsFaultOfOperation port slot error kept old new → (new.port q).present ≡ (old.port q).present
 fault_keeps_present q port slot error kept old new f =
@@ -126,7 +126,7 @@ module _ (P : Operation → List ℕ → Type 0) (is_plain : (o : Operation) (pl
       (only.taken m.fetched_command m.can.works.taken)
   only_by_one old new (inr (inr (inl e))) only =
       let t : FetchedCommand = e.done.fetched_command in
-      let p : DevicePort = port_after_flush (port_after_done (old.port port) slot e.done.cause_bit t.meaning.operation) t.meaning.operation (length old.tape) in
+      let p : DevicePort = port_with_lasting_after_operation (port_after_done (old.port port) slot e.done.cause_bit t.meaning.operation) t.meaning.operation (length old.tape) in
       let there : new.port port ≡ p =
       ap (λ (d : Device). d.port port) (end_rest port slot e.done.cause_bit t.meaning.operation e.after_end new e.posts)
       ∙ (ap (λ (d : Device). d.port port) e.done.effect ∙ changed_same old.port port p) in
@@ -209,7 +209,7 @@ module _ (held : List Bool) (port : ℕ) (is : IsPortHeld held port) where
   one_stays ResetEnds d own = absurd own
   one_stays (Scribble q slot at bytes) d own = absurd own
 
-  held_stays : (steps : List DeviceTransition) (old new : Device) → All (IsSpontaneousStep held) steps → LeadsSending steps old new → new.port port ≡ old.port port
+  held_stays : (steps : List DeviceTransition) (old new : Device) → All (IsSpontaneousStep held) steps → LeadsByStepsWithFises steps old new → new.port port ≡ old.port port
   held_stays [] old new own e = ap (λ (d : Device). d.port port) e
   held_stays (step ∷ steps) old new own (can, next, sends, lead) =
       held_stays steps next new (λ k d small. own (suc k) d (omega (arith, small))) lead

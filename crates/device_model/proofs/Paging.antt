@@ -9,7 +9,7 @@ use Rattle.adapter.specs.Device.{Notes, DevicePort, Device, FetchedCommand}
 use Rattle.adapter.specs.Memory.{changed}
 use Rattle.adapter.specs.OneCommand.{IsFreeSlot}
 use Rattle.adapter.specs.Decoding.{DecodesTo}
-use Rattle.adapter.specs.Steps.{Can, IsFetchable, IsWorking, IsUnmixed, WorksOn, newly_fetched, port_after_clear, port_after_done, port_after_flush, port_after_fetch, port_after_move}
+use Rattle.adapter.specs.Steps.{Can, IsFetchable, IsWorking, IsUnmixed, WorksOn, newly_fetched, port_after_clear, port_after_done, port_with_lasting_after_operation, port_after_fetch, port_after_move}
 use Rattle.adapter.specs.Steps.DeviceTransition.{Fetch}
 use Rattle.adapter.specs.declared.command.Operation.{Operation}
 use Rattle.device_model.proofs.Absurd.{some-none, some_one, true-false}
@@ -21,8 +21,8 @@ use Rattle.ata_types.specs.declared.Port.{Port}
 use Rattle.ata_types.specs.declared.Slot.{Slot}
 use Rattle.adapter.specs.declared.access.DeviceStep.TheVariants as asked
 use Rattle.sector_store.specs.declared.store.Failures.{Failures}
-use Rattle.device_model.specs.StepEffects.{AnswersStep, HasMovesOrClearsLeft, MayAskStore, Completes, DidStep, StepFails, FailsToClear, FailsToMove}
-use Rattle.device_model.specs.Finishing.{PiecesInside, HasPageCommand, FindsPageCommand, HasTakenCommand, HasMovesLeft, MayFinish, MayTakePage, sends_page}
+use Rattle.device_model.specs.StepEffects.{AnswersStep, HasSectorMovesOrClearsLeft, MayAskStore, Completes, DidStep, StepFails, FailsToClear, FailsToMove}
+use Rattle.device_model.specs.Finishing.{PiecesInside, HasFinishablePageCommand, FindsPageCommandAndWhetherItCanEnd, HasTakenCommand, HasMovesLeftInMemory, MayFinish, MayTakePageCommand, sends_page}
 use Rattle.device_model.specs.ModelState.{device_at}
 use Rattle.device_model.specs.SentFises.{SendsEnd}
 use Rattle.device_model.specs.Slots.{IsNextMove}
@@ -76,12 +76,12 @@ only_of P d port slot left clears may holds = by may.is_begun_or_fetchable
           subst (λ (x : List ℕ). P m.operation x) same (subst (λ (x : Meaning). P x.operation t.places) meaning holds);
     }
 
-pub has_only : (d : Device) (port slot : ℕ) → HasPageCommand d port slot → IsOnly IsPage d port slot
+pub has_only : (d : Device) (port slot : ℕ) → HasFinishablePageCommand d port slot → IsOnly IsPage d port slot
 has_only d port slot has = only_of IsPage d port slot has.moves_left 0 has.may_finish (has.sends_page, has.addresses_are_low)
 
 -- nor afterwards
 pub page_taken : (port slot : ℕ) (did : Bool) (old new : Device) → (did ≡ true → SlotGoesOn (SendsEnd slot) port slot old new) → (did ≡ false → new ≡ old) →
-    HasPageCommand old port slot → (t : FetchedCommand) → (new.port port).taken slot ≡ Some t → IsPage t.meaning.operation t.places
+    HasFinishablePageCommand old port slot → (t : FetchedCommand) → (new.port port).taken slot ≡ Some t → IsPage t.meaning.operation t.places
 page_taken port slot did old new went same has t is =
     (only_gone IsPage (λ o places page. page_plain o page.0) port slot did old new went same (has_only old port slot has)).taken t is
 
@@ -95,8 +95,8 @@ abbrev IsUnranged : Operation → List ℕ → Type 0
 IsUnranged operation places = is_ranged operation ≡ false
 
 -- a Finish of it asks for none
-pub page_asks_none : (d : Device) (port slot left clears : ℕ) → HasPageCommand d port slot → (may : MayFinish d port slot left clears) →
-    HasMovesOrClearsLeft may.fetched_command.meaning.operation left clears → ⊥
+pub page_asks_none : (d : Device) (port slot left clears : ℕ) → HasFinishablePageCommand d port slot → (may : MayFinish d port slot left clears) →
+    HasSectorMovesOrClearsLeft may.fetched_command.meaning.operation left clears → ⊥
 page_asks_none d port slot left clears has may asks = by asks
   where
     t : FetchedCommand
@@ -107,13 +107,13 @@ page_asks_none d port slot left clears has may asks = by asks
     kind (inl works) = ((has_only d port slot has).taken t works.taken).0
     kind (inr begins) = ((has_only d port slot has).fetched t.meaning t.places begins.0).0
 
-    by : HasMovesOrClearsLeft t.meaning.operation left clears → ⊥
+    by : HasSectorMovesOrClearsLeft t.meaning.operation left clears → ⊥
     by (inl moves) = true-false moves.0 (page_unranged _ (kind may.is_begun_or_fetchable))
     by (inr some) =
-        let none = page_cleared t.meaning.operation d.memory t clears (kind may.is_begun_or_fetchable) may.has_clears_left in absurd (omega (arith, some, none))
+        let none = page_cleared t.meaning.operation d.memory t clears (kind may.is_begun_or_fetchable) may.has_trim_runs_left in absurd (omega (arith, some, none))
 
 -- so it comes to no sector on which it fails
-page_whole : (p : Port) (s : Slot) (cached : Bool) (was now : Option Failures) (says later : Option PageSource) (old new : Device) → HasPageCommand old p.0 s.0 →
+page_whole : (p : Port) (s : Slot) (cached : Bool) (was now : Option Failures) (says later : Option PageSource) (old new : Device) → HasFinishablePageCommand old p.0 s.0 →
     StepFails (asked.Finish p s) cached was now says later old new → ⊥
 page_whole p s cached was now says later old new has (mid, before, fails) = by before fails
   where
@@ -127,7 +127,7 @@ page_whole p s cached was now says later old new has (mid, before, fails) = by b
     by gone (inr clears) = true-false (page gone clears.fetched_command clears.has_clear.works.taken).0 (ap sends_page clears.has_clear.trim)
 
 pub page_completes : {S : Type 0} (size : S → ℕ) (told : S → Option (ℕ → List ℕ)) (failures : S → Option Failures) (old new : Model S) (p : Port) (s : Slot) →
-    DidStep size told failures (asked.Finish p s) old new → HasPageCommand (device_at size told old) p.0 s.0 → Completes size told failures (asked.Finish p s) old new
+    DidStep size told failures (asked.Finish p s) old new → HasFinishablePageCommand (device_at size told old) p.0 s.0 → Completes size told failures (asked.Finish p s) old new
 page_completes size told failures old new p s did has =
     elim did.completes_or_fails [
       | inl whole ↦ whole
@@ -136,7 +136,7 @@ page_completes size told failures old new p s did has =
 
 -- each disk stays as it is
 pub finish_keeps : {S : Type 0} (size : S → ℕ) (told : S → Option (ℕ → List ℕ)) (failures : S → Option Failures) (old new : Model S) (p : Port) (s : Slot) (answer : Bool) →
-    AnswersStep size told failures (asked.Finish p s) answer old new → HasPageCommand (device_at size told old) p.0 s.0 → (q : ℕ) (w : DiskIndex) →
+    AnswersStep size told failures (asked.Finish p s) answer old new → HasFinishablePageCommand (device_at size told old) p.0 s.0 → (q : ℕ) (w : DiskIndex) →
     numbered_disk new q w ≡ numbered_disk old q w
 finish_keeps {S} size told failures old new p s true a has q w =
     each_port (option_map (λ (b : Bay S). disk_in_bay b w)) old new p.0
@@ -187,7 +187,7 @@ plain_right true b e = e
 plain_right false b e = refl
 
 -- no other command is in its slot
-may_only : (d : Device) (port slot : ℕ) → MayTakePage d port slot → IsOnly BringsPage d port slot
+may_only : (d : Device) (port slot : ℕ) → MayTakePageCommand d port slot → IsOnly BringsPage d port slot
 may_only d port slot may = record {
   taken = λ u is. some-none is may.can.fetchable.free;
   fetched = λ m places can.
@@ -195,21 +195,21 @@ may_only d port slot may = record {
       ap (λ (x : Meaning). sends_page x.operation) (sym meaning) ∙ may.sends_page;
 }
 
-pub found_only : (d : Device) (port slot : ℕ) → MayTakePage d port slot ⊎ HasPageCommand d port slot → IsOnly BringsPage d port slot
+pub found_only : (d : Device) (port slot : ℕ) → MayTakePageCommand d port slot ⊎ HasFinishablePageCommand d port slot → IsOnly BringsPage d port slot
 found_only d port slot (inl may) = may_only d port slot may
 found_only d port slot (inr has) = only_of BringsPage d port slot has.moves_left 0 has.may_finish has.sends_page
 
 -- what a look at a slot has found
-pub found_ends : (d : Device) (port slot : ℕ) (ends : Bool) → not ends ≡ false → FindsPageCommand d port slot (Some ends) → HasPageCommand d port slot
+pub found_ends : (d : Device) (port slot : ℕ) (ends : Bool) → not ends ≡ false → FindsPageCommandAndWhetherItCanEnd d port slot (Some ends) → HasFinishablePageCommand d port slot
 found_ends d port slot true e found = found
 found_ends d port slot false e found = absurd (let no : true ≡ false = e in cc)
 
-pub found_stuck : (d : Device) (port slot : ℕ) (ends : Bool) → not ends ≡ true → FindsPageCommand d port slot (Some ends) → MayTakePage d port slot × (HasPageCommand d port slot → ⊥)
+pub found_stuck : (d : Device) (port slot : ℕ) (ends : Bool) → not ends ≡ true → FindsPageCommandAndWhetherItCanEnd d port slot (Some ends) → MayTakePageCommand d port slot × (HasFinishablePageCommand d port slot → ⊥)
 found_stuck d port slot true e found = absurd (let no : false ≡ true = e in cc)
 found_stuck d port slot false e found = found
 
 -- where a command is taken, none that sends a page may be
-pub taken_bars : (d : Device) (port slot k : ℕ) (t : FetchedCommand) → (d.port port).taken slot ≡ Some t → MayTakePage d port k → ⊥
+pub taken_bars : (d : Device) (port slot k : ℕ) (t : FetchedCommand) → (d.port port).taken slot ≡ Some t → MayTakePageCommand d port k → ⊥
 taken_bars d port slot k t is may = some-none is (alone_none (d.port port) may.meaning.operation (page_plain _ may.sends_page) may.can.is_unmixed slot)
 
 fetched_is : (port slot : ℕ) (old new : Device) (f : DoesFetch port slot old new) → (new.port port).taken ≡ changed (old.port port).taken slot (Some (newly_fetched f.meaning f.places))
@@ -221,13 +221,13 @@ fetched_taken port slot old new f =
     ap (λ (g : ℕ → Option FetchedCommand). g slot) (fetched_is port slot old new f) ∙ changed_same (old.port port).taken slot (Some (newly_fetched f.meaning f.places))
 
 -- a port on which a command is taken is busy
-pub busy_bars : (d : Device) (port k : ℕ) → HasTakenCommand d port → MayTakePage d port k → ⊥
+pub busy_bars : (d : Device) (port k : ℕ) → HasTakenCommand d port → MayTakePageCommand d port k → ⊥
 busy_bars d port k busy = taken_bars d port busy.0 k busy.1 busy.2
 
 -- once it was taken, or was already, the port is
 pub fetched_busy : (port slot : ℕ) (did : Bool) (old new : Device) → (did ≡ true → DoesFetch port slot old new) →
     (did ≡ false → (m : Meaning) (places : List ℕ) → Can (Fetch port slot m places) old → ⊥) → (did ≡ false → new ≡ old) →
-    MayTakePage old port slot ⊎ HasPageCommand old port slot → HasTakenCommand new port
+    MayTakePageCommand old port slot ⊎ HasFinishablePageCommand old port slot → HasTakenCommand new port
 fetched_busy port slot true old new went never same there = let f = went refl in (slot, newly_fetched f.meaning f.places, fetched_taken port slot old new f)
 fetched_busy port slot false old new went never same (inl may) = absurd (never refl may.meaning may.places may.can)
 fetched_busy port slot false old new went never same (inr has) = by has.may_finish.is_begun_or_fetchable
@@ -240,7 +240,7 @@ fetched_busy port slot false old new went never same (inr has) = by has.may_fini
     by (inr may) = absurd (never refl t.meaning t.places may.0)
 
 -- and what can be done to its end then, could before
-taken_has : (port slot k : ℕ) (old new : Device) → DoesFetch port slot old new → HasPageCommand new port k → HasPageCommand old port slot
+taken_has : (port slot k : ℕ) (old new : Device) → DoesFetch port slot old new → HasFinishablePageCommand new port k → HasFinishablePageCommand old port slot
 taken_has port slot k old new f has = by has.may_finish.is_begun_or_fetchable
   where
     t : FetchedCommand
@@ -249,7 +249,7 @@ taken_has port slot k old new f has = by has.may_finish.is_begun_or_fetchable
     size : new.memory_size ≡ old.memory_size
     size = ap (λ (d : Device). d.memory_size) f.effect
 
-    by : WorksOn (new.port port) k t t.meaning.operation ⊎ (Can (Fetch port k t.meaning t.places) new × (t ≡ newly_fetched t.meaning t.places)) → HasPageCommand old port slot
+    by : WorksOn (new.port port) k t t.meaning.operation ⊎ (Can (Fetch port k t.meaning t.places) new × (t ≡ newly_fetched t.meaning t.places)) → HasFinishablePageCommand old port slot
     by (inr may) =
         absurd (taken_bars new port slot k (newly_fetched f.meaning f.places) (fetched_taken port slot old new f)
         (record { meaning = t.meaning; places = t.places; sends_page = has.sends_page; can = may.0 }))
@@ -258,14 +258,14 @@ taken_has port slot k old new f has = by has.may_finish.is_begun_or_fetchable
           | inl here ↦
               let P : ℕ → Type 0 = λ q. (new.port port).taken q ≡ Some t in
               let one : t ≡ newly_fetched f.meaning f.places = some_one (sym (subst P here.1 works.taken) ∙ fetched_taken port slot old new f) in
-              let Q : ℕ → Type 0 = λ n. HasMovesLeft t n has.moves_left in
-              let R : FetchedCommand → Type 0 = λ x. HasMovesLeft x old.memory_size has.moves_left in
+              let Q : ℕ → Type 0 = λ n. HasMovesLeftInMemory t n has.moves_left in
+              let R : FetchedCommand → Type 0 = λ x. HasMovesLeftInMemory x old.memory_size has.moves_left in
               record {
                 moves_left = has.moves_left;
                 may_finish = record {
                   fetched_command = newly_fetched f.meaning f.places;
-                  is_covered = subst R one (subst Q size has.may_finish.is_covered);
-                  has_clears_left = page_clears f.meaning.operation old.memory (newly_fetched f.meaning f.places)
+                  has_moves_left = subst R one (subst Q size has.may_finish.has_moves_left);
+                  has_trim_runs_left = page_clears f.meaning.operation old.memory (newly_fetched f.meaning f.places)
                       (ap (λ (x : FetchedCommand). sends_page x.meaning.operation) (sym one) ∙ has.sends_page);
                   is_begun_or_fetchable = inr (f.can, refl);
                 };
@@ -283,20 +283,20 @@ taken_has port slot k old new f has = by has.may_finish.is_begun_or_fetchable
 
 pub fetched_has : (port slot k : ℕ) (did : Bool) (old new : Device) → (did ≡ true → DoesFetch port slot old new) →
     (did ≡ false → (m : Meaning) (places : List ℕ) → Can (Fetch port slot m places) old → ⊥) →
-    MayTakePage old port slot → HasPageCommand new port k → HasPageCommand old port slot
+    MayTakePageCommand old port slot → HasFinishablePageCommand new port k → HasFinishablePageCommand old port slot
 fetched_has port slot k true old new went never may has = taken_has port slot k old new (went refl) has
 fetched_has port slot k false old new went never may has = absurd (never refl may.meaning may.places may.can)
 
 -- one that can be done to its end still can be once it is taken
-pub fetched_left : (port slot : ℕ) (did : Bool) (old new : Device) (has : HasPageCommand old port slot) → (did ≡ true → DoesFetch port slot old new) →
+pub fetched_left : (port slot : ℕ) (did : Bool) (old new : Device) (has : HasFinishablePageCommand old port slot) → (did ≡ true → DoesFetch port slot old new) →
     (did ≡ false → new ≡ old) → (did ≡ false → (m : Meaning) (places : List ℕ) → Can (Fetch port slot m places) old → ⊥) →
-    (now : HasPageCommand new port slot) × (now.moves_left ≡ has.moves_left)
+    (now : HasFinishablePageCommand new port slot) × (now.moves_left ≡ has.moves_left)
 fetched_left port slot did old new has went same never =
     let going = fetched_goes port slot has.moves_left 0 did old new has.may_finish went same never in
     let page = page_taken port slot did old new (λ e. goes_one (SendsEnd slot) port slot old new (inl (went e))) same has going.fetched_command going.works.taken in (
       record {
         moves_left = has.moves_left;
-        may_finish = record { fetched_command = going.fetched_command; is_covered = going.is_covered; has_clears_left = going.has_clears_left; is_begun_or_fetchable = inl going.works };
+        may_finish = record { fetched_command = going.fetched_command; has_moves_left = going.has_moves_left; has_trim_runs_left = going.has_trim_runs_left; is_begun_or_fetchable = inl going.works };
         sends_page = page.0;
         addresses_are_low = page.1;
       },
@@ -364,7 +364,7 @@ one_elsewhere port slot old new (inr (inr (inr (most, c)))) k ne =
     let p : DevicePort = port_after_clear (old.port port) slot c.fetched_command c.first c.count in
     weight_with old new port p k (ap (λ (d : Device). d.port port) c.effect ∙ changed_same old.port port p) refl (changed_other (old.port port).taken slot _ k ne)
 one_elsewhere port slot old new (inr (inr (inl e))) k ne =
-    let p : DevicePort = port_after_flush (port_after_done (old.port port) slot e.done.cause_bit e.done.fetched_command.meaning.operation) e.done.fetched_command.meaning.operation (length old.tape) in
+    let p : DevicePort = port_with_lasting_after_operation (port_after_done (old.port port) slot e.done.cause_bit e.done.fetched_command.meaning.operation) e.done.fetched_command.meaning.operation (length old.tape) in
     weight_with old new port p k
     (ap (λ (d : Device). d.port port) (end_rest port slot e.done.cause_bit e.done.fetched_command.meaning.operation e.after_end new e.posts)
     ∙ (ap (λ (d : Device). d.port port) e.done.effect ∙ changed_same old.port port p))
@@ -375,7 +375,7 @@ some_elsewhere zero port slot old new e k ne = ap (λ (d : Device). weight d por
 some_elsewhere (suc n) port slot old new s k ne = one_elsewhere port slot s.0 new s.2 k ne ∙ some_elsewhere n port slot old s.0 s.1 k ne
 
 -- one that was done is neither issued nor taken
-pub fewer_left : (port slot : ℕ) (old new : Device) → slot < 32 → HasPageCommand old port slot → SlotGoesOn (SendsEnd slot) port slot old new → IsFreeSlot (new.port port) slot →
+pub fewer_left : (port slot : ℕ) (old new : Device) → slot < 32 → HasFinishablePageCommand old port slot → SlotGoesOn (SendsEnd slot) port slot old new → IsFreeSlot (new.port port) slot →
     total (weight new port) 32 < total (weight old port) 32
 fewer_left port slot old new small has went free =
     total_less (weight new port) (weight old port) slot 32 small (some_elsewhere (suc went.0) port slot old new went.1) (less has.may_finish.is_begun_or_fetchable)
@@ -416,7 +416,7 @@ one_apart port slot old new (inr (inr (inl e))) =
       λ q ne.
           ap (λ (d : Device). d.port q) rest
           ∙ (ap (λ (d : Device). d.port q) e.done.effect
-          ∙ changed_other old.port port (port_after_flush (port_after_done (old.port port) slot e.done.cause_bit e.done.fetched_command.meaning.operation) e.done.fetched_command.meaning.operation (length old.tape)) q ne),
+          ∙ changed_other old.port port (port_with_lasting_after_operation (port_after_done (old.port port) slot e.done.cause_bit e.done.fetched_command.meaning.operation) e.done.fetched_command.meaning.operation (length old.tape)) q ne),
     )
 
 some_apart : (n port slot : ℕ) (old new : Device) → DoesSlotSteps (SendsEnd slot) n port slot old new → (new.memory_size ≡ old.memory_size) × ((q : ℕ) → q ≢ port → new.port q ≡ old.port q)
@@ -435,25 +435,25 @@ fetched_apart port slot true old new went same = one_apart port slot old new (in
 fetched_apart port slot false old new went same = (ap (λ (d : Device). d.memory_size) (same refl), λ q ne. ap (λ (d : Device). d.port q) (same refl))
 
 -- so what such a port has taken, and can be done to its end, still can be, and could before
-pub page_stays : (old new : Device) (port k : ℕ) → new.port port ≡ old.port port → new.memory_size ≡ old.memory_size → HasTakenCommand old port → (has : HasPageCommand old port k) →
-    (now : HasPageCommand new port k) × (now.moves_left ≡ has.moves_left)
+pub page_stays : (old new : Device) (port k : ℕ) → new.port port ≡ old.port port → new.memory_size ≡ old.memory_size → HasTakenCommand old port → (has : HasFinishablePageCommand old port k) →
+    (now : HasFinishablePageCommand new port k) × (now.moves_left ≡ has.moves_left)
 page_stays old new port k same size busy has = by has.may_finish.is_begun_or_fetchable
   where
     t : FetchedCommand
     t = has.may_finish.fetched_command
 
     by : WorksOn (old.port port) k t t.meaning.operation ⊎ (Can (Fetch port k t.meaning t.places) old × (t ≡ newly_fetched t.meaning t.places)) →
-        (now : HasPageCommand new port k) × (now.moves_left ≡ has.moves_left)
+        (now : HasFinishablePageCommand new port k) × (now.moves_left ≡ has.moves_left)
     by (inr may) = absurd (busy_bars old port k busy (record { meaning = t.meaning; places = t.places; sends_page = has.sends_page; can = may.0 }))
     by (inl works) =
         let P : DevicePort → Type 0 = λ p. WorksOn p k t t.meaning.operation in
-        let Q : ℕ → Type 0 = λ n. HasMovesLeft t n has.moves_left in (
+        let Q : ℕ → Type 0 = λ n. HasMovesLeftInMemory t n has.moves_left in (
           record {
             moves_left = has.moves_left;
             may_finish = record {
               fetched_command = t;
-              is_covered = subst Q (sym size) has.may_finish.is_covered;
-              has_clears_left = page_clears t.meaning.operation new.memory t has.sends_page;
+              has_moves_left = subst Q (sym size) has.may_finish.has_moves_left;
+              has_trim_runs_left = page_clears t.meaning.operation new.memory t has.sends_page;
               is_begun_or_fetchable = inl (subst P (sym same) works);
             };
             sends_page = has.sends_page;
@@ -473,13 +473,13 @@ working_noted p n operation w = record { cr_is_set = w.cr_is_set; present = w.pr
 works_noted : (p : DevicePort) (n : Notes) (slot : ℕ) (t : FetchedCommand) (operation : Operation) → WorksOn (record p { notes = n }) slot t operation → WorksOn p slot t operation
 works_noted p n slot t operation w = record { taken = w.taken; working = working_noted p n operation w.working }
 
-has_noted : (d : Device) (f : ℕ → DevicePort) (n : Notes) (port slot : ℕ) → f port ≡ record (d.port port) { notes = n } → HasPageCommand (record d { port = f }) port slot → HasPageCommand d port slot
+has_noted : (d : Device) (f : ℕ → DevicePort) (n : Notes) (port slot : ℕ) → f port ≡ record (d.port port) { notes = n } → HasFinishablePageCommand (record d { port = f }) port slot → HasFinishablePageCommand d port slot
 has_noted d f n port slot is has = record {
   moves_left = has.moves_left;
   may_finish = record {
     fetched_command = has.may_finish.fetched_command;
-    is_covered = has.may_finish.is_covered;
-    has_clears_left = has.may_finish.has_clears_left;
+    has_moves_left = has.may_finish.has_moves_left;
+    has_trim_runs_left = has.may_finish.has_trim_runs_left;
     is_begun_or_fetchable = by has.may_finish.is_begun_or_fetchable;
   };
   sends_page = has.sends_page;
@@ -505,7 +505,7 @@ has_noted d f n port slot is has = record {
           may.1,
         )
 
-may_noted : (d : Device) (f : ℕ → DevicePort) (n : Notes) (port slot : ℕ) → f port ≡ record (d.port port) { notes = n } → MayTakePage (record d { port = f }) port slot → MayTakePage d port slot
+may_noted : (d : Device) (f : ℕ → DevicePort) (n : Notes) (port slot : ℕ) → f port ≡ record (d.port port) { notes = n } → MayTakePageCommand (record d { port = f }) port slot → MayTakePageCommand d port slot
 may_noted d f n port slot is may =
     let fetchable = subst (λ (p : DevicePort). IsFetchable p slot) is may.can.fetchable in
     let working = subst (λ (p : DevicePort). IsWorking p may.meaning.operation) is may.can.working in
@@ -521,7 +521,7 @@ may_noted d f n port slot is may =
       };
     }
 
-pub noted_may : (r : Reg) (v : ℕ) (d : Device) (port slot : ℕ) → MayTakePage (device_after_reading r v d) port slot → MayTakePage d port slot
+pub noted_may : (r : Reg) (v : ℕ) (d : Device) (port slot : ℕ) → MayTakePageCommand (device_after_reading r v d) port slot → MayTakePageCommand d port slot
 noted_may (Px q r) v d port slot may =
     let p : DevicePort = record (d.port q.0) { notes = notes_after_reading r v (d.port q.0) } in
     elim (eqb_tells port q.0) [
@@ -539,7 +539,7 @@ noted_may Vs v d port slot may = may
 noted_may Cap2 v d port slot may = may
 noted_may Bohc v d port slot may = may
 
-pub noted_page : (r : Reg) (v : ℕ) (d : Device) (port slot : ℕ) → HasPageCommand (device_after_reading r v d) port slot → HasPageCommand d port slot
+pub noted_page : (r : Reg) (v : ℕ) (d : Device) (port slot : ℕ) → HasFinishablePageCommand (device_after_reading r v d) port slot → HasFinishablePageCommand d port slot
 noted_page (Px q r) v d port slot has =
     let p : DevicePort = record (d.port q.0) { notes = notes_after_reading r v (d.port q.0) } in
     elim (eqb_tells port q.0) [

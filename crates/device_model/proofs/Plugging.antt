@@ -15,7 +15,7 @@ use Rattle.sector_store.specs.declared.store.Failures.{Failures}
 use Rattle.device_model.specs.Disks.{bay_of, disk_in_bay, disk_number, disk_over, identity, is_same_index, lasting_of, plugged_as}
 use Rattle.device_model.specs.StepEffects.{DidStep, IsLeftOut, LacksMemory, IsPossible}
 use Rattle.device_model.specs.ModelState.{device_at, media_of, all_media_at, tells}
-use Rattle.device_model.specs.ToldDisks.{bay_disk_has_known_sectors, each_tells}
+use Rattle.device_model.specs.ToldDisks.{bay_disk_has_known_sectors, each_bay_store_is_known}
 use Rattle.device_model.specs.WholeAdapter.{AllMedia, device_of, media_after_plug, all_media_after_plug}
 use Rattle.device_model.specs.declared.bay.Bay.{Bay}
 use Rattle.device_model.specs.declared.disks.ModelDisk.{ModelDisk}
@@ -56,7 +56,7 @@ module _ {S : Type 0} (size : S → ℕ) (told : S → Option (ℕ → List ℕ)
         disk_index_is = seated_same m new p.0 a b was items (option_map (λ (x : Bay S). x.which)) (ap (λ (x : Bay S). Some x.which) rest) p.0;
         other_bays_are_kept = seated_others m new p.0 a b was items;
         disks_are_kept = λ w. seated_same m new p.0 a b was items (option_map (λ (x : Bay S). disk_in_bay x w)) (ap Some (kept w)) p.0;
-        lacks_memory = λ _ _. (lacks, starved);
+        possible_step_lacks_memory = λ _ _. (lacks, starved);
         step_keeps = seated_keeps m new p.0 a b was items size (λ w _. kept w) (λ w. ap (identity size) (kept w)) (ap (λ (x : Bay S). x.cache.is_on) rest) queue accesses;
         stays_starved = λ _. starved;
         starves_for_want = λ _. inr (may, lacks);
@@ -97,7 +97,7 @@ module _ {S : Type 0} (size : S → ℕ) (told : S → Option (ℕ → List ℕ)
           can = (
             free _ refl,
             disks_are size told are (Some b),
-            λ telling. bay_disk_has_known_sectors size told (Some b) (tells_so ∙ (ap (tells told) (sym was) ∙ each_tells size told m.bays.items telling p.0)),
+            λ telling. bay_disk_has_known_sectors size told (Some b) (tells_so ∙ (ap (tells told) (sym was) ∙ each_bay_store_is_known size told m.bays.items telling p.0)),
             λ same.
                 let which_same : b.which ≡ a.which = one_number b.which a.which (same ∙ ap (λ (d : Disk). d.name) disk_is) in
                 let so = that which_same in
@@ -159,8 +159,8 @@ module _ {S : Type 0} (size : S → ℕ) (told : S → Option (ℕ → List ℕ)
               no_call_failed = λ _ q w. seated_same m new p.0 a b was items (λ x. option_map (λ (y : ModelDisk S). failures y.store) (option_map (λ (y : Bay S). disk_in_bay y w) x))
                   (ap (λ (y : ModelDisk S). Some (failures y.store)) (kept w)) q;
               page_source_is = seated_same m new p.0 a b was items (option_map (λ (x : Bay S). x.page_source)) (ap Some says) p.0;
-              does_all_it_asks = λ _. tt;
-              loses_cache = λ yes. true-false yes refl;
+              clear_and_finish_do_all_below_4_gib = λ _. tt;
+              lose_plug_loses_cache = λ yes. true-false yes refl;
             });
             held_ports_are = held;
             disk_index_is = ap (option_map (λ (x : Bay S). x.which)) (seated_here m new p.0 a b was items)

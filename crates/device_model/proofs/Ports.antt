@@ -134,12 +134,12 @@ pub noted_settled : (r : Reg) (v : ℕ) (d : Device) (held : List Bool) → IsSe
 noted_settled (Px q r) v d held s =
     let new : DevicePort = record (d.port q.0) { notes = notes_after_reading r v (d.port q.0) } in
     record {
-      reset_has_ended = s.reset_has_ended;
-      crs_have_fallen = changed_each d.port q.0 new (λ k p. (p.st ≡ false) × (p.cr ≡ true) → IsPortHeld held k) (s.crs_have_fallen q.0) s.crs_have_fallen;
-      frs_have_fallen = changed_each d.port q.0 new (λ k p. (p.fre ≡ false) × (p.cr ≡ false) × (p.fr ≡ true) → IsPortHeld held k) (s.frs_have_fallen q.0) s.frs_have_fallen;
-      no_links_may_come = λ port sig n may.
+      reset_waits_only_if_all_are_held = s.reset_waits_only_if_all_are_held;
+      cr_may_fall_only_where_held = changed_each d.port q.0 new (λ k p. (p.st ≡ false) × (p.cr ≡ true) → IsPortHeld held k) (s.cr_may_fall_only_where_held q.0) s.cr_may_fall_only_where_held;
+      fr_may_fall_only_where_held = changed_each d.port q.0 new (λ k p. (p.fre ≡ false) × (p.cr ≡ false) × (p.fr ≡ true) → IsPortHeld held k) (s.fr_may_fall_only_where_held q.0) s.fr_may_fall_only_where_held;
+      link_may_come_up_only_where_held = λ port sig n may.
           changed_each d.port q.0 new (λ k p. MayLinkUp p sig → IsPortHeld held k)
-          (λ m. s.no_links_may_come q.0 sig n (record { present = m.present; no_comreset = m.no_comreset; link_is_due = m.link_is_due; sig_fits = m.sig_fits })) (λ k m. s.no_links_may_come k sig n m) port may;
+          (λ m. s.link_may_come_up_only_where_held q.0 sig n (record { present = m.present; no_comreset = m.no_comreset; link_is_due = m.link_is_due; sig_fits = m.sig_fits })) (λ k m. s.link_may_come_up_only_where_held k sig n m) port may;
     }
 noted_settled Cap v d held s = s
 noted_settled Ghc v d held s = s

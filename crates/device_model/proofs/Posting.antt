@@ -14,7 +14,7 @@ use Rattle.adapter.proofs.Going.{post_steps}
 use Rattle.sector_store.specs.declared.store.Failures.{Failures}
 use Rattle.device_model.specs.StepEffects.{ClearsFewer, DidStep, StepFails, FailsToClear, FailsToMove}
 use Rattle.device_model.specs.ModelState.{device_at}
-use Rattle.device_model.specs.SentFises.{IsSentOrLost, Sends, SendsAfter, SendsEnd, SendsFaultOfOperation, SendsFault, receives_fis}
+use Rattle.device_model.specs.SentFises.{IsSentOrLost, SendsFisOfAskedStep, SendsFisAfterTransition, SendsEnd, SendsFaultOfOperation, SendsFault, receives_fis}
 use Rattle.device_model.specs.declared.bay.PageSource.{PageSource}
 use Rattle.device_model.specs.declared.model.Model.{Model}
 
@@ -30,7 +30,7 @@ sent_may : (port place : ℕ) (bytes : List ℕ) (old new : Device) → IsSentOr
 sent_may port place bytes old new s = by (receives_fis (old.port port) old.memory_size) refl
   where
     by : (b : Bool) → receives_fis (old.port port) old.memory_size ≡ b → MayPost port 0 operation.Read old new
-    by true e = inr ((old.port port).bases.fb + place, bytes, s.is_posted e)
+    by true e = inr ((old.port port).bases.fb + place, bytes, s.is_posted_if_received e)
     by false e = inl (s.is_lost e)
 
 pub end_may : (port slot flag : ℕ) (o : Operation) (old new : Device) → SendsEnd slot port flag o old new → MayPost port flag o old new
@@ -47,7 +47,7 @@ fault_may : (queued : Bool) (port : ℕ) (o : Operation) (old new : Device) → 
 fault_may true port o old new s = sent_may port 0x58 s.0 old new s.2
 fault_may false port o old new s = sent_may port 0x40 s.0 old new s.2
 
-after_may : (step : DeviceTransition) (old new : Device) → SendsAfter step old new → (port : ℕ) × MayPost port 0 operation.Read old new
+after_may : (step : DeviceTransition) (old new : Device) → SendsFisAfterTransition step old new → (port : ℕ) × MayPost port 0 operation.Read old new
 after_may (Done port slot flag t) old new s = (port, end_may port slot flag t.meaning.operation old new s)
 after_may (LinkUp port sig n) old new s = (port, sent_may port 0x40 s.0 old new s.2)
 after_may (Fetch port slot meaning places) old new e = (0, inl e)
@@ -78,12 +78,12 @@ end_rest port slot flag o old new s = may_rest port flag o old new (end_may port
 pub fault_rest : (queued : Bool) (port : ℕ) (old new : Device) → SendsFault queued port old new → new ≡ record old { memory = new.memory }
 fault_rest queued port old new s = may_rest port 30 operation.Read old new (fault_may queued port operation.Read old new s)
 
-pub after_rest : (step : DeviceTransition) (old new : Device) → SendsAfter step old new → new ≡ record old { memory = new.memory }
+pub after_rest : (step : DeviceTransition) (old new : Device) → SendsFisAfterTransition step old new → new ≡ record old { memory = new.memory }
 after_rest step old new s = let m = after_may step old new s in may_rest m.0 0 operation.Read old new m.1
 
 -- ---- it is a step of the device
 
-pub after_steps : (step : DeviceTransition) (old new : Device) → SendsAfter step old new → Steps old new
+pub after_steps : (step : DeviceTransition) (old new : Device) → SendsFisAfterTransition step old new → Steps old new
 after_steps step old new s = let m = after_may step old new s in post_steps m.0 0 operation.Read old new m.1
 
 -- ---- what was asked of the model was asked of an adapter
@@ -106,7 +106,7 @@ failed_may port slot error kept old new f =
     let o : Operation = f.fault.fetched_command.meaning.operation in
     record { after_failure = f.after_failure; fault = f.fault; posts = fault_may (is_queued o) port o f.after_failure new f.posts }
 
-done_may : (s : DeviceStep) (old new : Device) → DoesAskedStep (Sends s) s old new → DoesAskedStep MayPost s old new
+done_may : (s : DeviceStep) (old new : Device) → DoesAskedStep (SendsFisOfAskedStep s) s old new → DoesAskedStep MayPost s old new
 done_may (asked.Fetch p slot) old new did = did
 done_may (asked.Move p slot) old new did = did
 done_may (asked.Clear p slot most) old new did = did
@@ -138,9 +138,9 @@ clearing_fails cached port slot was now says later old new f =
 fails_after_may : (port slot error : ℕ) (Part More : Device → Device → Type 0) → ((old mid : Device) → Part old mid → More old mid) → (old mid new : Device) →
     (mid ≡ old) ⊎ Part old mid → FailsAndPosts SendsFaultOfOperation port slot error 0 mid new → FailsAfter MayPost More port slot old new
 fails_after_may port slot error Part More more old mid new (inl same) f =
-    record { after_part = mid; part_is_done = inl same; error = error; fails = failed_may port slot error 0 mid new f }
+    record { after_part = mid; part_is_done_or_nothing = inl same; error = error; fails = failed_may port slot error 0 mid new f }
 fails_after_may port slot error Part More more old mid new (inr some) f =
-    record { after_part = mid; part_is_done = inr (more old mid some); error = error; fails = failed_may port slot error 0 mid new f }
+    record { after_part = mid; part_is_done_or_nothing = inr (more old mid some); error = error; fails = failed_may port slot error 0 mid new f }
 
 fails_may : (s : DeviceStep) (cached : Bool) (was now : Option Failures) (says later : Option PageSource) (old new : Device) → StepFails s cached was now says later old new → DoesOrFailsStep s old new
 fails_may (asked.Fetch p s) cached was now says later old new f = inr (record {

@@ -15,11 +15,11 @@ use Rattle.adapter.specs.declared.command.Operation.{Operation}
 use Rattle.adapter.specs.declared.command.Prd.{Prd}
 use Rattle.device_model.proofs.Absurd.{some-none, some_one, true-false}
 use Rattle.adapter.proofs.SaysLemmas.{says_meaning, says_places, cut_length, cut_index}
-use Rattle.device_model.specs.Finishing.{HasPageCommand, FindsPageCommand, IsInside, PiecesInside, HasMovesLeft, IsRemaining, MayFinish, MayTakePage, sends_page}
+use Rattle.device_model.specs.Finishing.{HasFinishablePageCommand, FindsPageCommandAndWhetherItCanEnd, IsInside, PiecesInside, HasMovesLeftInMemory, HasMovesAndTrimRunsLeft, MayFinish, MayTakePageCommand, sends_page}
 use Rattle.device_model.specs.FetchedBytes.{IsNewlyTaken, bytes_of}
 use Rattle.device_model.specs.WriteCaches.{HasRoomForOldSectors}
-use Rattle.device_model.specs.Trims.{HasClearsLeft, changes_ahead}
-use Rattle.device_model.specs.Slots.{IsOpenTo, MayTake, HasIssuedUntaken, WorksOnIn}
+use Rattle.device_model.specs.Trims.{HasClearsLeft, sectors_left_to_change}
+use Rattle.device_model.specs.Slots.{AdmitsBesideTaken, MayTakeIfDecoded, HasIssuedUntakenOnWorkingPort, WorksOnIn}
 use Rattle.device_model.specs.WordBits.{word_bits}
 use Rattle.device_model.specs.PortView.{Media, halt_of, taken_in, operation_of_kind, port_of, taken_of, blank_port}
 use Rattle.device_model.specs.WholeAdapter.{AllMedia, device_of}
@@ -92,7 +92,7 @@ inside_all size (x ∷ xs) all (suc k) d small = inside_all size xs (inside_rest
 -- ---- what is left
 
 pub left_covered : (r : TakenCommand) (size n : ℕ) (o : Option ℕ) → n ≡ length (pieces r.prds) → PiecesInside size (pieces r.prds) →
-    SomeIff o (r.moved ≤ n) (n - r.moved) → IfSome o (λ left. HasMovesLeft (taken_of r) size left)
+    SomeIff o (r.moved ≤ n) (n - r.moved) → IfSome o (λ left. HasMovesLeftInMemory (taken_of r) size left)
 left_covered r size n None many all none = tt
 left_covered r size n (Some left) many all fits = record { moves_left_are = omega (arith, fits.0, fits.1, many); pieces_are_inside = all }
 
@@ -104,14 +104,14 @@ left_is moved n left (Some x) is some = let same : x ≡ left = omega (arith, is
 
 -- no command may be taken in this slot
 abbrev pub MayTakeNone : PortModel → ℕ → Type 0
-MayTakeNone p slot = (m : Media) (operation : Operation) → MayTake (port_of p m) slot operation → ⊥
+MayTakeNone p slot = (m : Media) (operation : Operation) → MayTakeIfDecoded (port_of p m) slot operation → ⊥
 
 -- this command may be taken beside those that are
 abbrev pub IsBeside : PortModel → TakenCommand → Type 0
-IsBeside p r = IsOpenTo p (operation_of_kind r.command_kind)
+IsBeside p r = AdmitsBesideTaken p (operation_of_kind r.command_kind)
 
-pub may_be_taken : (p : PortModel) (slot : ℕ) (r : TakenCommand) → HasIssuedUntaken p slot → IsBeside p r → (m : Media) →
-    MayTake (port_of p m) slot (operation_of_kind r.command_kind)
+pub may_be_taken : (p : PortModel) (slot : ℕ) (r : TakenCommand) → HasIssuedUntakenOnWorkingPort p slot → IsBeside p r → (m : Media) →
+    MayTakeIfDecoded (port_of p m) slot (operation_of_kind r.command_kind)
 may_be_taken p slot r may beside m =
     let w = may m (operation_of_kind r.command_kind) beside.0 in record { fetchable = w.0; working = w.1; is_unmixed = beside.1 m }
 
@@ -119,7 +119,7 @@ module _ (h : Hardware) (o : AllMedia) (p port slot left clears : ℕ) (e : p �
   abbrev state : PortModel
   state = slice_index_or h.ports p blank_port
 
-  pub ready_fetch : HasIssuedUntaken state slot →
+  pub ready_fetch : HasIssuedUntakenOnWorkingPort state slot →
       Can (Fetch port slot ready.fetched_command.meaning ready.fetched_command.places) (device_of h o) × (ready.fetched_command ≡ newly_fetched ready.fetched_command.meaning ready.fetched_command.places)
   ready_fetch may = by ready.is_begun_or_fetchable
     where
@@ -129,7 +129,7 @@ module _ (h : Hardware) (o : AllMedia) (p port slot left clears : ℕ) (e : p �
       by (inl works) = some-none (ap (λ (q : ℕ). ((device_of h o).port q).taken slot) e ∙ works.taken) (may (o.media p) ready.fetched_command.meaning.operation (ap (λ (q : ℕ). admits ((device_of h o).port q).halt ready.fetched_command.meaning.operation) e ∙ works.working.admitted)).0.free
       by (inr begins) = begins
 
-  pub ready_said : HasIssuedUntaken state slot → DecodesTo (bytes_of h.memory.items) state.addresses.clb slot ready.fetched_command.meaning ready.fetched_command.places
+  pub ready_said : HasIssuedUntakenOnWorkingPort state slot → DecodesTo (bytes_of h.memory.items) state.addresses.clb slot ready.fetched_command.meaning ready.fetched_command.places
   ready_said may = fetch_says h o p port slot ready.fetched_command.meaning ready.fetched_command.places e (ready_fetch may).0
 
   pub ready_held : MayTakeNone state slot → (r : TakenCommand) × WorksOnIn state slot r × (ready.fetched_command ≡ taken_of r)
@@ -145,8 +145,8 @@ module _ (h : Hardware) (o : AllMedia) (p port slot left clears : ℕ) (e : p �
 
 module _ (h : Hardware) (p port slot : ℕ) (r : TakenCommand) (e : p ≡ port) where
   -- a command that may be taken is ready
-  pub ready_to_take : (left clears : ℕ) → IsRemaining r h.memory.items left clears → IsNewlyTaken r →
-      HasIssuedUntaken (slice_index_or h.ports p blank_port) slot → IsBeside (slice_index_or h.ports p blank_port) r →
+  pub ready_to_take : (left clears : ℕ) → HasMovesAndTrimRunsLeft r h.memory.items left clears → IsNewlyTaken r →
+      HasIssuedUntakenOnWorkingPort (slice_index_or h.ports p blank_port) slot → IsBeside (slice_index_or h.ports p blank_port) r →
       DecodesTo (bytes_of h.memory.items) (slice_index_or h.ports p blank_port).addresses.clb slot (taken_of r).meaning (taken_of r).places →
       (o : AllMedia) → MayFinish (device_of h o) port slot left clears
   ready_to_take left clears rest new may beside says o =
@@ -155,28 +155,28 @@ module _ (h : Hardware) (p port slot : ℕ) (r : TakenCommand) (e : p ≡ port) 
       subst P e
       (record {
         fetched_command = taken_of r;
-        is_covered = rest.0;
-        has_clears_left = rest.1;
+        has_moves_left = rest.0;
+        has_trim_runs_left = rest.1;
         is_begun_or_fetchable = inr (record { fetchable = m.0; working = m.1; is_unmixed = beside.1 (o.media p); says = says }, new_begun r new);
       })
 
   -- and so is one that is taken
-  pub ready_to_go : (left clears : ℕ) → IsRemaining r h.memory.items left clears → WorksOnIn (slice_index_or h.ports p blank_port) slot r →
+  pub ready_to_go : (left clears : ℕ) → HasMovesAndTrimRunsLeft r h.memory.items left clears → WorksOnIn (slice_index_or h.ports p blank_port) slot r →
       (o : AllMedia) → MayFinish (device_of h o) port slot left clears
   ready_to_go left clears rest here o =
       let P : ℕ → Type 0 = λ q. MayFinish (device_of h o) q slot left clears in
-      subst P e (record { fetched_command = taken_of r; is_covered = rest.0; has_clears_left = rest.1; is_begun_or_fetchable = inl (here.works (o.media p)) })
+      subst P e (record { fetched_command = taken_of r; has_moves_left = rest.0; has_trim_runs_left = rest.1; is_begun_or_fetchable = inl (here.works (o.media p)) })
 
   -- a command that is ready, as far as these are its moves and clears
   rest_back : (left clears : ℕ) (o : AllMedia) (ready : MayFinish (device_of h o) port slot left clears) → ready.fetched_command ≡ taken_of r →
-      IsRemaining r h.memory.items left clears
+      HasMovesAndTrimRunsLeft r h.memory.items left clears
   rest_back left clears o ready same =
-      let Q : FetchedCommand → Type 0 = λ t. HasMovesLeft t (length h.memory.items) left in
+      let Q : FetchedCommand → Type 0 = λ t. HasMovesLeftInMemory t (length h.memory.items) left in
       let R : FetchedCommand → Type 0 = λ t. HasClearsLeft t.meaning.operation (bytes_of h.memory.items) t clears in
-      (subst Q same ready.is_covered, subst R same ready.has_clears_left)
+      (subst Q same ready.has_moves_left, subst R same ready.has_trim_runs_left)
 
   -- where a command may be taken, one that is ready is the one that its slot's bytes say
-  pub ready_is_one : HasIssuedUntaken (slice_index_or h.ports p blank_port) slot → IsNewlyTaken r →
+  pub ready_is_one : HasIssuedUntakenOnWorkingPort (slice_index_or h.ports p blank_port) slot → IsNewlyTaken r →
       DecodesTo (bytes_of h.memory.items) (slice_index_or h.ports p blank_port).addresses.clb slot (taken_of r).meaning (taken_of r).places →
       (o : AllMedia) (left clears : ℕ) (ready : MayFinish (device_of h o) port slot left clears) → ready.fetched_command ≡ taken_of r
   ready_is_one may new says o left clears ready =
@@ -188,14 +188,14 @@ module _ (h : Hardware) (p port slot : ℕ) (r : TakenCommand) (e : p ≡ port) 
       let places = says_places memory list slot t.meaning (taken_of r).meaning t.places (taken_of r).places there says in
       (ready_fetch h o p port slot left clears e ready may).1 ∙ ((λ i. newly_fetched (meaning i) (places i)) ∙ sym (new_begun r new))
 
-  pub ready_is_said : HasIssuedUntaken (slice_index_or h.ports p blank_port) slot → IsNewlyTaken r →
+  pub ready_is_said : HasIssuedUntakenOnWorkingPort (slice_index_or h.ports p blank_port) slot → IsNewlyTaken r →
       DecodesTo (bytes_of h.memory.items) (slice_index_or h.ports p blank_port).addresses.clb slot (taken_of r).meaning (taken_of r).places →
-      (o : AllMedia) (left clears : ℕ) → MayFinish (device_of h o) port slot left clears → IsRemaining r h.memory.items left clears
+      (o : AllMedia) (left clears : ℕ) → MayFinish (device_of h o) port slot left clears → HasMovesAndTrimRunsLeft r h.memory.items left clears
   ready_is_said may new says o left clears ready =
       rest_back left clears o ready (ready_is_one may new says o left clears ready)
 
   -- one that may not be taken beside those that are isn't ready
-  pub ready_beside : HasIssuedUntaken (slice_index_or h.ports p blank_port) slot → IsNewlyTaken r →
+  pub ready_beside : HasIssuedUntakenOnWorkingPort (slice_index_or h.ports p blank_port) slot → IsNewlyTaken r →
       DecodesTo (bytes_of h.memory.items) (slice_index_or h.ports p blank_port).addresses.clb slot (taken_of r).meaning (taken_of r).places →
       (o : AllMedia) (left clears : ℕ) → MayFinish (device_of h o) port slot left clears →
       (admits (halt_of (slice_index_or h.ports p blank_port).halting) (operation_of_kind r.command_kind) ≡ true)
@@ -210,7 +210,7 @@ module _ (h : Hardware) (p port slot : ℕ) (r : TakenCommand) (e : p ≡ port) 
 
   -- where it is taken, the one that its slot holds
   pub ready_is_held : WorksOnIn (slice_index_or h.ports p blank_port) slot r → MayTakeNone (slice_index_or h.ports p blank_port) slot →
-      (o : AllMedia) (left clears : ℕ) → MayFinish (device_of h o) port slot left clears → IsRemaining r h.memory.items left clears
+      (o : AllMedia) (left clears : ℕ) → MayFinish (device_of h o) port slot left clears → HasMovesAndTrimRunsLeft r h.memory.items left clears
   ready_is_held here never o left clears ready =
       let w = ready_held h o p port slot left clears e ready never in
       let same : r ≡ w.0 = some_one (sym here.is_taken ∙ w.1.is_taken) in
@@ -218,18 +218,18 @@ module _ (h : Hardware) (p port slot : ℕ) (r : TakenCommand) (e : p ≡ port) 
 
 -- what a command is going to change is what is left of the one that is ready
 pub ahead_is : (h : Hardware) (o : AllMedia) (cache : Cache) (port slot left changes n m : ℕ) (r : TakenCommand) (may : MayFinish (device_of h o) port slot n m) → may.fetched_command ≡ taken_of r →
-    left ≡ n → changes ≡ changes_ahead (operation_of_kind r.command_kind) (bytes_of h.memory.items) (taken_of r) left →
-    HasRoomForOldSectors cache (changes_ahead may.fetched_command.meaning.operation (bytes_of h.memory.items) may.fetched_command n) → HasRoomForOldSectors cache changes
+    left ≡ n → changes ≡ sectors_left_to_change (operation_of_kind r.command_kind) (bytes_of h.memory.items) (taken_of r) left →
+    HasRoomForOldSectors cache (sectors_left_to_change may.fetched_command.meaning.operation (bytes_of h.memory.items) may.fetched_command n) → HasRoomForOldSectors cache changes
 ahead_is h o cache port slot left changes n m r may same number is =
     let memory = bytes_of h.memory.items in
-    let here : changes_ahead may.fetched_command.meaning.operation memory may.fetched_command n ≡ changes = (λ i. changes_ahead (same i).meaning.operation memory (same i) (sym number i)) ∙ sym is in
+    let here : sectors_left_to_change may.fetched_command.meaning.operation memory may.fetched_command n ≡ changes = (λ i. sectors_left_to_change (same i).meaning.operation memory (same i) (sym number i)) ∙ sym is in
     subst (HasRoomForOldSectors cache) here
 
 -- and of the one that is taken
 pub ahead_of : (cache : Cache) (memory : ℕ → ℕ) (left changes : ℕ) (r : TakenCommand) (t : FetchedCommand) → taken_of r ≡ t →
-    changes ≡ changes_ahead (operation_of_kind r.command_kind) memory (taken_of r) left → HasRoomForOldSectors cache changes → HasRoomForOldSectors cache (changes_ahead t.meaning.operation memory t left)
+    changes ≡ sectors_left_to_change (operation_of_kind r.command_kind) memory (taken_of r) left → HasRoomForOldSectors cache changes → HasRoomForOldSectors cache (sectors_left_to_change t.meaning.operation memory t left)
 ahead_of cache memory left changes r t same is =
-    let there : changes ≡ changes_ahead t.meaning.operation memory t left = is ∙ (λ i. changes_ahead (same i).meaning.operation memory (same i) left) in
+    let there : changes ≡ sectors_left_to_change t.meaning.operation memory t left = is ∙ (λ i. sectors_left_to_change (same i).meaning.operation memory (same i) left) in
     subst (HasRoomForOldSectors cache) there
 
 -- the one that was taken just now
@@ -254,11 +254,11 @@ module _ (h : Hardware) (port slot size : ℕ) (sized : size ≡ vec_len h.memor
   memory_size : size ≡ length h.memory.items
   memory_size = let ok = h.memory.ok.0 in omega (arith, sized, ok)
 
-  covers : (r : TakenCommand) (left : ℕ) → HasMovesLeft (taken_of r) size left → HasMovesLeft (taken_of r) (length h.memory.items) left
-  covers r left covered = let P : ℕ → Type 0 = λ n. HasMovesLeft (taken_of r) n left in subst P memory_size covered
+  covers : (r : TakenCommand) (left : ℕ) → HasMovesLeftInMemory (taken_of r) size left → HasMovesLeftInMemory (taken_of r) (length h.memory.items) left
+  covers r left covered = let P : ℕ → Type 0 = λ n. HasMovesLeftInMemory (taken_of r) n left in subst P memory_size covered
 
-  covers_back : (r : TakenCommand) (left : ℕ) → HasMovesLeft (taken_of r) (length h.memory.items) left → HasMovesLeft (taken_of r) size left
-  covers_back r left covered = let P : ℕ → Type 0 = λ n. HasMovesLeft (taken_of r) n left in subst P (sym memory_size) covered
+  covers_back : (r : TakenCommand) (left : ℕ) → HasMovesLeftInMemory (taken_of r) (length h.memory.items) left → HasMovesLeftInMemory (taken_of r) size left
+  covers_back r left covered = let P : ℕ → Type 0 = λ n. HasMovesLeftInMemory (taken_of r) n left in subst P (sym memory_size) covered
 
   -- it clears nothing
   clears : (r : TakenCommand) → sends_page (operation_of_kind r.command_kind) ≡ true → HasClearsLeft (operation_of_kind r.command_kind) (bytes_of h.memory.items) (taken_of r) 0
@@ -266,19 +266,19 @@ module _ (h : Hardware) (port slot size : ℕ) (sized : size ≡ vec_len h.memor
 
   -- a command that can be done to its end
   abbrev pub Ends : TakenCommand → Type 0
-  Ends r = (left : ℕ) × HasMovesLeft (taken_of r) size left × PiecesInside (2 ^ 32) (pieces r.prds)
+  Ends r = (left : ℕ) × HasMovesLeftInMemory (taken_of r) size left × PiecesInside (2 ^ 32) (pieces r.prds)
 
   -- one that may be taken
   pub page_said : (r : TakenCommand) → IsNewlyTaken r → DecodesTo (bytes_of h.memory.items) here.addresses.clb slot (taken_of r).meaning (taken_of r).places →
-      sends_page (operation_of_kind r.command_kind) ≡ true → HasIssuedUntaken here slot → IsBeside here r → Ends r → (o : AllMedia) → HasPageCommand (device_of h o) port slot
+      sends_page (operation_of_kind r.command_kind) ≡ true → HasIssuedUntakenOnWorkingPort here slot → IsBeside here r → Ends r → (o : AllMedia) → HasFinishablePageCommand (device_of h o) port slot
   page_said r new says kind may beside ends o =
       let m = may (o.media port) (operation_of_kind r.command_kind) beside.0 in
       record {
         moves_left = ends.0;
         may_finish = record {
           fetched_command = taken_of r;
-          is_covered = covers r ends.0 ends.1;
-          has_clears_left = clears r kind;
+          has_moves_left = covers r ends.0 ends.1;
+          has_trim_runs_left = clears r kind;
           is_begun_or_fetchable = inr (record { fetchable = m.0; working = m.1; is_unmixed = beside.1 (o.media port); says = says }, new_begun r new);
         };
         sends_page = kind;
@@ -287,27 +287,27 @@ module _ (h : Hardware) (port slot size : ℕ) (sized : size ≡ vec_len h.memor
 
   -- no other one may be
   pub page_unsaid : ((m : Meaning) (places : List ℕ) → sends_page m.operation ≡ true → DecodesTo (bytes_of h.memory.items) here.addresses.clb slot m places → ⊥) →
-      HasIssuedUntaken here slot → (o : AllMedia) → HasPageCommand (device_of h o) port slot → ⊥
+      HasIssuedUntakenOnWorkingPort here slot → (o : AllMedia) → HasFinishablePageCommand (device_of h o) port slot → ⊥
   page_unsaid none may o has =
       none has.may_finish.fetched_command.meaning has.may_finish.fetched_command.places has.sends_page (ready_said h o port port slot has.moves_left 0 refl has.may_finish may)
 
   -- and where one may be taken, it is the one that is ready
   pub page_endless : (r : TakenCommand) → IsNewlyTaken r → DecodesTo (bytes_of h.memory.items) here.addresses.clb slot (taken_of r).meaning (taken_of r).places →
-      HasIssuedUntaken here slot → ((left : ℕ) → HasMovesLeft (taken_of r) size left → PiecesInside (2 ^ 32) (pieces r.prds) → ⊥) → (o : AllMedia) →
-      HasPageCommand (device_of h o) port slot → ⊥
+      HasIssuedUntakenOnWorkingPort here slot → ((left : ℕ) → HasMovesLeftInMemory (taken_of r) size left → PiecesInside (2 ^ 32) (pieces r.prds) → ⊥) → (o : AllMedia) →
+      HasFinishablePageCommand (device_of h o) port slot → ⊥
   page_endless r new says may never o has =
       let same = ready_is_one h port port slot r refl may new says o has.moves_left 0 has.may_finish in
       never has.moves_left (covers_back r has.moves_left (ready_is_said h port port slot r refl may new says o has.moves_left 0 has.may_finish).0)
       (subst (λ (t : FetchedCommand). PiecesInside (2 ^ 32) t.places) same has.addresses_are_low)
 
   -- one that is taken
-  pub page_held : (r : TakenCommand) → WorksOnIn here slot r → sends_page (operation_of_kind r.command_kind) ≡ true → Ends r → (o : AllMedia) → HasPageCommand (device_of h o) port slot
+  pub page_held : (r : TakenCommand) → WorksOnIn here slot r → sends_page (operation_of_kind r.command_kind) ≡ true → Ends r → (o : AllMedia) → HasFinishablePageCommand (device_of h o) port slot
   page_held r held kind ends o = record {
     moves_left = ends.0;
     may_finish = record {
       fetched_command = taken_of r;
-      is_covered = covers r ends.0 ends.1;
-      has_clears_left = clears r kind;
+      has_moves_left = covers r ends.0 ends.1;
+      has_trim_runs_left = clears r kind;
       is_begun_or_fetchable = inl (held.works (o.media port));
     };
     sends_page = kind;
@@ -315,15 +315,15 @@ module _ (h : Hardware) (port slot size : ℕ) (sized : size ≡ vec_len h.memor
   }
 
   pub page_unheld : ((r : TakenCommand) → WorksOnIn here slot r → sends_page (operation_of_kind r.command_kind) ≡ true → Ends r → ⊥) → MayTakeNone here slot → (o : AllMedia) →
-      HasPageCommand (device_of h o) port slot → ⊥
+      HasFinishablePageCommand (device_of h o) port slot → ⊥
   page_unheld none never o has =
       let w = ready_held h o port port slot has.moves_left 0 refl has.may_finish never in
       none w.0 w.1 (sym (ap (λ (t : FetchedCommand). sends_page t.meaning.operation) w.2) ∙ has.sends_page)
       (has.moves_left, covers_back w.0 has.moves_left (rest_back h port port slot w.0 refl has.moves_left 0 o has.may_finish w.2).0, subst (λ (t : FetchedCommand). PiecesInside (2 ^ 32) t.places) w.2 has.addresses_are_low)
 
 -- what a look at a slot finds, by whether it can be done to its end
-pub finds : (d : Device) (port slot : ℕ) (ends : Bool) → (ends ≡ true → HasPageCommand d port slot) → (ends ≡ false → MayTakePage d port slot × (HasPageCommand d port slot → ⊥)) →
-    FindsPageCommand d port slot (Some ends)
+pub finds : (d : Device) (port slot : ℕ) (ends : Bool) → (ends ≡ true → HasFinishablePageCommand d port slot) → (ends ≡ false → MayTakePageCommand d port slot × (HasFinishablePageCommand d port slot → ⊥)) →
+    FindsPageCommandAndWhetherItCanEnd d port slot (Some ends)
 finds d port slot true has may = has refl
 finds d port slot false has may = may refl
 
@@ -333,7 +333,7 @@ module _ (h : Hardware) (port slot : ℕ) where
 
   -- one that its slot's bytes say may be taken
   pub may_page : (r : TakenCommand) → DecodesTo (bytes_of h.memory.items) first.addresses.clb slot (taken_of r).meaning (taken_of r).places →
-      sends_page (operation_of_kind r.command_kind) ≡ true → HasIssuedUntaken first slot → IsBeside first r → (o : AllMedia) → MayTakePage (device_of h o) port slot
+      sends_page (operation_of_kind r.command_kind) ≡ true → HasIssuedUntakenOnWorkingPort first slot → IsBeside first r → (o : AllMedia) → MayTakePageCommand (device_of h o) port slot
   may_page r says kind may beside o =
       let m = may (o.media port) (operation_of_kind r.command_kind) beside.0 in
       record {
@@ -344,7 +344,7 @@ module _ (h : Hardware) (port slot : ℕ) where
       }
 
   -- and so may one that can be done to its end, where one may be
-  pub ready_may : HasIssuedUntaken first slot → (o : AllMedia) → HasPageCommand (device_of h o) port slot → MayTakePage (device_of h o) port slot
+  pub ready_may : HasIssuedUntakenOnWorkingPort first slot → (o : AllMedia) → HasFinishablePageCommand (device_of h o) port slot → MayTakePageCommand (device_of h o) port slot
   ready_may may o has = record {
     meaning = has.may_finish.fetched_command.meaning;
     places = has.may_finish.fetched_command.places;
@@ -355,7 +355,7 @@ module _ (h : Hardware) (port slot : ℕ) where
   -- none may be beside others that are taken
   pub page_crowded : (r : TakenCommand) → DecodesTo (bytes_of h.memory.items) first.addresses.clb slot (taken_of r).meaning (taken_of r).places →
       ((m : Media) → admits (halt_of first.halting) (operation_of_kind r.command_kind) ≡ true → IsUnmixed (port_of first m) (operation_of_kind r.command_kind) → ⊥) → (o : AllMedia) →
-      MayTakePage (device_of h o) port slot → ⊥
+      MayTakePageCommand (device_of h o) port slot → ⊥
   page_crowded r says crowded o may =
       let memory = bytes_of h.memory.items in
       let there = fetch_says h o port port slot may.meaning may.places refl may.can in
@@ -366,17 +366,17 @@ module _ (h : Hardware) (port slot : ℕ) where
 
   -- none is said
   pub page_unmeant : ((m : Meaning) (places : List ℕ) → sends_page m.operation ≡ true → DecodesTo (bytes_of h.memory.items) first.addresses.clb slot m places → ⊥) →
-      (o : AllMedia) → MayTakePage (device_of h o) port slot → ⊥
+      (o : AllMedia) → MayTakePageCommand (device_of h o) port slot → ⊥
   page_unmeant none o may = none may.meaning may.places may.sends_page (fetch_says h o port port slot may.meaning may.places refl may.can)
 
   -- none may be taken
-  pub page_barred : MayTakeNone first slot → (o : AllMedia) → MayTakePage (device_of h o) port slot → ⊥
+  pub page_barred : MayTakeNone first slot → (o : AllMedia) → MayTakePageCommand (device_of h o) port slot → ⊥
   page_barred never o may =
       never (o.media port) may.meaning.operation (fetch_takes h o port port slot may.meaning may.places refl may.can)
 
 -- nothing is issued or taken there
 pub page_unused : (h : Hardware) (port slot : ℕ) → word_bits (slice_index_or h.ports port blank_port).ci slot ≡ false → taken_in (slice_index_or h.ports port blank_port).taken slot ≡ None →
-    (o : AllMedia) → FindsPageCommand (device_of h o) port slot None
+    (o : AllMedia) → FindsPageCommandAndWhetherItCanEnd (device_of h o) port slot None
 page_unused h port slot unissued untaken o =
     let never : MayTakeNone (slice_index_or h.ports port blank_port) slot = λ m operation may. true-false may.fetchable.issued unissued in
     (page_barred h port slot never o, page_unheld h port slot _ refl (λ r held kind ends. some-none held.is_taken untaken) never o)

@@ -12,12 +12,12 @@ use Rattle.ata_types.specs.declared.Slot.{Slot}
 use Rattle.sector_store.specs.declared.store.Failures.{Failures}
 use Rattle.device_model.specs.Disks.{numbered_disk, disk_index_of}
 use Rattle.device_model.specs.StepEffects.{AnswersStep, Completes, OwnStepsKeep}
-use Rattle.device_model.specs.Finishing.{FindsPageCommand, HasPageCommand, TapeHasRoom, HasTakenCommand, MayTakePage}
+use Rattle.device_model.specs.Finishing.{FindsPageCommandAndWhetherItCanEnd, HasFinishablePageCommand, TapeHasRoom, HasTakenCommand, MayTakePageCommand}
 use Rattle.device_model.specs.HeldPorts.{IsPortHeld, IsPortReleased}
 use Rattle.device_model.specs.ModelState.{device_at}
-use Rattle.device_model.specs.PageTaking.{TakesPage}
+use Rattle.device_model.specs.PageTaking.{TakesPageCommand}
 use Rattle.device_model.specs.SentFises.{SendsEnd}
-use Rattle.device_model.specs.ModelOwnSteps.{IsSettled, LeadsBySteps, LeavesPageWithoutMemory, NoPageIsLeft, SendsPages}
+use Rattle.device_model.specs.ModelOwnSteps.{IsSettled, LeadsBySteps, LeavesPageWithoutMemory, PageCommandWaitsOnlyIfHeldOrStarved, SendsPages}
 use Rattle.device_model.specs.WholeAdapter.{HasDisks}
 use Rattle.device_model.specs.declared.disks.DiskIndex.{DiskIndex}
 use Rattle.device_model.specs.declared.model.Model.{Model}
@@ -45,12 +45,12 @@ module _ {S : Type 0} (size : S → ℕ) (told : S → Option (ℕ → List ℕ)
     pub out : IsPortHeld left_out port
     pub disks : HasDisks (device_at size told m) port
     pub busy : HasTakenCommand (device_at size told m) port
-    pub has : HasPageCommand (device_at size told m) port slot
+    pub has : HasFinishablePageCommand (device_at size told m) port slot
     pub lacks : TapeHasRoom m.hardware (has.moves_left + 1) → ⊥
 
   -- a port on which nothing more goes on by itself: a command is taken, and one that can be done to its end lacks memory
   abbrev pub Waits : Model S → ℕ → Type 0
-  Waits m q = HasTakenCommand (device_at size told m) q × ((k : ℕ) → HasPageCommand (device_at size told m) q k → m.hardware.starved ≡ true)
+  Waits m q = HasTakenCommand (device_at size told m) q × ((k : ℕ) → HasFinishablePageCommand (device_at size told m) q k → m.hardware.starved ≡ true)
 
   -- So far it came: these ports are left out, each since it is held, or waits; and the tape has lacked memory, or not.
   pub record IsSoFar (first m : Model S) (left_out : List Bool) (lacks : Bool) : Type 0 where
@@ -102,7 +102,7 @@ module _ {S : Type 0} (size : S → ℕ) (told : S → Option (ℕ → List ℕ)
     apart_of q held = λ same. true-false held (subst (IsPortReleased left_out) (sym same) loose)
 
     -- the port is left out from then on, and waits
-    out_then : (new : Model S) → HasTakenCommand (device_at size told new) p.0 → ((k : ℕ) → HasPageCommand (device_at size told new) p.0 k → new.hardware.starved ≡ true) →
+    out_then : (new : Model S) → HasTakenCommand (device_at size told new) p.0 → ((k : ℕ) → HasFinishablePageCommand (device_at size told new) p.0 k → new.hardware.starved ≡ true) →
         ((q : ℕ) → q ≢ p.0 → (device_at size told new).port q ≡ old_device.port q) → (device_at size told new).memory_size ≡ old_device.memory_size →
         (m.hardware.starved ≡ true → new.hardware.starved ≡ true) → (q : ℕ) → IsPortHeld (slice_set left_out p.0 true) q → IsPortHeld first.held q ⊎ Waits new q
     out_then new busy starves ports large on q held =
@@ -127,7 +127,7 @@ module _ {S : Type 0} (size : S → ℕ) (told : S → Option (ℕ → List ℕ)
 
     -- ---- one that can be done to its end is done
 
-    module _ (new : Model S) (answer : Bool) (answers : AnswersStep size told failures (asked.Finish p s) answer m new) (has : HasPageCommand (device_at size told m) p.0 s.0) where
+    module _ (new : Model S) (answer : Bool) (answers : AnswersStep size told failures (asked.Finish p s) answer m new) (has : HasFinishablePageCommand (device_at size told m) p.0 s.0) where
       completes : answer ≡ true → Completes size told failures (asked.Finish p s) m new
       completes e = page_completes size told failures m new p s (did_it size told failures (asked.Finish p s) m new answer answers e) has
 
@@ -180,9 +180,9 @@ module _ {S : Type 0} (size : S → ℕ) (told : S → Option (ℕ → List ℕ)
       -- ---- one that lacks memory is taken, and no more
 
       pub so_far_lacking : (last : Model S) → lacks ≡ false → answer ≡ false → (new.hardware.starved ≡ true) × (TapeHasRoom new.hardware (has.moves_left + 1) → ⊥) →
-          TakesPage size told p.0 s.0 new last → IsSoFar first last (slice_set left_out p.0 true) true
+          TakesPageCommand size told p.0 s.0 new last → IsSoFar first last (slice_set left_out p.0 true) true
       so_far_lacking last fed left missed t =
-          let P : Device → Type 0 = λ d. (there : HasPageCommand d p.0 s.0) × (TapeHasRoom new.hardware (there.moves_left + 1) → ⊥) in
+          let P : Device → Type 0 = λ d. (there : HasFinishablePageCommand d p.0 s.0) × (TapeHasRoom new.hardware (there.moves_left + 1) → ⊥) in
           let one = subst P (sym (same left)) (has, missed.1) in
           let now = t.as_much_is_left one.0 in
           let long : p.0 < length left_out = subst (λ (n : ℕ). p.0 < n) (sym is.long) small in
@@ -218,7 +218,7 @@ module _ {S : Type 0} (size : S → ℕ) (told : S → Option (ℕ → List ℕ)
 
     -- ---- one that can't be done to its end, or for which no memory is looked for, is taken
 
-    pub so_far_taken : (new : Model S) → TakesPage size told p.0 s.0 m new → (lacks ≡ false → (MayTakePage old_device p.0 s.0) × (HasPageCommand old_device p.0 s.0 → ⊥)) →
+    pub so_far_taken : (new : Model S) → TakesPageCommand size told p.0 s.0 m new → (lacks ≡ false → (MayTakePageCommand old_device p.0 s.0) × (HasFinishablePageCommand old_device p.0 s.0 → ⊥)) →
         IsSoFar first new (slice_set left_out p.0 true) lacks
     so_far_taken new t stuck =
         let long : p.0 < length left_out = subst (λ (n : ℕ). p.0 < n) (sym is.long) small in
@@ -239,14 +239,14 @@ module _ {S : Type 0} (size : S → ℕ) (told : S → Option (ℕ → List ℕ)
               );
         }
       where
-        starves : (b : Bool) → lacks ≡ b → (k : ℕ) → HasPageCommand (device_at size told new) p.0 k → new.hardware.starved ≡ true
+        starves : (b : Bool) → lacks ≡ b → (k : ℕ) → HasFinishablePageCommand (device_at size told new) p.0 k → new.hardware.starved ≡ true
         starves true e k has = t.starved_is_kept ∙ (is.lacking e).0
         starves false e k has = let one = stuck e in absurd (one.1 (t.finishable_was_finishable one.0 k has))
 
   -- ---- none is left, on the ports that aren't left out
 
   module _ (first m : Model S) (left_out : List Bool) (lacks : Bool) (is : IsSoFar first m left_out lacks)
-      (none : (port slot : ℕ) → port < 4 → IsPortReleased left_out port → HasDisks (device_at size told m) port → slot < 32 → FindsPageCommand (device_at size told m) port slot None) where
+      (none : (port slot : ℕ) → port < 4 → IsPortReleased left_out port → HasDisks (device_at size told m) port → slot < 32 → FindsPageCommandAndWhetherItCanEnd (device_at size told m) port slot None) where
     by_port : (port : ℕ) → (IsPortReleased left_out port) ⊎ (IsPortHeld first.held port) ⊎ Waits m port
     by_port port = by (slice_index_or left_out port false) refl
       where
@@ -257,15 +257,15 @@ module _ {S : Type 0} (size : S → ℕ) (told : S → Option (ℕ → List ℕ)
     held_still : (port : ℕ) → IsPortHeld first.held port → IsPortHeld m.held port
     held_still port held = ap (λ (l : List Bool). slice_index_or l port false) is.rest.held_ports_are ∙ held
 
-    pub none_left : NoPageIsLeft m.held m.hardware.starved (device_at size told m)
+    pub none_left : PageCommandWaitsOnlyIfHeldOrStarved m.held m.hardware.starved (device_at size told m)
     none_left = record {
-      none_may_be_taken = λ port slot small low disks may.
+      may_be_taken_only_if_held = λ port slot small low disks may.
           elim (by_port port) [
             | inl loose ↦ absurd ((none port slot small loose disks low).0 may)
             | inr (inl held) ↦ held_still port held
             | inr (inr waits) ↦ absurd (busy_bars (device_at size told m) port slot waits.0 may)
           ];
-      none_may_be_finished = λ port slot small low disks has.
+      may_finish_only_if_held_or_starved = λ port slot small low disks has.
           elim (by_port port) [
             | inl loose ↦ absurd ((none port slot small loose disks low).1 has)
             | inr (inl held) ↦ inl (held_still port held)

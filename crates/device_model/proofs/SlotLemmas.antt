@@ -16,7 +16,7 @@ use Rattle.device_model.proofs.Places.{fun_ext, changed_same, changed_other}
 use Rattle.device_model.specs.WordBits.{word_bits}
 use Rattle.device_model.specs.TakenBlocks.{brought, taken_in_slot, taken_list_from}
 use Rattle.device_model.specs.FetchedBytes.{IsNewlyTaken}
-use Rattle.device_model.specs.PortView.{taken_in, taken_slots, taken_of, blank_port}
+use Rattle.device_model.specs.PortView.{taken_in, taken_commands_by_slot, taken_of, blank_port}
 use Rattle.device_model.specs.declared.port.PortModel.{PortModel}
 use Rattle.device_model.specs.declared.port.TakenCommand.{TakenCommand}
 
@@ -163,15 +163,15 @@ held_unseen filled rooms slot command clear =
 
 -- what is taken in a slot is what the command there stands for
 pub slots_changed : (taken : ℕ → Option TakenCommand) (slot : ℕ) (new : Option TakenCommand) →
-    taken_slots (changed taken slot new) ≡ changed (taken_slots taken) slot (option_map taken_of new)
+    taken_commands_by_slot (changed taken slot new) ≡ changed (taken_commands_by_slot taken) slot (option_map taken_of new)
 slots_changed taken slot new =
     fun_ext (λ k.
     elim (eqb_tells k slot) [
       | inl here ↦
-          rw here.1 (ap (option_map taken_of) (changed_same taken slot new) ∙ sym (changed_same (taken_slots taken) slot (option_map taken_of new)))
+          rw here.1 (ap (option_map taken_of) (changed_same taken slot new) ∙ sym (changed_same (taken_commands_by_slot taken) slot (option_map taken_of new)))
       | inr there ↦
           ap (option_map taken_of) (changed_other taken slot new k there.1)
-          ∙ sym (changed_other (taken_slots taken) slot (option_map taken_of new) k there.1)
+          ∙ sym (changed_other (taken_commands_by_slot taken) slot (option_map taken_of new) k there.1)
     ])
 
 -- none is, where it isn't said that one is
@@ -185,16 +185,16 @@ new_begun r new = λ i. record (taken_of r) { moved = new.nothing_is_moved i; bl
 
 -- what is taken in such a slot
 pub slots_begun : (taken : ℕ → Option TakenCommand) (slot : ℕ) (r : TakenCommand) → IsNewlyTaken r →
-    taken_slots (changed taken slot (Some r)) ≡ changed (taken_slots taken) slot (Some (newly_fetched (taken_of r).meaning (taken_of r).places))
+    taken_commands_by_slot (changed taken slot (Some r)) ≡ changed (taken_commands_by_slot taken) slot (Some (newly_fetched (taken_of r).meaning (taken_of r).places))
 slots_begun taken slot r new =
-    slots_changed taken slot (Some r) ∙ ap (λ (t : FetchedCommand). changed (taken_slots taken) slot (Some t)) (new_begun r new)
+    slots_changed taken slot (Some r) ∙ ap (λ (t : FetchedCommand). changed (taken_commands_by_slot taken) slot (Some t)) (new_begun r new)
 
 -- the command that is taken in a slot
-pub slot_taken : (taken : ℕ → Option TakenCommand) (t : TakenCommand) (slot : ℕ) → taken slot ≡ Some t → taken_slots taken slot ≡ Some (taken_of t)
+pub slot_taken : (taken : ℕ → Option TakenCommand) (t : TakenCommand) (slot : ℕ) → taken slot ≡ Some t → taken_commands_by_slot taken slot ≡ Some (taken_of t)
 slot_taken taken t slot is = ap (option_map taken_of) is
 
 -- and what is in a slot is that command
-pub taken_slot : (taken : ℕ → Option TakenCommand) (slot : ℕ) (t : FetchedCommand) → taken_slots taken slot ≡ Some t →
+pub taken_slot : (taken : ℕ → Option TakenCommand) (slot : ℕ) (t : FetchedCommand) → taken_commands_by_slot taken slot ≡ Some t →
     (r : TakenCommand) × (taken slot ≡ Some r) × (t ≡ taken_of r)
 taken_slot taken slot t is = by (taken slot) refl
   where

@@ -6,7 +6,7 @@ use Rattle.adapter.specs.Commands.{Meaning, direction_of, is_queued, is_ranged, 
 use Rattle.adapter.specs.Device.{Disk, DurableState, DevicePort, Device, IsValidSector}
 use Rattle.adapter.specs.Memory.{changed, patched, bytes_at}
 use Rattle.adapter.specs.Decoding.{DecodesTo}
-use Rattle.adapter.specs.Steps.{AreBsyDrqBits, admits, device_after, IsFinished, MayBeDone, MayFault, MayFetch, MayFetchFault, MayMove, MayBring, with_port_and_entry, port_after_clear, port_after_fault, port_after_fetch, port_after_move, port_after_done, port_after_flush, clear_entry, done_entry, fault_entry, move_of, snapshot_of_bytes, memory_after_move, next_place, next_sector}
+use Rattle.adapter.specs.Steps.{AreBsyDrqBits, admits, device_after, IsFinished, MayBeDone, MayFault, MayFetch, MayFetchFault, MayMove, MayBring, with_port_and_entry, port_after_clear, port_after_fault, port_after_fetch, port_after_move, port_after_done, port_with_lasting_after_operation, clear_entry, done_entry, fault_entry, move_of, snapshot_of_bytes, memory_after_move, next_place, next_sector}
 use Rattle.adapter.specs.Steps.DeviceTransition.{Clear, FetchFault, Move, Unplug, Plug}
 use Rattle.adapter.specs.declared.access.FatalError.{FatalError}
 use Rattle.adapter.specs.declared.access.FatalError.TheVariants.{Interface, HostBus}
@@ -19,8 +19,8 @@ use Rattle.adapter.specs.declared.tape.Move as tape_move
 use Rattle.adapter.specs.AskedSteps.{DoesFatal, DoesFault, DoesFetch, EndsAndPosts, fatal_bit}
 use Rattle.device_model.specs.FetchedBytes.{bytes_of}
 use Rattle.device_model.specs.SentFises.{SendsEnd}
-use Rattle.device_model.specs.Slots.{HasIssuedUntaken, MayTake, WorksOnIn, IsNextMove}
-use Rattle.device_model.specs.PortView.{Media, cause_of, halt_of, taken_in, busy_if_left, media_after_move, media_after_clear, media_after_end, operation_of_kind, port_of, taken_of, blank_port}
+use Rattle.device_model.specs.Slots.{HasIssuedUntakenOnWorkingPort, MayTakeIfDecoded, WorksOnIn, IsNextMove}
+use Rattle.device_model.specs.PortView.{Media, cause_of, halt_of, taken_in, bsy_if_disk_left_busy, media_after_move, media_after_clear, media_after_end, operation_of_kind, port_of, taken_of, blank_port}
 use Rattle.device_model.specs.WholeAdapter.{AllMedia, device_of, media_after_plug, all_media_after_move, all_media_after_clear, all_media_after_end, all_media_after_plug}
 use Rattle.device_model.specs.declared.port.TakenCommand.{TakenCommand}
 use Rattle.device_model.specs.declared.port.CommandKind.{CommandKind}
@@ -45,7 +45,7 @@ moved_by port slot operation sector address direction bytes = record {
 
 -- a command is taken
 pub port_takes : (h : Hardware) (o : AllMedia) (p port slot : ℕ) (new : PortModel) (t : TakenCommand) → p ≡ port → p < length h.ports →
-    MayTake (port_of (slice_index_or h.ports p blank_port) (o.media p)) slot (operation_of_kind t.command_kind) →
+    MayTakeIfDecoded (port_of (slice_index_or h.ports p blank_port) (o.media p)) slot (operation_of_kind t.command_kind) →
     DecodesTo (device_of h o).memory ((device_of h o).port p).bases.clb slot (taken_of t).meaning (taken_of t).places →
     port_of new (o.media p) ≡ port_after_fetch (port_of (slice_index_or h.ports p blank_port) (o.media p)) slot (taken_of t).meaning (taken_of t).places →
     DoesFetch port slot (device_of h o) (device_of (record h { ports = slice_set h.ports p new }) o)
@@ -60,7 +60,7 @@ port_takes h o p port slot new t e small may says is =
 
 -- where a command may be fetched, it may be taken
 pub fetch_takes : (h : Hardware) (o : AllMedia) (p port slot : ℕ) (m : Meaning) (places : List ℕ) → p ≡ port →
-    MayFetch (device_of h o) port slot m places → MayTake (port_of (slice_index_or h.ports p blank_port) (o.media p)) slot m.operation
+    MayFetch (device_of h o) port slot m places → MayTakeIfDecoded (port_of (slice_index_or h.ports p blank_port) (o.media p)) slot m.operation
 fetch_takes h o p port slot m places e may =
     rw e (record { fetchable = may.fetchable; working = may.working; is_unmixed = may.is_unmixed })
 
@@ -123,7 +123,7 @@ may_end h o port slot t holds all = record {
 -- a command is at its end, and its FIS is sent
 pub port_ends : (h : Hardware) (o : AllMedia) (p port slot : ℕ) (new : PortModel) (t : TakenCommand) (tape : Vec Entry) (last : Device) → p ≡ port →
     p < length h.ports → WorksOnIn (slice_index_or h.ports p blank_port) slot t → IsFinished (taken_of t) →
-    port_of new (media_after_end (o.media p) (operation_of_kind t.command_kind)) ≡ port_after_flush (port_after_done (port_of (slice_index_or h.ports p blank_port) (o.media p)) slot (cause_of t.command_kind) (operation_of_kind t.command_kind)) (operation_of_kind t.command_kind) (length h.tape.items) →
+    port_of new (media_after_end (o.media p) (operation_of_kind t.command_kind)) ≡ port_with_lasting_after_operation (port_after_done (port_of (slice_index_or h.ports p blank_port) (o.media p)) slot (cause_of t.command_kind) (operation_of_kind t.command_kind)) (operation_of_kind t.command_kind) (length h.tape.items) →
     tape.items ≡ h.tape.items ++ done_entry port slot (operation_of_kind t.command_kind) ∷ [] →
     SendsEnd slot p (cause_of t.command_kind) (operation_of_kind t.command_kind) (device_of (record h { ports = slice_set h.ports p new; tape = tape }) (all_media_after_end o p (operation_of_kind t.command_kind))) last →
     EndsAndPosts (SendsEnd slot) port slot (device_of h o) last
@@ -141,7 +141,7 @@ port_ends h o p port slot new t tape last e small holds all is more sends =
     })
 
 -- what is issued and means no command may fail for that, where no fault keeps it waiting
-pub may_fail_senseless : (h : Hardware) (o : AllMedia) (p port slot : ℕ) → p ≡ port → HasIssuedUntaken (slice_index_or h.ports p blank_port) slot →
+pub may_fail_senseless : (h : Hardware) (o : AllMedia) (p port slot : ℕ) → p ≡ port → HasIssuedUntakenOnWorkingPort (slice_index_or h.ports p blank_port) slot →
     admits (halt_of (slice_index_or h.ports p blank_port).halting) Identify ≡ true →
     ((m : Meaning) (places : List ℕ) → DecodesTo (bytes_of h.memory.items) (slice_index_or h.ports p blank_port).addresses.clb slot m places → ⊥) →
     MayFetchFault (device_of h o) port slot 0
@@ -160,13 +160,13 @@ port_fails_senseless h o p port slot new tape e small is more =
     subst P e (set_port_recorded h o p new _ tape (fault_entry p slot 4 0) small is (rw (← e) at more))
 
 -- BSY is one of the bits that may be left set
-kept_well : (busy : Bool) → AreBsyDrqBits (busy_if_left busy)
+kept_well : (busy : Bool) → AreBsyDrqBits (bsy_if_disk_left_busy busy)
 kept_well true = refl
 kept_well false = refl
 
 -- a command that is taken may fail, while the engine runs
 pub may_fail : (h : Hardware) (o : AllMedia) (port slot error : ℕ) (busy : Bool) (t : TakenCommand) → error < 256 → taken_in (slice_index_or h.ports port blank_port).taken slot ≡ Some t →
-    (slice_index_or h.ports port blank_port).cr ≡ true → MayFault ((device_of h o).port port) slot error (busy_if_left busy) (taken_of t)
+    (slice_index_or h.ports port blank_port).cr ≡ true → MayFault ((device_of h o).port port) slot error (bsy_if_disk_left_busy busy) (taken_of t)
 may_fail h o port slot error busy t byte held cr = record {
   taken = slot_taken (taken_in (slice_index_or h.ports port blank_port).taken) t slot held;
   cr_is_set = cr;
@@ -177,19 +177,19 @@ may_fail h o port slot error busy t byte held cr = record {
 -- and it does
 pub port_fails : (h : Hardware) (o : AllMedia) (p port slot error : ℕ) (busy : Bool) (new : PortModel) (t : TakenCommand) (queued : Bool) (tape : Vec Entry) → p ≡ port →
     p < length h.ports → error < 256 → taken_in (slice_index_or h.ports port blank_port).taken slot ≡ Some t → (slice_index_or h.ports port blank_port).cr ≡ true →
-    queued ≡ is_queued (operation_of_kind t.command_kind) → port_of new (o.media p) ≡ port_after_fault (port_of (slice_index_or h.ports p blank_port) (o.media p)) queued error (busy_if_left busy) →
-    tape.items ≡ h.tape.items ++ fault_entry port slot error (busy_if_left busy) ∷ [] →
-    (f : DoesFault port slot error (busy_if_left busy) (device_of h o) (device_of (record h { ports = slice_set h.ports p new; tape = tape }) o)) × (queued ≡ is_queued f.fetched_command.meaning.operation)
+    queued ≡ is_queued (operation_of_kind t.command_kind) → port_of new (o.media p) ≡ port_after_fault (port_of (slice_index_or h.ports p blank_port) (o.media p)) queued error (bsy_if_disk_left_busy busy) →
+    tape.items ≡ h.tape.items ++ fault_entry port slot error (bsy_if_disk_left_busy busy) ∷ [] →
+    (f : DoesFault port slot error (bsy_if_disk_left_busy busy) (device_of h o) (device_of (record h { ports = slice_set h.ports p new; tape = tape }) o)) × (queued ≡ is_queued f.fetched_command.meaning.operation)
 port_fails h o p port slot error busy new t queued tape e small byte held cr kind is more = (
   record {
     fetched_command = taken_of t;
     can = may_fail h o port slot error busy t byte held cr;
     effect =
         let P : ℕ → Type 0 = λ q. device_of (record h { ports = slice_set h.ports p new; tape = tape }) o
-        ≡ with_port_and_entry (device_of h o) q (port_after_fault ((device_of h o).port q) (is_queued (operation_of_kind t.command_kind)) error (busy_if_left busy)) (fault_entry q slot error (busy_if_left busy)) in
+        ≡ with_port_and_entry (device_of h o) q (port_after_fault ((device_of h o).port q) (is_queued (operation_of_kind t.command_kind)) error (bsy_if_disk_left_busy busy)) (fault_entry q slot error (bsy_if_disk_left_busy busy)) in
         subst P e
-        (set_port_recorded h o p new _ tape (fault_entry p slot error (busy_if_left busy)) small
-        (is ∙ ap (λ (b : Bool). port_after_fault (port_of (slice_index_or h.ports p blank_port) (o.media p)) b error (busy_if_left busy)) kind) (rw (← e) at more));
+        (set_port_recorded h o p new _ tape (fault_entry p slot error (bsy_if_disk_left_busy busy)) small
+        (is ∙ ap (λ (b : Bool). port_after_fault (port_of (slice_index_or h.ports p blank_port) (o.media p)) b error (bsy_if_disk_left_busy busy)) kind) (rw (← e) at more));
   },
   kind,
 )

@@ -20,12 +20,12 @@ use Rattle.ata_types.specs.declared.Port.{Port}
 use Rattle.ata_types.specs.declared.Slot.{Slot}
 use Rattle.sector_store.specs.declared.store.Failures.{Failures}
 use Rattle.device_model.specs.Disks.{EndsCommandIn, OnlyEndsCommand, BayEndsCommand, OnlyChangesPageSource, bay_of, disk_in_bay, lasting_of, page_source_of, disk_index_of}
-use Rattle.device_model.specs.StepEffects.{AnswersStep, DoesAllItAsks, IsLeftOut, is_cache_loss, MayBeFetched, StepKeeps, LacksMemory, IsPossible, asked_fault, asked_port, page_source_after, page_source_after_failure, disk_index_after}
-use Rattle.device_model.specs.Finishing.{TapeHasRoom, IsStepSkipped}
+use Rattle.device_model.specs.StepEffects.{AnswersStep, EndsIfFinishAndClearsRunIfClear, IsLeftOut, is_cache_loss, MayBeFetchedOrAborted, StepKeeps, LacksMemory, IsPossible, asked_fault, asked_port, page_source_after, page_source_after_failure, disk_index_after}
+use Rattle.device_model.specs.Finishing.{TapeHasRoom, IsImpossibleOrLacksTape}
 use Rattle.device_model.specs.HeldPorts.{held_after}
 use Rattle.device_model.specs.ModelState.{device_at, media_of, all_media_at, tells}
-use Rattle.device_model.specs.SentFises.{Sends, SendsEnd, SendsFaultOfOperation, SendsFault}
-use Rattle.device_model.specs.PortView.{busy_if_left, media_after_end}
+use Rattle.device_model.specs.SentFises.{SendsFisOfAskedStep, SendsEnd, SendsFaultOfOperation, SendsFault}
+use Rattle.device_model.specs.PortView.{bsy_if_disk_left_busy, media_after_end}
 use Rattle.device_model.specs.WholeAdapter.{AllMedia, device_of, all_media_after_end}
 use Rattle.device_model.specs.declared.hardware.Hardware.{Hardware}
 use Rattle.device_model.specs.WriteCaches.{lasting_in}
@@ -117,12 +117,12 @@ module _ {S : Type 0} (size : S → ℕ) (told : S → Option (ℕ → List ℕ)
   behind = all_media_at size told m
 
   pub on_hardware : StepKeeps size m new
-  on_hardware = record { identities_are_kept = λ _ _. refl; absent_disks_are_kept = λ _ _ _. refl; caches_are_kept = λ _. refl; queue_is_kept = refl; access_count_is_kept = refl }
+  on_hardware = record { identities_are_kept = λ _ _. refl; disks_not_last_in_are_kept = λ _ _ _. refl; cache_modes_are_kept = λ _. refl; queue_is_kept = refl; access_count_is_kept = refl }
 
   -- a step that notes one entry wasn't done
   passed_left : (s : DeviceStep) (possible : Type 0) → (IsPossible s (device_at size told m) → possible) → (possible → IsPossible s (device_at size told m)) →
       ((TapeHasRoom m.hardware 1 → ⊥) → LacksMemory s (device_at size told m) m.hardware m.bays.items) → device_of h behind ≡ device_of m.hardware behind →
-      IsStepSkipped m.hardware h possible → IsLeftOut size told failures s m new
+      IsImpossibleOrLacksTape m.hardware h possible → IsLeftOut size told failures s m new
   passed_left s possible forth back lacks same (inl never) = record {
     device_is_kept = same;
     held_ports_are = refl;
@@ -130,7 +130,7 @@ module _ {S : Type 0} (size : S → ℕ) (told : S → Option (ℕ → List ℕ)
     disk_index_is = refl;
     other_bays_are_kept = λ _ _. refl;
     disks_are_kept = λ _. refl;
-    lacks_memory = λ _ may. absurd (never.0 (forth may));
+    possible_step_lacks_memory = λ _ may. absurd (never.0 (forth may));
     step_keeps = on_hardware;
     stays_starved = λ yes. ap (λ (x : Hardware). x.starved) never.1 ∙ yes;
     starves_for_want = λ yes. inl (sym (ap (λ (x : Hardware). x.starved) never.1) ∙ yes);
@@ -142,7 +142,7 @@ module _ {S : Type 0} (size : S → ℕ) (told : S → Option (ℕ → List ℕ)
     disk_index_is = refl;
     other_bays_are_kept = λ _ _. refl;
     disks_are_kept = λ _. refl;
-    lacks_memory = λ _ may. (lacks missed.1, missed.2);
+    possible_step_lacks_memory = λ _ may. (lacks missed.1, missed.2);
     step_keeps = on_hardware;
     stays_starved = λ _. missed.2;
     starves_for_want = λ _. inr (back missed.0, lacks missed.1);
@@ -150,7 +150,7 @@ module _ {S : Type 0} (size : S → ℕ) (told : S → Option (ℕ → List ℕ)
 
   -- nothing was taken, and nothing failed
   fetch_left : (p : Port) (s : Slot) → p.0 < 4 → s.0 < 32 → ((g : Meaning) (places : List ℕ) → Can (Fetch p.0 s.0 g places) (device_of m.hardware behind) → ⊥) →
-      device_of h behind ≡ device_of m.hardware behind → IsStepSkipped m.hardware h (Can (FetchFault p.0 s.0 false 0) (device_of m.hardware behind)) →
+      device_of h behind ≡ device_of m.hardware behind → IsImpossibleOrLacksTape m.hardware h (Can (FetchFault p.0 s.0 false 0) (device_of m.hardware behind)) →
       IsLeftOut size told failures (asked.Fetch p s) m new
   fetch_left p s port slot only same (inl never) = record {
     device_is_kept = same;
@@ -159,13 +159,13 @@ module _ {S : Type 0} (size : S → ℕ) (told : S → Option (ℕ → List ℕ)
     disk_index_is = refl;
     other_bays_are_kept = λ _ _. refl;
     disks_are_kept = λ _. refl;
-    lacks_memory = λ _ may. absurd (none may.2);
+    possible_step_lacks_memory = λ _ may. absurd (none may.2);
     step_keeps = on_hardware;
     stays_starved = λ yes. ap (λ (x : Hardware). x.starved) never.1 ∙ yes;
     starves_for_want = λ yes. inl (sym (ap (λ (x : Hardware). x.starved) never.1) ∙ yes);
   }
     where
-      none : MayBeFetched (device_of m.hardware behind) p.0 s.0 → ⊥
+      none : MayBeFetchedOrAborted (device_of m.hardware behind) p.0 s.0 → ⊥
       none (inl may) = only may.0 may.1 may.2
       none (inr may) = never.0 may
   fetch_left p s port slot only same (inr missed) = record {
@@ -175,7 +175,7 @@ module _ {S : Type 0} (size : S → ℕ) (told : S → Option (ℕ → List ℕ)
     disk_index_is = refl;
     other_bays_are_kept = λ _ _. refl;
     disks_are_kept = λ _. refl;
-    lacks_memory = λ _ _. ((missed.0, missed.1), missed.2);
+    possible_step_lacks_memory = λ _ _. ((missed.0, missed.1), missed.2);
     step_keeps = on_hardware;
     stays_starved = λ _. missed.2;
     starves_for_want = λ _. inr ((port, slot, inr missed.0), (missed.0, missed.1));
@@ -187,7 +187,7 @@ module _ {S : Type 0} (size : S → ℕ) (told : S → Option (ℕ → List ℕ)
   fetch_answers p s port slot f tape starved = (
     (port, slot, inl (f.meaning, f.places, f.can)),
     record {
-      completes_or_fails = inl (record { does_asked_step = f; no_call_failed = λ _ _ _. refl; page_source_is = refl; does_all_it_asks = λ _. tt; loses_cache = λ yes. true-false yes refl });
+      completes_or_fails = inl (record { does_asked_step = f; no_call_failed = λ _ _ _. refl; page_source_is = refl; clear_and_finish_do_all_below_4_gib = λ _. tt; lose_plug_loses_cache = λ yes. true-false yes refl });
       held_ports_are = refl;
       disk_index_is = refl;
       other_bays_are_kept = λ _ _. refl;
@@ -202,7 +202,7 @@ module _ {S : Type 0} (size : S → ℕ) (told : S → Option (ℕ → List ℕ)
   pub senseless_answers : (p : Port) (s : Slot) (did : Bool) → p.0 < 4 → s.0 < 32 →
       ((g : Meaning) (places : List ℕ) → Can (Fetch p.0 s.0 g places) (device_of m.hardware behind) → ⊥) →
       (did ≡ true → Can (FetchFault p.0 s.0 false 0) (device_of m.hardware behind) × SendsFault false p.0 (device_after (FetchFault p.0 s.0 false 0) (device_of m.hardware behind)) (device_of h behind)) →
-      (did ≡ false → device_of h behind ≡ device_of m.hardware behind) → (did ≡ false → IsStepSkipped m.hardware h (Can (FetchFault p.0 s.0 false 0) (device_of m.hardware behind))) →
+      (did ≡ false → device_of h behind ≡ device_of m.hardware behind) → (did ≡ false → IsImpossibleOrLacksTape m.hardware h (Can (FetchFault p.0 s.0 false 0) (device_of m.hardware behind))) →
       (did ≡ true → h.starved ≡ m.hardware.starved) → AnswersStep size told failures (asked.Fetch p s) did m new
   senseless_answers p s true port slot only done same passed starved =
       let d = done refl in (
@@ -243,8 +243,8 @@ module _ {S : Type 0} (size : S → ℕ) (told : S → Option (ℕ → List ℕ)
             no_call_failed = λ _ q w. put_same put m last p.0 items (λ x. option_map (λ (y : ModelDisk S). failures y.store) (option_map (λ (y : Bay S). disk_in_bay y w) x))
                 (λ b e. ap (λ (x : Bay S). Some (failures (disk_in_bay x w).store)) (rest b e).0) q;
             page_source_is = put_same put m last p.0 items (option_map (λ (y : Bay S). y.page_source)) (λ b e. ap (λ (x : Bay S). Some x.page_source) (rest b e).0) p.0;
-            does_all_it_asks = λ _. tt;
-            loses_cache = λ yes. true-false yes refl;
+            clear_and_finish_do_all_below_4_gib = λ _. tt;
+            lose_plug_loses_cache = λ yes. true-false yes refl;
           });
           held_ports_are = refl;
           disk_index_is = put_same put m last p.0 items (option_map (λ (y : Bay S). y.which)) (λ b e. ap (λ (x : Bay S). Some x.which) (rest b e).0) p.0;
@@ -258,7 +258,7 @@ module _ {S : Type 0} (size : S → ℕ) (told : S → Option (ℕ → List ℕ)
 
   -- none did
   pub done_left : (p : Port) (s : Slot) → p.0 < 4 → s.0 < 32 → device_of h behind ≡ device_of m.hardware behind →
-      IsStepSkipped m.hardware h ((flag : ℕ) × (t : FetchedCommand) × Can (Done p.0 s.0 flag t) (device_of m.hardware behind)) → AnswersStep size told failures (asked.Done p s) false m new
+      IsImpossibleOrLacksTape m.hardware h ((flag : ℕ) × (t : FetchedCommand) × Can (Done p.0 s.0 flag t) (device_of m.hardware behind)) → AnswersStep size told failures (asked.Done p s) false m new
   done_left p s port slot same passed =
       passed_left (asked.Done p s) ((flag : ℕ) × (t : FetchedCommand) × Can (Done p.0 s.0 flag t) (device_of m.hardware behind)) (λ may. (may.2, may.3, may.4))
       (λ may. (port, slot, may.0, may.1, may.2)) (λ none. none) same passed
@@ -266,8 +266,8 @@ module _ {S : Type 0} (size : S → ℕ) (told : S → Option (ℕ → List ℕ)
   -- a command that is taken fails: in the model the log names it, if it is queued
   module _ (step : DeviceStep) (s : Slot) (error kept : ℕ) (may : IsPossible step (device_at size told m))
       (f : FailsAndPosts SendsFaultOfOperation (asked_port step) s.0 error kept (device_of m.hardware behind) (device_of h behind)) (starved : h.starved ≡ m.hardware.starved)
-      (done : (old last : Device) → FailsAndPosts SendsFaultOfOperation (asked_port step) s.0 error kept old last → DoesAskedStep (Sends step) step old last)
-      (ends : (old last : Device) → DoesAllItAsks step old last)
+      (done : (old last : Device) → FailsAndPosts SendsFaultOfOperation (asked_port step) s.0 error kept old last → DoesAskedStep (SendsFisOfAskedStep step) step old last)
+      (ends : (old last : Device) → EndsIfFinishAndClearsRunIfClear step old last)
       (safe : is_cache_loss step ≡ false)
       (tells : (said : Option PageSource) → page_source_after step (device_at size told m) said ≡ page_source_after_failure (((device_at size told m).port (asked_port step)).taken s.0) s.0 error said)
       (held : m.held ≡ held_after step m.held) (which : disk_index_of m (asked_port step) ≡ disk_index_after step (disk_index_of m (asked_port step))) where
@@ -290,7 +290,7 @@ module _ {S : Type 0} (size : S → ℕ) (told : S → Option (ℕ → List ℕ)
     plain_fails plain = (
       may,
       record {
-        completes_or_fails = inl (record { does_asked_step = done _ _ f; no_call_failed = λ _ _ _. refl; page_source_is = said false plain; does_all_it_asks = λ _. ends _ _; loses_cache = λ yes. true-false yes safe });
+        completes_or_fails = inl (record { does_asked_step = done _ _ f; no_call_failed = λ _ _ _. refl; page_source_is = said false plain; clear_and_finish_do_all_below_4_gib = λ _. ends _ _; lose_plug_loses_cache = λ yes. true-false yes safe });
         held_ports_are = held;
         disk_index_is = which;
         other_bays_are_kept = λ _ _. refl;
@@ -312,8 +312,8 @@ module _ {S : Type 0} (size : S → ℕ) (told : S → Option (ℕ → List ℕ)
               does_asked_step = done _ _ (subst P (sym (saying_outside name m last at only size told)) f);
               no_call_failed = λ _ q w. saying_same name m last at only (λ x. option_map (λ (y : ModelDisk S). failures y.store) (option_map (λ (y : Bay S). disk_in_bay y w) x)) (λ b. refl) q;
               page_source_is = saying_here name m last at only ∙ said true queued;
-              does_all_it_asks = λ _. ends _ _;
-              loses_cache = λ yes. true-false yes safe;
+              clear_and_finish_do_all_below_4_gib = λ _. ends _ _;
+              lose_plug_loses_cache = λ yes. true-false yes safe;
             });
             held_ports_are = held;
             disk_index_is = saying_same name m last at only (option_map (λ (y : Bay S). y.which)) (λ b. refl) at ∙ which;
@@ -327,7 +327,7 @@ module _ {S : Type 0} (size : S → ℕ) (told : S → Option (ℕ → List ℕ)
 
   -- the one or the other: its disk is left busy, or not
   pub plain_answers : (busy : Bool) (p : Port) (s : Slot) (error : ℕ) → p.0 < 4 → s.0 < 32 →
-      (f : FailsAndPosts SendsFaultOfOperation p.0 s.0 error (busy_if_left busy) (device_of m.hardware behind) (device_of h behind)) → h.starved ≡ m.hardware.starved →
+      (f : FailsAndPosts SendsFaultOfOperation p.0 s.0 error (bsy_if_disk_left_busy busy) (device_of m.hardware behind) (device_of h behind)) → h.starved ≡ m.hardware.starved →
       is_queued f.fault.fetched_command.meaning.operation ≡ false → AnswersStep size told failures (asked_fault busy p s error) true m new
   plain_answers false p s error port slot f starved plain =
       plain_fails (asked.Fault p s error) s error 0 (port, slot, f.fault.fetched_command, f.fault.can) f starved (λ _ _ g. g) (λ _ _. tt) refl (λ _. refl) refl refl plain
@@ -335,7 +335,7 @@ module _ {S : Type 0} (size : S → ℕ) (told : S → Option (ℕ → List ℕ)
       plain_fails (asked.FaultBusy p s error) s error busy_bit (port, slot, f.fault.fetched_command, f.fault.can) f starved (λ _ _ g. g) (λ _ _. tt) refl (λ _. refl) refl refl plain
 
   pub queued_answers : (busy : Bool) (p : Port) (s : Slot) (error : ℕ) → p.0 < 4 → s.0 < 32 →
-      (f : FailsAndPosts SendsFaultOfOperation p.0 s.0 error (busy_if_left busy) (device_of m.hardware behind) (device_of h behind)) → h.starved ≡ m.hardware.starved →
+      (f : FailsAndPosts SendsFaultOfOperation p.0 s.0 error (bsy_if_disk_left_busy busy) (device_of m.hardware behind) (device_of h behind)) → h.starved ≡ m.hardware.starved →
       (bays : Vec (Option (Bay S))) → OnlyChangesPageSource (with_logged_error (record { tag = s.0; error = error })) p.0 m.bays.items bays.items →
       is_queued f.fault.fetched_command.meaning.operation ≡ true → AnswersStep size told failures (asked_fault busy p s error) true m (record new { bays = bays })
   queued_answers false p s error port slot f starved bays only queued =
@@ -345,7 +345,7 @@ module _ {S : Type 0} (size : S → ℕ) (told : S → Option (ℕ → List ℕ)
 
   -- none did
   pub fail_left : (busy : Bool) (p : Port) (s : Slot) (error : ℕ) → p.0 < 4 → s.0 < 32 → device_of h behind ≡ device_of m.hardware behind →
-      IsStepSkipped m.hardware h ((t : FetchedCommand) × Can (Fault p.0 s.0 error (busy_if_left busy) t) (device_of m.hardware behind)) →
+      IsImpossibleOrLacksTape m.hardware h ((t : FetchedCommand) × Can (Fault p.0 s.0 error (bsy_if_disk_left_busy busy) t) (device_of m.hardware behind)) →
       AnswersStep size told failures (asked_fault busy p s error) false m new
   fail_left false p s error port slot same passed =
       passed_left (asked.Fault p s error) ((t : FetchedCommand) × Can (Fault p.0 s.0 error 0 t) (device_of m.hardware behind)) (λ may. (may.2, may.3))
@@ -362,7 +362,7 @@ module _ {S : Type 0} (size : S → ℕ) (told : S → Option (ℕ → List ℕ)
       let d = done refl in (
         (port, d.receives),
         record {
-          completes_or_fails = inl (record { does_asked_step = d; no_call_failed = λ _ _ _. refl; page_source_is = refl; does_all_it_asks = λ _. tt; loses_cache = λ yes. true-false yes refl });
+          completes_or_fails = inl (record { does_asked_step = d; no_call_failed = λ _ _ _. refl; page_source_is = refl; clear_and_finish_do_all_below_4_gib = λ _. tt; lose_plug_loses_cache = λ yes. true-false yes refl });
           held_ports_are = refl;
           disk_index_is = refl;
           other_bays_are_kept = λ _ _. refl;
@@ -380,16 +380,16 @@ module _ {S : Type 0} (size : S → ℕ) (told : S → Option (ℕ → List ℕ)
   noted_answers : (s : DeviceStep) (did : Bool) (possible : Type 0) (note : Entry) → ((x : Move) → note ≡ entry.Move x → ⊥) →
       (IsPossible s (device_at size told m) → possible) → (possible → IsPossible s (device_at size told m)) →
       ((TapeHasRoom m.hardware 1 → ⊥) → LacksMemory s (device_at size told m) m.hardware m.bays.items) → page_source_of m (asked_port s) ≡ page_source_after s (device_at size told m) (page_source_of m (asked_port s)) →
-      m.held ≡ held_after s m.held → disk_index_of m (asked_port s) ≡ disk_index_after s (disk_index_of m (asked_port s)) → DoesAllItAsks s (device_of m.hardware behind) (device_of h behind) →
+      m.held ≡ held_after s m.held → disk_index_of m (asked_port s) ≡ disk_index_after s (disk_index_of m (asked_port s)) → EndsIfFinishAndClearsRunIfClear s (device_of m.hardware behind) (device_of h behind) →
       is_cache_loss s ≡ false →
-      (did ≡ true → possible × DoesAskedStep (Sends s) s (device_of m.hardware behind) (device_of h behind) × (h.tape.items ≡ m.hardware.tape.items ++ note ∷ [])) →
-      (did ≡ false → device_of h behind ≡ device_of m.hardware behind) → (did ≡ false → IsStepSkipped m.hardware h possible) →
+      (did ≡ true → possible × DoesAskedStep (SendsFisOfAskedStep s) s (device_of m.hardware behind) (device_of h behind) × (h.tape.items ≡ m.hardware.tape.items ++ note ∷ [])) →
+      (did ≡ false → device_of h behind ≡ device_of m.hardware behind) → (did ≡ false → IsImpossibleOrLacksTape m.hardware h possible) →
       (did ≡ true → h.starved ≡ m.hardware.starved) → AnswersStep size told failures s did m new
   noted_answers s true possible note no_move forth back lacks says held which ends safe done same passed starved =
       let d = done refl in (
         back d.0,
         record {
-          completes_or_fails = inl (record { does_asked_step = d.1; no_call_failed = λ _ _ _. refl; page_source_is = says; does_all_it_asks = λ _. ends; loses_cache = λ yes. true-false yes safe });
+          completes_or_fails = inl (record { does_asked_step = d.1; no_call_failed = λ _ _ _. refl; page_source_is = says; clear_and_finish_do_all_below_4_gib = λ _. ends; lose_plug_loses_cache = λ yes. true-false yes safe });
           held_ports_are = held;
           disk_index_is = which;
           other_bays_are_kept = λ _ _. refl;
@@ -404,7 +404,7 @@ module _ {S : Type 0} (size : S → ℕ) (told : S → Option (ℕ → List ℕ)
 
   pub fatal_answers : (p : Port) (error : FatalError) (did : Bool) → p.0 < 4 → (did ≡ true → DoesFatal p.0 error (device_of m.hardware behind) (device_of h behind)) →
       (did ≡ false → device_of h behind ≡ device_of m.hardware behind) →
-      (did ≡ false → IsStepSkipped m.hardware h (Can (Fatal p.0 (fatal_bit error)) (device_of m.hardware behind))) →
+      (did ≡ false → IsImpossibleOrLacksTape m.hardware h (Can (Fatal p.0 (fatal_bit error)) (device_of m.hardware behind))) →
       (did ≡ true → h.starved ≡ m.hardware.starved) → AnswersStep size told failures (asked.Fatal p error) did m new
   fatal_answers p error did port done same passed starved =
       noted_answers (asked.Fatal p error) did (Can (Fatal p.0 (fatal_bit error)) (device_of m.hardware behind)) (entry.Fatal p) (λ x e. absurd (cc e))
@@ -413,7 +413,7 @@ module _ {S : Type 0} (size : S → ℕ) (told : S → Option (ℕ → List ℕ)
 
   pub unplug_answers : (p : Port) (did : Bool) → p.0 < 4 →
       (did ≡ true → Can (Unplug p.0) (device_of m.hardware behind) × (device_of h behind ≡ device_after (Unplug p.0) (device_of m.hardware behind))) →
-      (did ≡ false → device_of h behind ≡ device_of m.hardware behind) → (did ≡ false → IsStepSkipped m.hardware h (Can (Unplug p.0) (device_of m.hardware behind))) →
+      (did ≡ false → device_of h behind ≡ device_of m.hardware behind) → (did ≡ false → IsImpossibleOrLacksTape m.hardware h (Can (Unplug p.0) (device_of m.hardware behind))) →
       (did ≡ true → h.starved ≡ m.hardware.starved) → AnswersStep size told failures (asked.Unplug p) did m new
   unplug_answers p did port done same passed starved =
       noted_answers (asked.Unplug p) did (Can (Unplug p.0) (device_of m.hardware behind)) (entry.Unplug p) (λ x e. absurd (cc e))
@@ -428,7 +428,7 @@ module _ {S : Type 0} (size : S → ℕ) (told : S → Option (ℕ → List ℕ)
   lied = record m { bays = bays }
 
   -- a step that asks for nothing else is done
-  pub lie_answers : IsPossible s (device_at size told m) → ((old new : Device) → new ≡ old → DoesAskedStep (Sends s) s old new) → ((old new : Device) → DoesAllItAsks s old new) →
+  pub lie_answers : IsPossible s (device_at size told m) → ((old new : Device) → new ≡ old → DoesAskedStep (SendsFisOfAskedStep s) s old new) → ((old new : Device) → EndsIfFinishAndClearsRunIfClear s old new) →
       is_cache_loss s ≡ false →
       option_map name (page_source_of m (asked_port s)) ≡ page_source_after s (device_at size told m) (page_source_of m (asked_port s)) → m.held ≡ held_after s m.held →
       disk_index_of m (asked_port s) ≡ disk_index_after s (disk_index_of m (asked_port s)) → AnswersStep size told failures s true m lied
@@ -440,8 +440,8 @@ module _ {S : Type 0} (size : S → ℕ) (told : S → Option (ℕ → List ℕ)
             does_asked_step = done _ _ (ap (λ (o : AllMedia). device_of m.hardware o) (saying_outside name m lied port only size told));
             no_call_failed = λ _ q w. saying_same name m lied port only (λ x. option_map (λ (y : ModelDisk S). failures y.store) (option_map (λ (y : Bay S). disk_in_bay y w) x)) (λ b. refl) q;
             page_source_is = saying_here name m lied port only ∙ says;
-            does_all_it_asks = λ _. ends _ _;
-            loses_cache = λ yes. true-false yes safe;
+            clear_and_finish_do_all_below_4_gib = λ _. ends _ _;
+            lose_plug_loses_cache = λ yes. true-false yes safe;
           });
           held_ports_are = held;
           disk_index_is = saying_same name m lied port only (option_map (λ (y : Bay S). y.which)) (λ b. refl) port ∙ which;

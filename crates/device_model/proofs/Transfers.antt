@@ -11,7 +11,7 @@ use Rattle.adapter.specs.declared.command.Operation.{Operation}
 use Rattle.adapter.specs.declared.command.Operation.TheVariants.{Identify, Read, ReadQueued, Write, WriteQueued, Flush, Trim, ReadLog}
 use Rattle.device_model.proofs.Absurd.{true-false}
 use Rattle.device_model.specs.Finishing.{sends_page}
-use Rattle.device_model.specs.Trims.{changes_ahead, written_ahead}
+use Rattle.device_model.specs.Trims.{sectors_left_to_change, sectors_left_to_write}
 use Rattle.device_model.specs.PortView.{operation_of_kind}
 use Rattle.device_model.specs.declared.port.CommandKind.{CommandKind}
 use Rattle.device_model.specs.declared.port.CommandKind.TheVariants as command_kind
@@ -130,7 +130,7 @@ page_unranged Write e = absurd (cc e)
 page_unranged ReadQueued e = absurd (cc e)
 page_unranged WriteQueued e = absurd (cc e)
 
-pub page_unwritten : (o : Operation) (left : ℕ) → sends_page o ≡ true → written_ahead o left ≡ 0
+pub page_unwritten : (o : Operation) (left : ℕ) → sends_page o ≡ true → sectors_left_to_write o left ≡ 0
 page_unwritten Identify left e = refl
 page_unwritten ReadLog left e = refl
 page_unwritten Flush left e = refl
@@ -140,7 +140,7 @@ page_unwritten ReadQueued left e = refl
 page_unwritten Write left e = absurd (cc e)
 page_unwritten WriteQueued left e = absurd (cc e)
 
-pub page_unchanged : (o : Operation) (memory : ℕ → ℕ) (t : FetchedCommand) (left : ℕ) → sends_page o ≡ true → changes_ahead o memory t left ≡ 0
+pub page_unchanged : (o : Operation) (memory : ℕ → ℕ) (t : FetchedCommand) (left : ℕ) → sends_page o ≡ true → sectors_left_to_change o memory t left ≡ 0
 page_unchanged Identify memory t left e = refl
 page_unchanged ReadLog memory t left e = refl
 page_unchanged Flush memory t left e = refl

@@ -11,24 +11,24 @@ use Rattle.adapter.specs.Trim.{consecutive, trim_sectors}
 use Rattle.adapter.specs.declared.command.Operation.{Operation}
 use Rattle.adapter.specs.declared.command.Operation.TheVariants.{Identify, Read, ReadQueued, Write, WriteQueued, Flush, Trim, ReadLog}
 use Rattle.device_model.specs.Finishing.{sends_page}
-use Rattle.device_model.specs.Trims.{HasRunsLeft, HasClearsLeft, block_ahead, changes_ahead, cleared_ahead, written_ahead, next_uncleared, first_run_length, run_count_of, next_run_length, uncleared}
+use Rattle.device_model.specs.Trims.{HasRunsLeft, HasClearsLeft, trim_block_after_moves, sectors_left_to_change, sectors_left_to_clear, sectors_left_to_write, next_uncleared, first_run_length, run_count_of, next_run_length, uncleared}
 use Rattle.device_model.proofs.Runs.{drop_twice, no_runs, one_less, run_long, some_runs, take_run}
 
 -- ---- the block that a trim is going to have
 
 -- the one that it has, once all is moved
-pub ahead_moved : (memory : ℕ → ℕ) (t : FetchedCommand) → t.moved ≡ length t.places → block_ahead memory t ≡ t.block
+pub ahead_moved : (memory : ℕ → ℕ) (t : FetchedCommand) → t.moved ≡ length t.places → trim_block_after_moves memory t ≡ t.block
 ahead_moved memory t all =
     ap (λ (b : Bool). if b then bytes_at memory (slice_index t.places (length t.places - 1)) 512 else t.block)
     (le-ltb t.moved (length t.places) (omega (arith, all)))
 
-ahead_unmoved : (memory : ℕ → ℕ) (t : FetchedCommand) → t.moved < length t.places → block_ahead memory t ≡ bytes_at memory (slice_index t.places (length t.places - 1)) 512
+ahead_unmoved : (memory : ℕ → ℕ) (t : FetchedCommand) → t.moved < length t.places → trim_block_after_moves memory t ≡ bytes_at memory (slice_index t.places (length t.places - 1)) 512
 ahead_unmoved memory t left =
     ap (λ (b : Bool). if b then bytes_at memory (slice_index t.places (length t.places - 1)) 512 else t.block) (lt-ltb t.moved (length t.places) left)
 
 -- no move changes which one it is
 moved_ahead : (memory : ℕ → ℕ) (t : FetchedCommand) (bytes : List ℕ) → t.moved < length t.places → bytes ≡ bytes_at memory (next_place t) 512 →
-    block_ahead memory (record t { moved = t.moved + 1; block = bytes }) ≡ block_ahead memory t
+    trim_block_after_moves memory (record t { moved = t.moved + 1; block = bytes }) ≡ trim_block_after_moves memory t
 moved_ahead memory t bytes left brings =
     let u : FetchedCommand = record t { moved = t.moved + 1; block = bytes } in
     elim (cases_lt (t.moved + 1) (length t.places)) [
@@ -78,9 +78,9 @@ moved_clears ReadLog disk memory t bytes clears left brings will = will
 
 -- and so is what it is going to change, but for what this piece has written
 pub moved_changes : (o : Operation) (disk : Disk) (memory : ℕ → ℕ) (t : FetchedCommand) (bytes : List ℕ) (left : ℕ) → t.moved < length t.places → MayBring disk memory t o bytes →
-    changes_ahead o memory t (suc left)
-    ≡ written_ahead o 1
-    + changes_ahead o (if reads_memory o then memory else patched memory (next_place t) bytes) (record t { moved = t.moved + 1; block = block_after o bytes t.block }) left
+    sectors_left_to_change o memory t (suc left)
+    ≡ sectors_left_to_write o 1
+    + sectors_left_to_change o (if reads_memory o then memory else patched memory (next_place t) bytes) (record t { moved = t.moved + 1; block = block_after o bytes t.block }) left
 moved_changes Trim disk memory t bytes left small brings =
     let same = ap (λ (b : List ℕ). length (drop t.cleared (trim_sectors b))) (moved_ahead memory t bytes small brings) in
     omega (arith, same)
@@ -94,17 +94,17 @@ moved_changes ReadLog disk memory t bytes left small brings = refl
 
 -- and once a run was cleared, but for that run
 pub cleared_changes : (memory : ℕ → ℕ) (t : FetchedCommand) (most : ℕ) → t.moved ≡ length t.places → t.meaning.operation ≡ Trim →
-    next_run_length most t + changes_ahead t.meaning.operation memory (record t { cleared = t.cleared + next_run_length most t }) 0 ≤ changes_ahead t.meaning.operation memory t 0
+    next_run_length most t + sectors_left_to_change t.meaning.operation memory (record t { cleared = t.cleared + next_run_length most t }) 0 ≤ sectors_left_to_change t.meaning.operation memory t 0
 cleared_changes memory t most all trim =
     let xs : List ℕ = trim_sectors t.block in
     let n = next_run_length most t in
-    let block : (k : ℕ) → block_ahead memory (record t { cleared = k }) ≡ t.block = λ k. ahead_moved memory (record t { cleared = k }) all in
-    let before : cleared_ahead t.meaning.operation memory t ≡ length (drop t.cleared xs) =
-    ap (λ (o : Operation). cleared_ahead o memory t) trim ∙ ap (λ (b : List ℕ). length (drop t.cleared (trim_sectors b))) (block t.cleared) in
-    let now : cleared_ahead t.meaning.operation memory (record t { cleared = t.cleared + n }) ≡ length (drop (t.cleared + n) xs) =
-    ap (λ (o : Operation). cleared_ahead o memory (record t { cleared = t.cleared + n })) trim
+    let block : (k : ℕ) → trim_block_after_moves memory (record t { cleared = k }) ≡ t.block = λ k. ahead_moved memory (record t { cleared = k }) all in
+    let before : sectors_left_to_clear t.meaning.operation memory t ≡ length (drop t.cleared xs) =
+    ap (λ (o : Operation). sectors_left_to_clear o memory t) trim ∙ ap (λ (b : List ℕ). length (drop t.cleared (trim_sectors b))) (block t.cleared) in
+    let now : sectors_left_to_clear t.meaning.operation memory (record t { cleared = t.cleared + n }) ≡ length (drop (t.cleared + n) xs) =
+    ap (λ (o : Operation). sectors_left_to_clear o memory (record t { cleared = t.cleared + n })) trim
     ∙ ap (λ (b : List ℕ). length (drop (t.cleared + n) (trim_sectors b))) (block (t.cleared + n)) in
-    let none : written_ahead t.meaning.operation 0 ≡ 0 = ap (λ (o : Operation). written_ahead o 0) trim in
+    let none : sectors_left_to_write t.meaning.operation 0 ≡ 0 = ap (λ (o : Operation). sectors_left_to_write o 0) trim in
     let was = length-drop t.cleared xs in
     let is = length-drop (t.cleared + n) xs in
     let run = run_long (take most (uncleared t)) in

@@ -10,7 +10,7 @@ use Rattle.device_model.proofs.Places.{fun_ext, changed_same, changed_other}
 use Rattle.sector_store.specs.declared.store.Failures.{Failures}
 use Rattle.device_model.specs.Disks.{bay_of, disk_in_bay, disk_number, numbered_disk, disk_over, bay_failures, disk_failures, has_cache, identity, identity_of, is_same_index, lasting_of, page_source_of, disk_index_of}
 use Rattle.device_model.specs.StepEffects.{NoCallFailed, StepKeeps}
-use Rattle.device_model.specs.ModelState.{all_tell, device_at, media_of, all_media_at, tells}
+use Rattle.device_model.specs.ModelState.{all_bay_stores_are_known, device_at, media_of, all_media_at, tells}
 use Rattle.device_model.specs.PortView.{Media, media_after_move, media_after_clear, operation_of_kind, taken_of}
 use Rattle.device_model.specs.WholeAdapter.{HasDisks, all_media_after_move, all_media_after_clear}
 use Rattle.device_model.specs.declared.bay.Bay.{Bay}
@@ -142,9 +142,9 @@ module _ {S : Type 0} where
 
   -- all tell as before where what is put there does
   pub all_tell_set : (told : S → Option (ℕ → List ℕ)) (bays : List (Option (Bay S))) (port : ℕ) (new : Option (Bay S)) →
-      tells told new ≡ tells told (slice_index_or bays port None) → all_tell told (slice_set bays port new) ≡ all_tell told bays
+      tells told new ≡ tells told (slice_index_or bays port None) → all_bay_stores_are_known told (slice_set bays port new) ≡ all_bay_stores_are_known told bays
   all_tell_set told [] port new same = refl
-  all_tell_set told (b ∷ bays) zero new same = ap (λ x. x && all_tell told bays) same
+  all_tell_set told (b ∷ bays) zero new same = ap (λ x. x && all_bay_stores_are_known told bays) same
   all_tell_set told (b ∷ bays) (suc port) new same = ap (λ x. tells told b && x) (all_tell_set told bays port new same)
 
   -- what is the same of one port's is so of each, where the others are as they were
@@ -207,9 +207,9 @@ module _ {S : Type 0} where
     pub seated_keeps : (size : S → ℕ) → ((w : DiskIndex) → w ≢ a.which → disk_in_bay b w ≡ disk_in_bay a w) → ((w : DiskIndex) → identity size (disk_in_bay b w) ≡ identity size (disk_in_bay a w)) →
         b.cache.is_on ≡ a.cache.is_on → new.queue ≡ m.queue → new.accesses ≡ m.accesses → StepKeeps size m new
     seated_keeps size out same cached queue accesses = record {
-      absent_disks_are_kept = λ q w ne. seated_out w (out w) q ne;
+      disks_not_last_in_are_kept = λ q w ne. seated_out w (out w) q ne;
       identities_are_kept = λ q w. seated_same (λ x. option_map (identity size) (option_map (λ (y : Bay S). disk_in_bay y w) x)) (ap Some (same w)) q;
-      caches_are_kept = seated_same has_cache cached;
+      cache_modes_are_kept = seated_same has_cache cached;
       queue_is_kept = queue;
       access_count_is_kept = accesses;
     }
@@ -219,8 +219,8 @@ module _ {S : Type 0} where
         all_media_at size told new ≡ all_media_at size told m
     seated_behind size told same tells_so = λ i. record { telling = tell i; media = fun_ext behind i }
       where
-        tell : all_tell told new.bays.items ≡ all_tell told m.bays.items
-        tell = ap (all_tell told) items ∙ all_tell_set told m.bays.items port (Some b) (tells_so ∙ ap (tells told) (sym was))
+        tell : all_bay_stores_are_known told new.bays.items ≡ all_bay_stores_are_known told m.bays.items
+        tell = ap (all_bay_stores_are_known told) items ∙ all_tell_set told m.bays.items port (Some b) (tells_so ∙ ap (tells told) (sym was))
 
         behind : (q : ℕ) → media_of size told (bay_of new q) ≡ media_of size told (bay_of m q)
         behind = seated_same (media_of size told) same
@@ -233,8 +233,8 @@ module _ {S : Type 0} where
         was_media : ℕ → Media
         was_media = (all_media_at size told m).media
 
-        tell : all_tell told new.bays.items ≡ all_tell told m.bays.items
-        tell = ap (all_tell told) items ∙ all_tell_set told m.bays.items port (Some b) (same ∙ ap (tells told) (sym was))
+        tell : all_bay_stores_are_known told new.bays.items ≡ all_bay_stores_are_known told m.bays.items
+        tell = ap (all_bay_stores_are_known told) items ∙ all_tell_set told m.bays.items port (Some b) (same ∙ ap (tells told) (sym was))
 
         behind : (q : ℕ) → media_of size told (bay_of new q) ≡ changed was_media port media q
         behind q =
@@ -362,8 +362,8 @@ module _ {S : Type 0} where
         by None is = ap (λ x. tells told (option_map put x)) is ∙ sym (ap (tells told) is)
         by (Some b) is = ap (λ x. tells told (option_map put x)) is ∙ (same b is ∙ sym (ap (tells told) is))
 
-        tell : all_tell told new.bays.items ≡ all_tell told m.bays.items
-        tell = ap (all_tell told) items ∙ all_tell_set told m.bays.items port (option_map put (bay_of m port)) (by (bay_of m port) refl)
+        tell : all_bay_stores_are_known told new.bays.items ≡ all_bay_stores_are_known told m.bays.items
+        tell = ap (all_bay_stores_are_known told) items ∙ all_tell_set told m.bays.items port (option_map put (bay_of m port)) (by (bay_of m port) refl)
 
         behind : (q : ℕ) → media_of size told (bay_of new q) ≡ changed was_media port (media (was_media port)) q
         behind q =
@@ -377,9 +377,9 @@ module _ {S : Type 0} where
     pub put_keeps : (size : S → ℕ) → ((b : Bay S) → bay_of m port ≡ Some b → (w : DiskIndex) → disk_in_bay (put b) w ≡ disk_in_bay b w) →
         ((b : Bay S) → bay_of m port ≡ Some b → (put b).cache.is_on ≡ b.cache.is_on) → new.queue ≡ m.queue → new.accesses ≡ m.accesses → StepKeeps size m new
     put_keeps size same cached queue accesses = record {
-      absent_disks_are_kept = λ q w _. put_same (option_map (λ (b : Bay S). disk_in_bay b w)) (λ b is. ap Some (same b is w)) q;
+      disks_not_last_in_are_kept = λ q w _. put_same (option_map (λ (b : Bay S). disk_in_bay b w)) (λ b is. ap Some (same b is w)) q;
       identities_are_kept = λ q w. put_same (λ x. option_map (identity size) (option_map (λ (b : Bay S). disk_in_bay b w) x)) (λ b is. ap (λ (d : ModelDisk S). Some (identity size d)) (same b is w)) q;
-      caches_are_kept = put_same has_cache cached;
+      cache_modes_are_kept = put_same has_cache cached;
       queue_is_kept = queue;
       access_count_is_kept = accesses;
     }
@@ -412,8 +412,8 @@ module _ {S : Type 0} where
         by None = refl
         by (Some b) = refl
 
-        tell : all_tell told new.bays.items ≡ all_tell told m.bays.items
-        tell = ap (all_tell told) items ∙ all_tell_set told m.bays.items port (option_map saying (bay_of m port)) (by (bay_of m port))
+        tell : all_bay_stores_are_known told new.bays.items ≡ all_bay_stores_are_known told m.bays.items
+        tell = ap (all_bay_stores_are_known told) items ∙ all_tell_set told m.bays.items port (option_map saying (bay_of m port)) (by (bay_of m port))
 
     pub saying_keeps : (size : S → ℕ) → new.queue ≡ m.queue → new.accesses ≡ m.accesses → StepKeeps size m new
     saying_keeps size queue accesses = put_keeps saying m new port items size (λ b _ w. refl) (λ b _. refl) queue accesses

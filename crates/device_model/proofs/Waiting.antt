@@ -11,10 +11,10 @@ use Rattle.adapter.specs.declared.access.DeviceStep.{DeviceStep}
 use Rattle.adapter.specs.declared.access.DeviceStep.TheVariants as asked
 use Rattle.sector_store.specs.declared.store.Failures.{Failures}
 use Rattle.device_model.specs.Disks.{disk_in_bay, disk_number, numbered_disk, disk_index_of}
-use Rattle.device_model.specs.StepEffects.{AnswersStep, MayAskStore, ClearsFewer, StepFails, FailsToClear, FailsToMove, IsPossible, PutsIn, asked_port, disk_index_after}
+use Rattle.device_model.specs.StepEffects.{AnswersStep, MayAskStore, ClearsFewer, StepFails, FailsToClear, FailsToMove, IsPossible, PutsDiskIntoPort, asked_port, disk_index_after}
 use Rattle.device_model.specs.ModelState.{device_at}
 use Rattle.device_model.specs.Queue.{AnswersEachStep}
-use Rattle.device_model.specs.SentFises.{Sends, SendsEnd}
+use Rattle.device_model.specs.SentFises.{SendsFisOfAskedStep, SendsEnd}
 use Rattle.device_model.specs.declared.disks.DiskIndex.{DiskIndex}
 use Rattle.device_model.specs.declared.disks.DiskIndex.TheVariants.{Disk0, Disk1}
 use Rattle.device_model.specs.declared.bay.PageSource.{PageSource}
@@ -48,7 +48,7 @@ plug_elsewhere q port number old new did empty apart =
     ap (λ (d : Device). (d.port q).present) did.effect ∙ (ap (λ (p : DevicePort). p.present) (changed_other old.port port _ q apart) ∙ empty)
 
 -- a step of this port that doesn't put the disk in leaves it out
-still_out : (l : Option DiskIndex) (s : DeviceStep) (d : Device) (q : ℕ) (w : DiskIndex) (v : Option DiskIndex) → q ≡ asked_port s → v ≢ Some w → (PutsIn l q w s → ⊥) → IsPossible s d → disk_index_after s v ≢ Some w
+still_out : (l : Option DiskIndex) (s : DeviceStep) (d : Device) (q : ℕ) (w : DiskIndex) (v : Option DiskIndex) → q ≡ asked_port s → v ≢ Some w → (PutsDiskIntoPort l q w s → ⊥) → IsPossible s d → disk_index_after s v ≢ Some w
 still_out l (asked.Plug p number) d q w None at out never may = λ e. some-none e refl
 still_out l (asked.Plug p number) d q w (Some v) at out never may = λ e. never (sym at, named_by w number.0 may.2 (sym (some_one e)))
 still_out l (asked.Fetch p s) d q w v at out never may = out
@@ -68,8 +68,8 @@ still_out l (asked.Unplug p) d q w v at out never may = out
 still_out l (asked.LosePlug p) d q w v at out never may = out
 
 -- where a port has no disk in it, nothing that is asked puts one in, but a Plug
-still_empty : (s : DeviceStep) (old new : Device) (q : ℕ) (w : DiskIndex) (v : Option DiskIndex) → (old.port q).present ≡ false → (PutsIn (Some w) q w s → ⊥) → IsPossible s old →
-    DoesAskedStep (Sends s) s old new → (q ≡ asked_port s → disk_index_after s v ≡ Some w) → (new.port q).present ≡ false
+still_empty : (s : DeviceStep) (old new : Device) (q : ℕ) (w : DiskIndex) (v : Option DiskIndex) → (old.port q).present ≡ false → (PutsDiskIntoPort (Some w) q w s → ⊥) → IsPossible s old →
+    DoesAskedStep (SendsFisOfAskedStep s) s old new → (q ≡ asked_port s → disk_index_after s v ≡ Some w) → (new.port q).present ≡ false
 still_empty (asked.Fetch p s) old new q w v empty never may did same = one_keeps_present q p.0 s.0 old new (inl did) ∙ empty
 still_empty (asked.Move p s) old new q w v empty never may did same = one_keeps_present q p.0 s.0 old new (inr (inl did)) ∙ empty
 still_empty (asked.Clear p s n) old new q w v empty never may did same = one_keeps_present q p.0 s.0 old new (inr (inr (inr (n, did)))) ∙ empty
@@ -146,7 +146,7 @@ module _ {S : Type 0} (size : S → ℕ) (told : S → Option (ℕ → List ℕ)
   IsOut w m = disk_index_of m q ≡ Some w → ((device_at size told m).port q).present ≡ false
 
   -- where the port has no disk in it, its store isn't asked
-  none_moves : (s : DeviceStep) (w : DiskIndex) (m : Model S) → (PutsIn (Some w) q w s → ⊥) → q ≡ asked_port s → ((device_at size told m).port q).present ≡ false →
+  none_moves : (s : DeviceStep) (w : DiskIndex) (m : Model S) → (PutsDiskIntoPort (Some w) q w s → ⊥) → q ≡ asked_port s → ((device_at size told m).port q).present ≡ false →
       MayAskStore s (device_at size told m) → ⊥
   none_moves (asked.Move p s) w m never at empty moves = there (device_at size told m) p.0 at empty moves.2.works.working.present
   none_moves (asked.Finish p s) w m never at empty moves = by moves.4.is_begun_or_fetchable
@@ -175,7 +175,7 @@ module _ {S : Type 0} (size : S → ℕ) (told : S → Option (ℕ → List ℕ)
   none_moves (asked.Plug p number) w m never at empty moves = moves
   none_moves (asked.LosePlug p) w m never at empty moves = never (sym at, refl)
 
-  one_stays : (l : Option DiskIndex) (s : DeviceStep) (answer : Bool) (old new : Model S) (w : DiskIndex) → disk_index_of old q ≢ Some w → (PutsIn l q w s → ⊥) →
+  one_stays : (l : Option DiskIndex) (s : DeviceStep) (answer : Bool) (old new : Model S) (w : DiskIndex) → disk_index_of old q ≢ Some w → (PutsDiskIntoPort l q w s → ⊥) →
       AnswersStep size told failures s answer old new → (disk_index_of new q ≢ Some w) × (numbered_disk new q w ≡ numbered_disk old q w)
   one_stays l s true old new w out never a = (
     elim (eqb_tells q (asked_port s)) [
@@ -185,24 +185,24 @@ module _ {S : Type 0} (size : S → ℕ) (told : S → Option (ℕ → List ℕ)
           still_out l s _ q w (disk_index_of old q) here.1 out never a.0 (sym (subst P (sym here.1) a.1.disk_index_is) ∙ e)
       | inr there ↦ λ e. out (sym (ap (option_map (λ (b : Bay S). b.which)) (a.1.other_bays_are_kept q there.1)) ∙ e)
     ],
-    a.1.step_keeps.absent_disks_are_kept q w out,
+    a.1.step_keeps.disks_not_last_in_are_kept q w out,
   )
   one_stays l s false old new w out never a = (
     λ e. out (sym (whichs size told failures (asked_port s) old new a.disk_index_is a.other_bays_are_kept q) ∙ e),
-    a.step_keeps.absent_disks_are_kept q w out,
+    a.step_keeps.disks_not_last_in_are_kept q w out,
   )
 
-  pub out_stays : (l : Option DiskIndex) (steps : List DeviceStep) (old new : Model S) (w : DiskIndex) → disk_index_of old q ≢ Some w → All (λ s. PutsIn l q w s → ⊥) steps →
+  pub out_stays : (l : Option DiskIndex) (steps : List DeviceStep) (old new : Model S) (w : DiskIndex) → disk_index_of old q ≢ Some w → All (λ s. PutsDiskIntoPort l q w s → ⊥) steps →
       AnswersEachStep size told failures steps old new → (disk_index_of new q ≢ Some w) × (numbered_disk new q w ≡ numbered_disk old q w)
   out_stays l [] old new w out none same = (λ e. out (sym (ap (λ (m : Model S). disk_index_of m q) same) ∙ e), ap (λ (m : Model S). numbered_disk m q w) same)
   out_stays l (s ∷ steps) old new w out none does =
-      let P : DeviceStep → Type 0 = λ x. PutsIn l q w x → ⊥ in
+      let P : DeviceStep → Type 0 = λ x. PutsDiskIntoPort l q w x → ⊥ in
       let first = one_stays l s does.0 old does.1 w out (All-head P s steps none) does.2 in
       let last = out_stays l steps does.1 new w first.0 (All-tail P s steps none) does.3 in
       (last.0, last.1 ∙ first.1)
 
   last_stays : (s : DeviceStep) (answer : Bool) (old new : Model S) (w : DiskIndex) → ((device_at size told old).port q).present ≡ false →
-      (PutsIn (Some w) q w s → ⊥) → AnswersStep size told failures s answer old new → IsOut w new × (numbered_disk new q w ≡ numbered_disk old q w)
+      (PutsDiskIntoPort (Some w) q w s → ⊥) → AnswersStep size told failures s answer old new → IsOut w new × (numbered_disk new q w ≡ numbered_disk old q w)
   last_stays s true old new w empty never a = (
     λ same.
         elim a.1.completes_or_fails [
@@ -224,7 +224,7 @@ module _ {S : Type 0} (size : S → ℕ) (told : S → Option (ℕ → List ℕ)
     each_port (option_map (λ (b : Bay S). disk_in_bay b w)) old new (asked_port s) (a.disks_are_kept w) a.other_bays_are_kept q,
   )
 
-  one_waits : (s : DeviceStep) (answer : Bool) (old new : Model S) (w : DiskIndex) → IsOut w old → (PutsIn (Some w) q w s → ⊥) → AnswersStep size told failures s answer old new →
+  one_waits : (s : DeviceStep) (answer : Bool) (old new : Model S) (w : DiskIndex) → IsOut w old → (PutsDiskIntoPort (Some w) q w s → ⊥) → AnswersStep size told failures s answer old new →
       IsOut w new × (numbered_disk new q w ≡ numbered_disk old q w)
   one_waits s answer old new w out never a =
       elim (is_it (disk_index_of old q) w) [
@@ -232,12 +232,12 @@ module _ {S : Type 0} (size : S → ℕ) (told : S → Option (ℕ → List ℕ)
         | inr ne ↦ let other = one_stays (Some w) s answer old new w ne never a in ((λ e. absurd (other.0 e)), other.1)
       ]
 
-  pub last_waits : (steps : List DeviceStep) (old new : Model S) (w : DiskIndex) → IsOut w old → All (λ s. PutsIn (Some w) q w s → ⊥) steps →
+  pub last_waits : (steps : List DeviceStep) (old new : Model S) (w : DiskIndex) → IsOut w old → All (λ s. PutsDiskIntoPort (Some w) q w s → ⊥) steps →
       AnswersEachStep size told failures steps old new → IsOut w new × (numbered_disk new q w ≡ numbered_disk old q w)
   last_waits [] old new w out none same =
       let P : Model S → Type 0 = λ m. IsOut w m in (subst P (sym same) out, ap (λ (m : Model S). numbered_disk m q w) same)
   last_waits (s ∷ steps) old new w out none does =
-      let P : DeviceStep → Type 0 = λ x. PutsIn (Some w) q w x → ⊥ in
+      let P : DeviceStep → Type 0 = λ x. PutsDiskIntoPort (Some w) q w x → ⊥ in
       let first = one_waits s does.0 old does.1 w out (All-head P s steps none) does.2 in
       let rest = last_waits steps does.1 new w first.0 (All-tail P s steps none) does.3 in
       (rest.0, rest.1 ∙ first.1)

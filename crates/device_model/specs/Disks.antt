@@ -158,9 +158,9 @@ OnlyEndsCommand {S} operation port old new =
 -- What was in a cache is lost: its disk is turned back into what is lasting of it. Without one the disk is as it was.
 pub record LosesCache {S : Type 0} (size : S → ℕ) (told : S → Option (ℕ → List ℕ)) (failures : S → Option Failures)
     (old new : Bay S) : Type 0 where
-  pub is_rolled_back : old.cache.is_on ≡ true
+  pub is_rolled_back_with_cache : old.cache.is_on ≡ true
       → RollsBack size told failures (lasting_of told old) old.disk.store new.disk.store
-  pub store_is_kept : old.cache.is_on ≡ false → new.disk.store ≡ old.disk.store
+  pub store_is_kept_without_cache : old.cache.is_on ≡ false → new.disk.store ≡ old.disk.store
 
 -- what the disks of this port say is another, if it has some, and nothing else
 abbrev pub OnlyChangesPageSource : {S : Type 0} → (PageSource → PageSource) → ℕ → (old new : List (Option (Bay S)))

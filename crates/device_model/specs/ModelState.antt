@@ -37,14 +37,18 @@ abbrev pub tells : {S : Type 0} → (S → Option (ℕ → List ℕ)) → Option
 tells told None = true
 tells told (Some b) = is_some (told b.disk.store) && is_some (told b.other.store)
 
-abbrev pub all_tell : {S : Type 0} → (S → Option (ℕ → List ℕ)) → List (Option (Bay S)) → Bool
-all_tell told [] = true
-all_tell {S} told (bay ∷ bays) = tells told bay && all_tell told bays
+abbrev pub all_bay_stores_are_known : {S : Type 0} → (S → Option (ℕ → List ℕ)) → List (Option (Bay S)) → Bool
+all_bay_stores_are_known told [] = true
+all_bay_stores_are_known {S} told (bay ∷ bays) = tells told bay && all_bay_stores_are_known told bays
 
 -- what is behind the ports, which have these disks
 abbrev pub all_media_of : {S : Type 0} → (S → ℕ) → (S → Option (ℕ → List ℕ)) → List (Option (Bay S)) → AllMedia
 all_media_of size told bays =
-    record { telling = all_tell told bays; media = λ port. media_of size told (slice_index_or bays port None) }
+    record {
+      telling = all_bay_stores_are_known told bays;
+      media = λ port. media_of size told
+          (slice_index_or bays port None);
+    }
 
 abbrev pub all_media_at : {S : Type 0} → (S → ℕ) → (S → Option (ℕ → List ℕ)) → Model S → AllMedia
 all_media_at size told m = all_media_of size told m.bays.items
@@ -95,9 +99,10 @@ IsNewMedia size told (Some disks) m =
 
 -- A new port has the first one of the disks that are given for it, which was never out, and of which all is lasting;
 -- without any it has no disk.
-abbrev pub IsNewPort : {S : Type 0} → (S → ℕ) → (S → Option (ℕ → List ℕ)) → Option (PortDisks S) → DevicePort → Type 0
-IsNewPort size told None p = (p.present ≡ false) × (p.plug_history ≡ [])
-IsNewPort size told (Some disks) p =
+abbrev pub HasFirstGivenDiskOrNone : {S : Type 0} → (S → ℕ) → (S → Option (ℕ → List ℕ)) → Option (PortDisks S)
+    → DevicePort → Type 0
+HasFirstGivenDiskOrNone size told None p = (p.present ≡ false) × (p.plug_history ≡ [])
+HasFirstGivenDiskOrNone size told (Some disks) p =
     (p.present ≡ true) × (p.disk ≡ disk_over Disk0 (size disks.first.store) (told disks.first.store))
     × (p.plug_history ≡ disk_over Disk0 (size disks.first.store) (told disks.first.store) ∷ [])
     × (p.lasting ≡ record { sectors = told disks.first.store; tape_length = 0 })
@@ -109,7 +114,8 @@ pub record IsNewAdapter {S : Type 0} (config : ModelConfig) (size : S → ℕ) (
   pub memory_size_is : d.memory_size ≡ FRAME_BYTES * config.frames
   pub cap : d.cap ≡ cap_of config.pi config.slots config.ncq
   pub pi : d.pi ≡ config.pi
-  pub ports_are_new : (port : ℕ) → IsNewPort size told (disks_given_for disks port) (d.port port)
+  pub first_given_disks_are_in : (port : ℕ)
+      → HasFirstGivenDiskOrNone size told (disks_given_for disks port) (d.port port)
   pub tape_is_empty : d.tape ≡ []
   pub ae_is_clear : d.ae ≡ false
   pub ie_is_clear : d.ie ≡ false

@@ -9,7 +9,7 @@ use Rattle.device_model.specs.WriteCaches.{CallFails, HasRoomForOldSectors}
 use Rattle.device_model.specs.Disks.{disk_over, identity, lasting_of}
 use Rattle.device_model.specs.FetchedBytes.{bytes_of}
 use Rattle.device_model.specs.DiskPages.{IsSentLog, IsSentIdentify}
-use Rattle.device_model.specs.Trims.{written_ahead}
+use Rattle.device_model.specs.Trims.{sectors_left_to_write}
 use Rattle.device_model.specs.PortView.{operation_of_kind}
 use Rattle.device_model.specs.declared.bay.Bay.{Bay}
 use Rattle.device_model.specs.declared.hardware.Hardware.{Hardware}
@@ -33,7 +33,7 @@ pub record IsTransferred (old new : Hardware) (next : NextMove) : Type 0 where
 -- told, and the bytes are as they were. What is lasting of the disk stays so.
 pub record TransfersPiece {S : Type 0} (size : S → ℕ) (told : S → Option (ℕ → List ℕ)) (failures : S → Option Failures)
     (old new : Bay S) (next : NextMove) (before after : List ℕ) (done : Bool) : Type 0 where
-  pub sector_on_disk : done ≡ true → is_ranged (operation_of_kind next.command_kind) ≡ true
+  pub done_sector_is_on_disk : done ≡ true → is_ranged (operation_of_kind next.command_kind) ≡ true
       → next.sector < size old.disk.store
   pub bytes_are_sector : IsValidSector after
   pub read_gives_told : done ≡ true → is_ranged (operation_of_kind next.command_kind) ≡ true →
@@ -44,7 +44,7 @@ pub record TransfersPiece {S : Type 0} (size : S → ℕ) (told : S → Option (
   pub identify_page_is_sent : done ≡ true → next.command_kind ≡ Identify
       → IsSentIdentify (identity size old.disk) old.page_source after
   pub log_page_is_sent : done ≡ true → next.command_kind ≡ ReadLog → IsSentLog old.page_source after
-  pub bay_is_kept : is_ranged (operation_of_kind next.command_kind) ≡ false → new ≡ old
+  pub unranged_keeps_bay : is_ranged (operation_of_kind next.command_kind) ≡ false → new ≡ old
   pub disk_is : done ≡ true → disk_over old.which (size new.disk.store) (told new.disk.store)
       ≡ disk_after (operation_of_kind next.command_kind) (disk_over old.which (size old.disk.store) (told
       old.disk.store))
@@ -60,6 +60,6 @@ pub record TransfersPiece {S : Type 0} (size : S → ℕ) (told : S → Option (
   pub lasting_is_kept : lasting_of told new ≡ lasting_of told old
   pub cache_mode_is_kept : new.cache.is_on ≡ old.cache.is_on
   pub cache_has_room : (n : ℕ) → HasRoomForOldSectors old.cache
-      (written_ahead (operation_of_kind next.command_kind) 1 + n)
+      (sectors_left_to_write (operation_of_kind next.command_kind) 1 + n)
       → HasRoomForOldSectors new.cache n
   pub rest_is_kept : new ≡ record old { disk = record old.disk { store = new.disk.store }; cache = new.cache }

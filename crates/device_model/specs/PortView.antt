@@ -42,10 +42,10 @@ notes_of r =
       last_sig = r.last_sig;
       last_ci = r.last_ci;
       last_sact = r.last_sact;
-      engine_count = r.engine_count;
-      link_wait_count = r.link_count;
+      engine_wait_count = r.engine_wait_count;
+      link_wait_count = r.link_wait_count;
       busy_count = r.busy_count;
-      slot0_issued_count = r.command_count;
+      slot0_issued_count = r.slot0_issued_count;
       acknowledged = r.acknowledged;
     }
 
@@ -69,8 +69,8 @@ cause_of command_kind.WriteQueued = 3
 cause_of _ = 0
 
 -- which of BSY and DRQ a command that failed has left set: BSY, where its disk is left busy
-abbrev pub busy_if_left : Bool → ℕ
-busy_if_left left_busy = if left_busy then bsy_mask else 0
+abbrev pub bsy_if_disk_left_busy : Bool → ℕ
+bsy_if_disk_left_busy left_busy = if left_busy then bsy_mask else 0
 
 -- what a fault has made of a port
 abbrev pub halt_of : Halting → Halt
@@ -94,8 +94,8 @@ abbrev pub taken_in : List (Option TakenCommand) → ℕ → Option TakenCommand
 taken_in slots = λ slot. slice_index_or slots slot None
 
 -- the command that is taken in each slot
-abbrev pub taken_slots : (ℕ → Option TakenCommand) → ℕ → Option FetchedCommand
-taken_slots taken = λ slot. option_map taken_of (taken slot)
+abbrev pub taken_commands_by_slot : (ℕ → Option TakenCommand) → ℕ → Option FetchedCommand
+taken_commands_by_slot taken = λ slot. option_map taken_of (taken slot)
 
 -- what is behind a port: its disk, and those that were plugged in; and what that disk held when it last ended a flush,
 -- or else when it was first in
@@ -113,12 +113,12 @@ abbrev pub media_after_clear : Media → (first count : ℕ) → Media
 media_after_clear m first count = record m { disk = disk_cleared m.disk first count }
 
 -- the same after such a command has ended: a flush makes lasting what the disk holds
-abbrev pub lasting_sectors : Operation → Media → Option (ℕ → List ℕ)
-lasting_sectors Flush m = m.disk.sectors
-lasting_sectors _ m = m.lasting
+abbrev pub lasting_sectors_after_end : Operation → Media → Option (ℕ → List ℕ)
+lasting_sectors_after_end Flush m = m.disk.sectors
+lasting_sectors_after_end _ m = m.lasting
 
 abbrev pub media_after_end : Media → Operation → Media
-media_after_end m operation = record m { lasting = lasting_sectors operation m }
+media_after_end m operation = record m { lasting = lasting_sectors_after_end operation m }
 
 abbrev pub port_of : PortModel → Media → DevicePort
 port_of p m =
@@ -148,7 +148,7 @@ port_of p m =
       link_due = p.link_due;
       halt = halt_of p.halting;
       broken = p.broken;
-      taken = taken_slots (taken_in p.taken);
+      taken = taken_commands_by_slot (taken_in p.taken);
       notes = notes_of p.readings;
     }
 
@@ -193,10 +193,10 @@ blank_port =
         last_sig = 0;
         last_ci = 0;
         last_sact = 0;
-        engine_count = 0;
-        link_count = 0;
+        engine_wait_count = 0;
+        link_wait_count = 0;
         busy_count = 0;
-        command_count = 0;
+        slot0_issued_count = 0;
         acknowledged = false;
       };
     }

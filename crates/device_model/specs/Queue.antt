@@ -9,7 +9,7 @@ use Rattle.sector_store.specs.declared.store.Failures.{Failures}
 use Rattle.device_model.specs.Disks.{numbered_disk, page_source_of, disk_index_of}
 use Rattle.device_model.specs.StepEffects.{AnswersStep, StepKeeps}
 use Rattle.device_model.specs.DiskPages.{GainsOwnPages}
-use Rattle.device_model.specs.ModelOwnSteps.{DoesSpontaneousSteps, EndsResetUnlessHeld, LeavesPageWithoutMemory}
+use Rattle.device_model.specs.ModelOwnSteps.{DoesSpontaneousSteps, EndsPendingResetUnlessAllHeld, LeavesPageWithoutMemory}
 use Rattle.device_model.specs.ModelState.{device_at}
 use Rattle.device_model.specs.declared.disks.DiskIndex.{DiskIndex}
 use Rattle.device_model.specs.declared.model.Model.{Model}
@@ -61,7 +61,8 @@ pub record DoesRead {S : Type 0} (size : S → ℕ) (told : S → Option (ℕ �
   pub after_begin : Model S
   pub begins_access : BeginsAccess size told failures old after_begin
   pub after_reset_end : Device
-  pub ends_reset : EndsResetUnlessHeld after_begin.held new.held (device_at size told after_begin) after_reset_end
+  pub ends_reset : EndsPendingResetUnlessAllHeld after_begin.held new.held
+      (device_at size told after_begin) after_reset_end
   pub after_own_steps : Device
   pub does_own_steps : DoesSpontaneousSteps new.held after_reset_end after_own_steps
   pub shows : Shows r value after_own_steps

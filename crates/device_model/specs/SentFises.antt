@@ -46,8 +46,8 @@ ended_tag_fis slot p =
     record { interrupt = true; status = bit_and (p.tfd % 256) 0x77; error = p.tfd / 256; tags = 2 ^ slot }
 
 -- a queued command failed: no tag is named, since none has ended
-abbrev pub failed_tags_fis : DevicePort → SetDeviceBits
-failed_tags_fis p = record (ended_tag_fis 0 p) { tags = 0 }
+abbrev pub queued_failure_fis : DevicePort → SetDeviceBits
+queued_failure_fis p = record (ended_tag_fis 0 p) { tags = 0 }
 
 -- the first FIS of an ATA disk: its signature has LBA 1 and count 1 (ACS-3), as PxSIG shows it; it asks for no
 -- interrupt
@@ -70,7 +70,7 @@ receives_fis p size = p.fre && nat_le (p.bases.fb + RECEIVED_FIS_BYTES) size
 -- The bytes stand at this place of the port's received FIS area, and nothing else is another; or they are lost, where
 -- the port doesn't receive them.
 pub record IsSentOrLost (port place : ℕ) (bytes : List ℕ) (old new : Device) : Type 0 where
-  pub is_posted : receives_fis (old.port port) old.memory_size ≡ true
+  pub is_posted_if_received : receives_fis (old.port port) old.memory_size ≡ true
       → IsPosted port ((old.port port).bases.fb + place) bytes old
       new
   pub is_lost : receives_fis (old.port port) old.memory_size ≡ false → new ≡ old
@@ -105,22 +105,22 @@ SendsEnd slot port flag _ old new = (flag ≡ 0) × SendsDeviceToHost port (end_
 -- As a command fails, with TFES of PxIS: of a queued one a Set Device Bits FIS, and of another one, or of what means
 -- none, a Register FIS (TFES: AHCI 1.3.1, 3.3.5).
 abbrev pub SendsFault : (queued : Bool) → (port : ℕ) → Device → Device → Type 0
-SendsFault true port old new = SendsSetDeviceBits port (failed_tags_fis (old.port port)) old new
+SendsFault true port old new = SendsSetDeviceBits port (queued_failure_fis (old.port port)) old new
 SendsFault false port old new = SendsDeviceToHost port (end_fis (old.port port)) old new
 
 abbrev pub SendsFaultOfOperation : (port flag : ℕ) → Operation → Device → Device → Type 0
 SendsFaultOfOperation port flag operation old new = SendsFault (is_queued operation) port old new
 
 -- as the command of the slot that a step names ends or fails
-abbrev pub Sends : DeviceStep → (port flag : ℕ) → Operation → Device → Device → Type 0
-Sends (asked.Done p s) = SendsEnd s.0
-Sends (asked.Finish p s) = SendsEnd s.0
-Sends (asked.Fault p s error) = SendsFaultOfOperation
-Sends (asked.FaultBusy p s error) = SendsFaultOfOperation
-Sends step = PostsNone
+abbrev pub SendsFisOfAskedStep : DeviceStep → (port flag : ℕ) → Operation → Device → Device → Type 0
+SendsFisOfAskedStep (asked.Done p s) = SendsEnd s.0
+SendsFisOfAskedStep (asked.Finish p s) = SendsEnd s.0
+SendsFisOfAskedStep (asked.Fault p s error) = SendsFaultOfOperation
+SendsFisOfAskedStep (asked.FaultBusy p s error) = SendsFaultOfOperation
+SendsFisOfAskedStep step = PostsNone
 
 -- after a step that the model does by itself: as a command ends, and as the link comes up
-abbrev pub SendsAfter : DeviceTransition → Device → Device → Type 0
-SendsAfter (Done port slot flag t) old new = SendsEnd slot port flag t.meaning.operation old new
-SendsAfter (LinkUp port sig n) old new = SendsDeviceToHost port (signature_fis (old.port port)) old new
-SendsAfter step old new = new ≡ old
+abbrev pub SendsFisAfterTransition : DeviceTransition → Device → Device → Type 0
+SendsFisAfterTransition (Done port slot flag t) old new = SendsEnd slot port flag t.meaning.operation old new
+SendsFisAfterTransition (LinkUp port sig n) old new = SendsDeviceToHost port (signature_fis (old.port port)) old new
+SendsFisAfterTransition step old new = new ≡ old

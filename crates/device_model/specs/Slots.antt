@@ -15,21 +15,22 @@ use Rattle.device_model.specs.declared.port.CommandKind.TheVariants.{Trim}
 use Rattle.device_model.specs.Trims.{next_uncleared, next_run_length, uncleared}
 
 -- a command of this operation in this slot may be taken, if its bytes say one
-pub record MayTake (p : DevicePort) (slot : ℕ) (operation : Operation) : Type 0 where
+pub record MayTakeIfDecoded (p : DevicePort) (slot : ℕ) (operation : Operation) : Type 0 where
   pub fetchable : IsFetchable p slot
   pub working : IsWorking p operation
   pub is_unmixed : IsUnmixed p operation
 
 -- the slot has a command that is issued and not taken, on a port that works: it may be taken, if its bytes say one that
 -- may be now
-abbrev pub HasIssuedUntaken : PortModel → ℕ → Type 0
-HasIssuedUntaken p slot =
+abbrev pub HasIssuedUntakenOnWorkingPort : PortModel → ℕ → Type 0
+HasIssuedUntakenOnWorkingPort p slot =
     (m : Media) (operation : Operation) → admits (halt_of p.halting) operation ≡ true → IsFetchable (port_of p m) slot
     × IsWorking (port_of p m) operation
 
 -- such a command may be now: no fault keeps it waiting, and it goes beside those that are taken
-abbrev pub IsOpenTo : PortModel → Operation → Type 0
-IsOpenTo p operation = (admits (halt_of p.halting) operation ≡ true) × ((m : Media) → IsUnmixed (port_of p m) operation)
+abbrev pub AdmitsBesideTaken : PortModel → Operation → Type 0
+AdmitsBesideTaken p operation = (admits (halt_of p.halting) operation ≡ true) × ((m : Media)
+    → IsUnmixed (port_of p m) operation)
 
 -- the port works on this command, which it has taken in this slot
 pub record WorksOnIn (p : PortModel) (slot : ℕ) (t : TakenCommand) : Type 0 where

@@ -19,9 +19,9 @@ use Rattle.device_model.specs.Finishing.{HasMove, TapeHasRoom, MayFinish}
 use Rattle.device_model.specs.HeldPorts.{held_after}
 use Rattle.device_model.specs.ModelState.{device_at}
 use Rattle.device_model.specs.DiskPages.{GainsOwnPages, with_lie, with_logged_error, without_lies}
-use Rattle.device_model.specs.SentFises.{Sends, SendsEnd, SendsFault}
+use Rattle.device_model.specs.SentFises.{SendsFisOfAskedStep, SendsEnd, SendsFault}
 use Rattle.device_model.specs.Slots.{IsNextMove}
-use Rattle.device_model.specs.Trims.{HasClear, changes_ahead, next_uncleared, next_run_length, written_ahead}
+use Rattle.device_model.specs.Trims.{HasClear, sectors_left_to_change, next_uncleared, next_run_length, sectors_left_to_write}
 use Rattle.device_model.specs.declared.disks.DiskIndex.{DiskIndex}
 use Rattle.device_model.specs.declared.disks.DiskIndex.TheVariants.{Disk0, Disk1}
 use Rattle.device_model.specs.declared.hardware.Hardware.{Hardware}
@@ -37,8 +37,8 @@ use Rattle.device_model.specs.declared.steps.NextMove.{NextMove}
 -- ---- when a step is possible
 
 -- A command that is issued in the slot may be taken, or its bytes mean none, and it may fail for that, as a plain one.
-abbrev pub MayBeFetched : Device → (port slot : ℕ) → Type 0
-MayBeFetched d port slot =
+abbrev pub MayBeFetchedOrAborted : Device → (port slot : ℕ) → Type 0
+MayBeFetchedOrAborted d port slot =
     ((meaning : Meaning) × (places : List ℕ) × Can (Fetch port slot meaning places) d)
     ⊎ Can (FetchFault port slot false 0) d
 
@@ -47,7 +47,7 @@ MayBeFetched d port slot =
 -- that has disks, where none is in. A Finish is possible where each of its moves and clears is. A sector may be past
 -- the disk: its command fails then.
 abbrev pub IsPossible : DeviceStep → Device → Type 0
-IsPossible (asked.Fetch p s) d = (p.0 < 4) × (s.0 < 32) × MayBeFetched d p.0 s.0
+IsPossible (asked.Fetch p s) d = (p.0 < 4) × (s.0 < 32) × MayBeFetchedOrAborted d p.0 s.0
 IsPossible (asked.Move p s) d = (s.0 < 32) × (t : FetchedCommand) × HasMove d p.0 s.0 t
 IsPossible (asked.Clear p s most) d = (s.0 < 32) × (t : FetchedCommand) × HasClear d p.0 s.0 most t
 IsPossible (asked.Done p s) d = (p.0 < 4) × (s.0 < 32) × (flag : ℕ) × (t : FetchedCommand) × Can (Done p.0 s.0 flag t) d
@@ -78,7 +78,7 @@ cleared_count_on_disk size most t = min (next_run_length most t) (size - next_un
 abbrev pub LacksMemory : {S : Type 0} → DeviceStep → Device → Hardware → List (Option (Bay S)) → Type 0
 LacksMemory (asked.Fetch p s) d h bays = Can (FetchFault p.0 s.0 false 0) d × (TapeHasRoom h 1 → ⊥)
 LacksMemory (asked.Move p s) d h bays = (t : FetchedCommand) × HasMove d p.0 s.0 t
-    × (TapeHasRoom h 1 → BaysHaveRoomForOldSectors bays p.0 (written_ahead t.meaning.operation 1) → ⊥)
+    × (TapeHasRoom h 1 → BaysHaveRoomForOldSectors bays p.0 (sectors_left_to_write t.meaning.operation 1) → ⊥)
 LacksMemory (asked.Clear p s most) d h bays = (t : FetchedCommand) × HasClear d p.0 s.0 most t
     × (TapeHasRoom h 2 → BaysHaveRoomForOldSectors bays p.0
     (cleared_count_on_disk (d.port p.0).disk.sector_count most t) → ⊥)
@@ -86,7 +86,7 @@ LacksMemory (asked.Done p s) d h bays = TapeHasRoom h 1 → ⊥
 LacksMemory (asked.Finish p s) d h bays =
     (left clears : ℕ) × (may : MayFinish d p.0 s.0 left clears) × (TapeHasRoom h (left + clears + 1)
     → BaysHaveRoomForOldSectors bays p.0
-    (changes_ahead may.fetched_command.meaning.operation d.memory may.fetched_command left)
+    (sectors_left_to_change may.fetched_command.meaning.operation d.memory may.fetched_command left)
     → ⊥)
 LacksMemory (asked.Fault p s error) d h bays = TapeHasRoom h 1 → ⊥
 LacksMemory (asked.FaultBusy p s error) d h bays = TapeHasRoom h 1 → ⊥
@@ -97,8 +97,8 @@ LacksMemory (asked.LosePlug p) d h bays = TapeHasRoom h 1 → ⊥
 LacksMemory step d h bays = ⊥
 
 -- so many moves of sectors, or clears, are left of an operation
-abbrev pub HasMovesOrClearsLeft : Operation → (left clears : ℕ) → Type 0
-HasMovesOrClearsLeft operation left clears = ((is_ranged operation ≡ true) × (1 ≤ left)) ⊎ (1 ≤ clears)
+abbrev pub HasSectorMovesOrClearsLeft : Operation → (left clears : ℕ) → Type 0
+HasSectorMovesOrClearsLeft operation left clears = ((is_ranged operation ≡ true) × (1 ≤ left)) ⊎ (1 ≤ clears)
 
 -- The step is possible and moves or clears a sector, so that it may ask the store of the disk that is in for one: a
 -- Move, or a Finish that has a move left, of a command that names sectors; a Clear, or a Finish that has one left. Or
@@ -109,16 +109,17 @@ MayAskStore (asked.Move p s) d = (s.0 < 32) × (t : FetchedCommand) × HasMove d
 MayAskStore (asked.Clear p s most) d = (s.0 < 32) × (t : FetchedCommand) × HasClear d p.0 s.0 most t
 MayAskStore (asked.Finish p s) d =
     HasDisks d p.0 × (s.0 < 32) × (left clears : ℕ) × (may : MayFinish d p.0 s.0 left clears)
-    × HasMovesOrClearsLeft may.fetched_command.meaning.operation left clears
+    × HasSectorMovesOrClearsLeft may.fetched_command.meaning.operation left clears
 MayAskStore (asked.LosePlug p) d = (p.0 < 4) × HasDisks d p.0 × ((d.port p.0).present ≡ false)
 MayAskStore step d = ⊥
 
 -- Each place of the memory has an address of 32 bits, for a step to which that matters: a Move, or a Finish of a
 -- command that is taken already.
-abbrev pub IsAddressable : DeviceStep → Device → Type 0
-IsAddressable (asked.Move p s) d = d.memory_size ≤ 2 ^ 32
-IsAddressable (asked.Finish p s) d = (t : FetchedCommand) → (d.port p.0).taken s.0 ≡ Some t → d.memory_size ≤ 2 ^ 32
-IsAddressable step d = Unit {0}
+abbrev pub IsMemoryAddressableForStep : DeviceStep → Device → Type 0
+IsMemoryAddressableForStep (asked.Move p s) d = d.memory_size ≤ 2 ^ 32
+IsMemoryAddressableForStep (asked.Finish p s) d = (t : FetchedCommand) → (d.port p.0).taken s.0 ≡ Some t
+    → d.memory_size ≤ 2 ^ 32
+IsMemoryAddressableForStep step d = Unit {0}
 
 -- ---- what a step makes of a model
 
@@ -169,19 +170,19 @@ disk_index_after (asked.Plug p number) which =
 disk_index_after step which = which
 
 -- the step puts this disk into this port: by its number, or as the one that was last in
-abbrev pub PutsIn : (last : Option DiskIndex) → (port : ℕ) → DiskIndex → DeviceStep → Type 0
-PutsIn last port which (asked.Plug p number) = (p.0 ≡ port) × (number.0 ≡ disk_number which)
-PutsIn last port which (asked.LosePlug p) = (p.0 ≡ port) × (last ≡ Some which)
-PutsIn last port which step = ⊥
+abbrev pub PutsDiskIntoPort : (last : Option DiskIndex) → (port : ℕ) → DiskIndex → DeviceStep → Type 0
+PutsDiskIntoPort last port which (asked.Plug p number) = (p.0 ≡ port) × (number.0 ≡ disk_number which)
+PutsDiskIntoPort last port which (asked.LosePlug p) = (p.0 ≡ port) × (last ≡ Some which)
+PutsDiskIntoPort last port which step = ⊥
 
 -- What no step changes: the disk of a port that isn't in, or wasn't last; of each disk its serial number and how many
 -- sectors it has; whether the disks of a port have a cache; the queue; and the count of the accesses.
 pub record StepKeeps {S : Type 0} (size : S → ℕ) (old new : Model S) : Type 0 where
-  pub absent_disks_are_kept : (port : ℕ) (which : DiskIndex) → disk_index_of old port ≢ Some which
+  pub disks_not_last_in_are_kept : (port : ℕ) (which : DiskIndex) → disk_index_of old port ≢ Some which
       → numbered_disk new port which ≡ numbered_disk old port which
   pub identities_are_kept : (port : ℕ) (which : DiskIndex) → option_map (identity size) (numbered_disk new port which)
       ≡ option_map (identity size) (numbered_disk old port which)
-  pub caches_are_kept : (port : ℕ) → port_has_cache new port ≡ port_has_cache old port
+  pub cache_modes_are_kept : (port : ℕ) → port_has_cache new port ≡ port_has_cache old port
   pub queue_is_kept : new.queue ≡ old.queue
   pub access_count_is_kept : new.accesses ≡ old.accesses
 
@@ -295,15 +296,15 @@ pub record HasCleared (old new : Device) (port slot most : ℕ) : Type 0 where
       { cleared = fetched_command.cleared + next_run_length most fetched_command })
 
 -- what a model answers, by what came of a move or a clear
-abbrev pub is_step_answered : StepOutcome → Bool
-is_step_answered Skipped = false
-is_step_answered _ = true
+abbrev pub is_step_not_skipped : StepOutcome → Bool
+is_step_not_skipped Skipped = false
+is_step_not_skipped _ = true
 
 -- a Finish ends its command, and a Clear clears all that can be cleared at once
-abbrev pub DoesAllItAsks : DeviceStep → Device → Device → Type 0
-DoesAllItAsks (asked.Clear p s most) old new = HasCleared old new p.0 s.0 most
-DoesAllItAsks (asked.Finish p s) old new = HasEndedSlot old new p.0 s.0
-DoesAllItAsks step old new = Unit {0}
+abbrev pub EndsIfFinishAndClearsRunIfClear : DeviceStep → Device → Device → Type 0
+EndsIfFinishAndClearsRunIfClear (asked.Clear p s most) old new = HasCleared old new p.0 s.0 most
+EndsIfFinishAndClearsRunIfClear (asked.Finish p s) old new = HasEndedSlot old new p.0 s.0
+EndsIfFinishAndClearsRunIfClear step old new = Unit {0}
 
 -- A step is done whole: the device did what it was asked, and sent the FIS of a command that ended or failed. No call
 -- on a store has failed, but where sectors are written back; a Clear did all that it could at once, and a Finish ended
@@ -311,15 +312,15 @@ DoesAllItAsks step old new = Unit {0}
 -- what they say after it.
 pub record Completes {S : Type 0} (size : S → ℕ) (told : S → Option (ℕ → List ℕ)) (failures : S → Option Failures)
     (s : DeviceStep) (old new : Model S) : Type 0 where
-  pub does_asked_step : DoesAskedStep (Sends s) s (device_at size told old) (device_at size told new)
+  pub does_asked_step : DoesAskedStep (SendsFisOfAskedStep s) s (device_at size told old) (device_at size told new)
   pub no_call_failed : is_cache_loss s ≡ false → NoCallFailed failures old new
   pub page_source_is : page_source_of new (asked_port s) ≡ page_source_after s (device_at size told old)
       (page_source_of old
       (asked_port s))
-  pub does_all_it_asks : (device_at size told old).memory_size ≤ 2 ^ 32
-      → DoesAllItAsks s (device_at size told old) (device_at size told
+  pub clear_and_finish_do_all_below_4_gib : (device_at size told old).memory_size ≤ 2 ^ 32
+      → EndsIfFinishAndClearsRunIfClear s (device_at size told old) (device_at size told
       new)
-  pub loses_cache : is_cache_loss s ≡ true
+  pub lose_plug_loses_cache : is_cache_loss s ≡ true
       → LosesCacheIn size told failures (bay_of old (asked_port s)) (bay_of new (asked_port s))
 
 -- its command fails
@@ -363,7 +364,8 @@ pub record IsLeftOut {S : Type 0} (size : S → ℕ) (told : S → Option (ℕ �
   pub other_bays_are_kept : (port : ℕ) → port ≢ asked_port s → bay_of new port ≡ bay_of old port
   pub disks_are_kept : (which : DiskIndex) → numbered_disk new (asked_port s) which
       ≡ numbered_disk old (asked_port s) which
-  pub lacks_memory : IsAddressable s (device_at size told old) → IsPossible s (device_at size told old) →
+  pub possible_step_lacks_memory : IsMemoryAddressableForStep s (device_at size told old)
+      → IsPossible s (device_at size told old) →
       LacksMemory s (device_at size told old) old.hardware old.bays.items × (new.hardware.starved ≡ true)
   pub step_keeps : StepKeeps size old new
   pub stays_starved : old.hardware.starved ≡ true → new.hardware.starved ≡ true
@@ -395,6 +397,6 @@ pub record KeepsRoomForNext {S : Type 0} (size : S → ℕ) (told : S → Option
     (known : Option NextMove) (old new : Model S) : Type 0 where
   pub tape_has_room : (n : ℕ) → TapeHasRoom old.hardware (n + 1) → TapeHasRoom new.hardware n
   pub cache_has_room : (t : FetchedCommand) → ((device_at size told old).port port).taken slot ≡ Some t → (n : ℕ)
-      → ModelHasRoomForOldSectors old port (written_ahead t.meaning.operation 1 + n)
+      → ModelHasRoomForOldSectors old port (sectors_left_to_write t.meaning.operation 1 + n)
       → ModelHasRoomForOldSectors new port n
   pub next_move_is : IfSome known (λ n. (t : TakenCommand) × IsNextMove new.hardware port slot n t)

@@ -2,7 +2,7 @@
 use Rattle.std.proofs.Common.{ℕ, Bool, zero, suc, true, false, ◌≡◌, ◌&&◌, List, [], ◌∷◌, Option, None, Some, refl, subst, slice_index_or}
 use Rattle.std.specs.Prelude.{is_some}
 use Rattle.adapter.specs.Device.{HasKnownSectors}
-use Rattle.device_model.specs.ModelState.{all_tell, media_of, all_media_of, tells}
+use Rattle.device_model.specs.ModelState.{all_bay_stores_are_known, media_of, all_media_of, tells}
 use Rattle.device_model.specs.declared.bay.Bay.{Bay}
 
 is_told : (told other : Option (ℕ → List ℕ)) → is_some told && is_some other ≡ true → (f : ℕ → List ℕ) × (told ≡ Some f)
@@ -15,21 +15,23 @@ module _ {S : Type 0} (size : S → ℕ) (told : S → Option (ℕ → List ℕ)
   bay_disk_has_known_sectors None telling = ((λ k. []), refl)
   bay_disk_has_known_sectors (Some b) telling = is_told (told b.disk.store) (told b.other.store) telling
 
-  pub each_tells : (bays : List (Option (Bay S))) → all_tell told bays ≡ true → (port : ℕ)
+  pub each_bay_store_is_known : (bays : List (Option (Bay S))) → all_bay_stores_are_known told bays ≡ true → (port : ℕ)
       → tells told (slice_index_or bays port None) ≡ true
-  each_tells [] telling port = refl
-  each_tells (b ∷ rest) telling zero = by (tells told b) refl
+  each_bay_store_is_known [] telling port = refl
+  each_bay_store_is_known (b ∷ rest) telling zero = by (tells told b) refl
     where
       by : (x : Bool) → tells told b ≡ x → tells told b ≡ true
       by true e = e
-      by false e = absurd (let no : false ≡ true = subst (λ y. y && all_tell told rest ≡ true) e telling in cc)
-  each_tells (b ∷ rest) telling (suc port) = each_tells rest (by (tells told b) telling) port
+      by false e = absurd (let no : false ≡ true = subst
+          (λ y. y && all_bay_stores_are_known told rest ≡ true) e telling in cc)
+  each_bay_store_is_known (b ∷ rest) telling (suc port) = each_bay_store_is_known rest (by (tells told b) telling) port
     where
-      by : (x : Bool) → x && all_tell told rest ≡ true → all_tell told rest ≡ true
+      by : (x : Bool) → x && all_bay_stores_are_known told rest ≡ true → all_bay_stores_are_known told rest ≡ true
       by true e = e
       by false e = absurd (let no : false ≡ true = e in cc)
 
-  pub disks_told : (bays : List (Option (Bay S))) → all_tell told bays ≡ true → (port : ℕ)
+  pub all_disks_have_known_sectors : (bays : List (Option (Bay S))) → all_bay_stores_are_known told bays ≡ true
+      → (port : ℕ)
       → HasKnownSectors ((all_media_of size told bays).media port).disk
-  disks_told bays telling port = bay_disk_has_known_sectors (slice_index_or bays port None)
-      (each_tells bays telling port)
+  all_disks_have_known_sectors bays telling port = bay_disk_has_known_sectors (slice_index_or bays port None)
+      (each_bay_store_is_known bays telling port)

@@ -59,8 +59,8 @@ pub record HasClear (d : Device) (port slot most : ℕ) (t : FetchedCommand) : T
 -- ---- what a trim is going to clear
 
 -- the block that it has, or the one that its last move is going to bring
-abbrev pub block_ahead : (ℕ → ℕ) → FetchedCommand → List ℕ
-block_ahead memory t = if nat_lt t.moved (length t.places) then bytes_at memory
+abbrev pub trim_block_after_moves : (ℕ → ℕ) → FetchedCommand → List ℕ
+trim_block_after_moves memory t = if nat_lt t.moved (length t.places) then bytes_at memory
     (slice_index t.places (length t.places - 1)) 512 else t.block
 
 -- so many runs are left to clear of this block
@@ -69,21 +69,22 @@ pub record HasRunsLeft (block : List ℕ) (cleared clears : ℕ) : Type 0 where
   pub clears_are_runs : clears ≡ run_count_of (drop cleared (trim_sectors block))
 
 -- so many sectors are left to clear of a command: those of a trim, and of another command none
-abbrev pub cleared_ahead : Operation → (ℕ → ℕ) → FetchedCommand → ℕ
-cleared_ahead Trim memory t = length (drop t.cleared (trim_sectors (block_ahead memory t)))
-cleared_ahead _ memory t = 0
+abbrev pub sectors_left_to_clear : Operation → (ℕ → ℕ) → FetchedCommand → ℕ
+sectors_left_to_clear Trim memory t = length (drop t.cleared (trim_sectors (trim_block_after_moves memory t)))
+sectors_left_to_clear _ memory t = 0
 
 -- and so many to write, of so many moves that are left
-abbrev pub written_ahead : Operation → ℕ → ℕ
-written_ahead Write left = left
-written_ahead WriteQueued left = left
-written_ahead _ left = 0
+abbrev pub sectors_left_to_write : Operation → ℕ → ℕ
+sectors_left_to_write Write left = left
+sectors_left_to_write WriteQueued left = left
+sectors_left_to_write _ left = 0
 
 -- so many sectors of the disk it is going to change
-abbrev pub changes_ahead : Operation → (ℕ → ℕ) → FetchedCommand → ℕ → ℕ
-changes_ahead operation memory t left = written_ahead operation left + cleared_ahead operation memory t
+abbrev pub sectors_left_to_change : Operation → (ℕ → ℕ) → FetchedCommand → ℕ → ℕ
+sectors_left_to_change operation memory t left = sectors_left_to_write operation left + sectors_left_to_clear operation
+    memory t
 
 -- so many clears are left of a command: one of each run of a trim, and of another command none
 abbrev pub HasClearsLeft : Operation → (ℕ → ℕ) → FetchedCommand → (clears : ℕ) → Type 0
-HasClearsLeft Trim memory t clears = HasRunsLeft (block_ahead memory t) t.cleared clears
+HasClearsLeft Trim memory t clears = HasRunsLeft (trim_block_after_moves memory t) t.cleared clears
 HasClearsLeft _ memory t clears = clears ≡ 0

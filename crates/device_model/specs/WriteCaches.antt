@@ -52,7 +52,7 @@ pub record RollsBack {S : Type 0} (size : S → ℕ) (told : S → Option (ℕ �
   pub failed_count_is_allowed : length failed ≤ size was
   pub writes_fail : WritesFail failed (failures was) (failures now)
   pub size_is_kept : size now ≡ size was
-  pub sectors_are_rolled_back : (sector : ℕ) → sector < size was → (Contains failed sector → ⊥)
+  pub unfailed_sectors_are_rolled_back : (sector : ℕ) → sector < size was → (Contains failed sector → ⊥)
       → sector_told (told now) sector ≡ sector_told into sector
   pub failed_are_kept : (sector : ℕ) → (size was ≤ sector) ⊎ Contains failed sector
       → sector_told (told now) sector ≡ sector_told (told was) sector

@@ -1,8 +1,8 @@
 // The disks of a port, as a model has them.
 ghost use Rattle.std.specs.Prelude.{◌≡◌, ◌<◌, ◌≤◌, ◌+◌, ◌++◌, ◌∷◌, [], ℕ, List, Option, None, true, false, length, if◌then◌else◌, IfSome};
 ghost use Rattle.adapter.specs.{Commands.{is_ranged, reads_memory}, Device.{Disk, IsValidSector}, Steps.{disk_after, disk_cleared}};
-ghost use Rattle.device_model.specs.{WriteCaches.{CallFails, HasRoomForOldSectors, KeepsSameOldSectors, lasting_in}, Disks.{OnlyEndsCommand, BayEndsCommand, LosesCache, OnlyChangesPageSource, SelectsDisk, disk_over, identity, lasting_of, plugged_as}, PieceTransfers.{TransfersPiece, IsTransferred, piece_of}, Finishing.{HasRoomAhead, IsCommandBegun, IsCommandUnbegun}, ModelState.{AreNewDisks}};
-ghost use Rattle.device_model.specs.{DiskPages.{IsSentLog, IsSentIdentify, HasBitsFlipped, with_lie, with_logged_error, without_lies}, Trims.{written_ahead}, PortView.{operation_of_kind}, WholeAdapter.{AllMedia, device_of}, ZeroedSectors.{MakesZero}};
+ghost use Rattle.device_model.specs.{WriteCaches.{CallFails, HasRoomForOldSectors, KeepsSameOldSectors, lasting_in}, Disks.{OnlyEndsCommand, BayEndsCommand, LosesCache, OnlyChangesPageSource, SelectsDisk, disk_over, identity, lasting_of, plugged_as}, PieceTransfers.{TransfersPiece, IsTransferred, piece_of}, Finishing.{CacheHasRoomForRestOfCommand, IsCommandBegun, NoneMayFinishOrLacksRoom}, ModelState.{AreNewDisks}};
+ghost use Rattle.device_model.specs.{DiskPages.{IsSentLog, IsSentIdentify, HasBitsFlipped, with_lie, with_logged_error, without_lies}, Trims.{sectors_left_to_write}, PortView.{operation_of_kind}, WholeAdapter.{AllMedia, device_of}, ZeroedSectors.{MakesZero}};
 
 use crate::cache::{Cache, put_sector, roll_back};
 use crate::clearing::SectorExtent;
@@ -141,7 +141,7 @@ impl<S: SectorStore> Bay<S> {
     /// bytes are as they were. A read is told how many pieces of its command come right behind this one.
     #[inline(always)]
     fn transfer_bytes(&mut self, next: NextMove, ahead: u32, bytes: &mut [u8; 512]) -> bool
-        requires { HasRoomForOldSectors self.old.cache (written_ahead (operation_of_kind next.command_kind) 1) }
+        requires { HasRoomForOldSectors self.old.cache (sectors_left_to_write (operation_of_kind next.command_kind) 1) }
         ensures { TransfersPiece S.size S.told S.failures self.old self.new next bytes.old bytes.new result }
     {
         match next.command_kind {
@@ -168,7 +168,8 @@ impl<S: SectorStore> Bay<S> {
     #[inline(always)]
     fn transfer_within(&mut self, next: NextMove, ahead: u32, piece: &mut [u8]) -> bool
         requires long { length piece.old ≡ 512 }
-        requires room { HasRoomForOldSectors self.old.cache (written_ahead (operation_of_kind next.command_kind) 1) }
+        requires room { HasRoomForOldSectors self.old.cache (sectors_left_to_write
+            (operation_of_kind next.command_kind) 1) }
         ensures { TransfersPiece S.size S.told S.failures self.old self.new next piece.old piece.new result }
     {
         let Some(bytes) = piece.as_mut_array() else {
@@ -182,7 +183,8 @@ impl<S: SectorStore> Bay<S> {
     #[inline(always)]
     pub fn transfer_piece(&mut self, hardware: &mut Hardware, next: NextMove, ahead: u32) -> bool
         requires inside { next.address + 512 ≤ length hardware.old.memory.items }
-        requires room { HasRoomForOldSectors self.old.cache (written_ahead (operation_of_kind next.command_kind) 1) }
+        requires room { HasRoomForOldSectors self.old.cache (sectors_left_to_write
+            (operation_of_kind next.command_kind) 1) }
         ensures exchanges { TransfersPiece S.size S.told S.failures self.old self.new next
             (piece_of hardware.old next) (piece_of hardware.new next) result }
         ensures memory { IsTransferred hardware.old hardware.new next }
@@ -210,13 +212,12 @@ impl<S: SectorStore> Bay<S> {
         requires port { port < 4 }
         requires slot { slot < 32 }
         ensures begun { IfSome result (λ b. IsCommandBegun port slot b.remaining.moves b.remaining.clears
-            b.is_newly_taken hardware.old
-            hardware.new) }
+            b.is_newly_taken hardware.old hardware.new) }
         ensures ahead { IfSome result (λ b. (o : AllMedia)
-            → HasRoomAhead self.new.cache port slot b.remaining.moves (device_of hardware.new o)) }
+            → CacheHasRoomForRestOfCommand self.new.cache port slot b.remaining.moves (device_of hardware.new o)) }
         ensures old_sectors_are_kept { KeepsSameOldSectors self.old.cache self.new.cache }
         ensures is_unbegun { result ≡ None
-            → IsCommandUnbegun port slot hardware.old hardware.new self.old.cache self.new.cache }
+            → NoneMayFinishOrLacksRoom port slot hardware.old hardware.new self.old.cache self.new.cache }
         ensures rest { self.new ≡ record self.old { cache = self.new.cache } }
     {
         hardware.begin(port, slot, &mut self.cache)

@@ -1,7 +1,7 @@
 // The disks of a port.
 ghost use Rattle.std.specs.Prelude.{◌≡◌, ◌≤◌, ◌++◌, ◌∷◌, [], IfSome, Some, None};
 ghost use Rattle.adapter.specs.Device.{Disk};
-ghost use Rattle.sector_store.specs.{Pages.{IsIdentifyPage}, Stores.{IsStoredSector}};
+ghost use Rattle.sector_store.specs.{Pages.{IsIdentifyPage}, Stores.{IsSectorBytes}};
 ghost use Rattle.device_model.specs.Disks.{disk_number, is_same_index, plugged_as, port_0_alone};
 
 use adapter::DiskNumber;
@@ -83,7 +83,7 @@ impl<S: SectorStore> ModelDisk<S> {
     /// Its page of IDENTIFY DEVICE, with these abilities.
     pub fn page(&self, abilities: Abilities) -> [u8; 512]
         ensures page { IsIdentifyPage self.now.serial (S.size self.now.store) abilities result }
-        ensures bytes { IsStoredSector result }
+        ensures bytes { IsSectorBytes result }
     {
         identify_page(&self.serial, self.store.sectors(), abilities)
     }

@@ -350,7 +350,7 @@ pub fn place_at(prds: &[Prd], number: u32) -> Option<PiecePlace>
 }
 
 /// The address of a piece, if PRDs have so many.
-pub fn piece_at(prds: &[Prd], number: u32) -> Option<u64>
+pub fn piece_address_at(prds: &[Prd], number: u32) -> Option<u64>
     requires { length prds.now ≤ MOST_REQUEST_FRAMES }
     ensures found { IfSome result (λ address. (number < length (pieces prds.now))
         × (address ≡ slice_index (pieces prds.now) number)) }

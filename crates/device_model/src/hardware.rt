@@ -2,7 +2,7 @@
 ghost use Rattle.std.specs.Prelude.{Bool, List, ◌≡◌, ◌≢◌, ◌+◌, ◌<◌, ◌≤◌, ◌++◌, ℕ, true, false, if◌then◌else◌, All, length, take, drop, slice_index_or};
 ghost use Rattle.adapter.specs.{Access.{Shows, is_pending, device_after_reading, device_after_write, port_after_hba_is_write}, Memory.{patched, bytes_at}, Device.{Device}, Steps.{device_after, port_after_reset}, Steps.DeviceTransition.{ResetEnds}};
 ghost use Rattle.hba_regs.specs.Bits.{bit};
-ghost use Rattle.device_model.specs.{HeldPorts.{IsPortReleased, all_held}, ModelOwnSteps.{EndsResetUnlessHeld, IsSettled, IsSettledPort, LeadsBySteps, Settles, SparesAdapter}, PortView.{Media, port_of, blank_port}, WholeAdapter.{AllMedia, device_of, HasRegister}};
+ghost use Rattle.device_model.specs.{HeldPorts.{IsPortReleased, all_held}, ModelOwnSteps.{EndsPendingResetUnlessAllHeld, IsSettled, IsSettledPort, LeadsBySteps, Settles, KeepsPortCountHrTapeAndStarved}, PortView.{Media, port_of, blank_port}, WholeAdapter.{AllMedia, device_of, HasRegister}};
 
 use crate::bits::bit_if;
 use crate::command_room::CommandBuffer;
@@ -187,7 +187,7 @@ impl Hardware {
 
     /// A reset that is pending ends unless all ports are held, and ends all holds.
     fn end_reset_unless_all_held(&mut self, held: &mut [bool; PORTS])
-        ensures resets { (o : AllMedia) → EndsResetUnlessHeld held.old held.new (device_of self.old o)
+        ensures resets { (o : AllMedia) → EndsPendingResetUnlessAllHeld held.old held.new (device_of self.old o)
             (device_of self.new o) }
         ensures left { self.new.hr ≡ true → held.new ≡ all_held }
         ensures number { length self.new.ports ≡ length self.old.ports }
@@ -208,7 +208,7 @@ impl Hardware {
         ensures settled { (o : AllMedia) → IsSettledPort ((device_of self.new o).port port) }
         ensures others { (o : AllMedia) (q : ℕ) → q ≢ port → (device_of self.new o).port q ≡ (device_of self.old o).port
             q }
-        ensures spares { SparesAdapter self.old self.new }
+        ensures spares { KeepsPortCountHrTapeAndStarved self.old self.new }
     {
         self.ports[port].settle_state();
         if self.ports[port].link() {
@@ -221,7 +221,7 @@ impl Hardware {
     /// any more.
     pub fn settle_state(&mut self, held: &mut [bool; PORTS])
         ensures own { (o : AllMedia) → (reset : Device)
-            × EndsResetUnlessHeld held.old held.new (device_of self.old o) reset
+            × EndsPendingResetUnlessAllHeld held.old held.new (device_of self.old o) reset
             × LeadsBySteps (Settles held.new) reset (device_of self.new o) }
         ensures settled { (o : AllMedia) → IsSettled held.new (device_of self.new o) }
         ensures tape { self.new.tape ≡ self.old.tape }

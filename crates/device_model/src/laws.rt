@@ -1,8 +1,8 @@
 // Laws of the definitions, for callers: the clause is the theorem. These functions do nothing.
 ghost use Rattle.std.specs.Prelude.{◌≡◌, ◌≢◌, ◌+◌, ◌<◌, ◌≤◌, ◌⊎◌, true, false, is_some, ℕ, Bool, List, Some, All};
 ghost use Rattle.ata_types.specs.{declared.Port.{Port}, declared.Slot.{Slot}};
-ghost use Rattle.adapter.specs.{Commands.{Meaning, is_queued}, Device.{Device, FetchedCommand}, Idle.{TellsDisks}, Steps.{Can, IsFinished, WorksOn, next_place}, Steps.DeviceTransition.{Clear, Fetch, Move}, declared.access.DeviceStep.{DeviceStep}};
-ghost use Rattle.device_model.specs.{WriteCaches.{sector_told}, Disks.{bay_of, numbered_disk, lasting_of, disk_index_of}, StepEffects.{DidStep, IsPossible, PutsIn}, Finishing.{HasDisksOrIsRanged}, HeldPorts.{IsPortHeld}, ModelState.{device_at}, Queue.{AnswersEachStep}, ModelOwnSteps.{DoesSpontaneousSteps}, declared.bay.Bay.{Bay}, declared.disks.DiskIndex.{DiskIndex}};
+ghost use Rattle.adapter.specs.{Commands.{Meaning, is_queued}, Device.{Device, FetchedCommand}, Idle.{DisksAreKnownIfTelling}, Steps.{Can, IsFinished, WorksOn, next_place}, Steps.DeviceTransition.{Clear, Fetch, Move}, declared.access.DeviceStep.{DeviceStep}};
+ghost use Rattle.device_model.specs.{WriteCaches.{sector_told}, Disks.{bay_of, numbered_disk, lasting_of, disk_index_of}, StepEffects.{DidStep, IsPossible, PutsDiskIntoPort}, Finishing.{HasDisksOrIsRanged}, HeldPorts.{IsPortHeld}, ModelState.{device_at}, Queue.{AnswersEachStep}, ModelOwnSteps.{DoesSpontaneousSteps}, declared.bay.Bay.{Bay}, declared.disks.DiskIndex.{DiskIndex}};
 ghost use Rattle.adapter.specs.declared.access.DeviceStep.TheVariants as asked;
 
 use crate::Model;
@@ -11,7 +11,7 @@ use sector_store::SectorStore;
 /// A model's disks tell their sectors if it is one that tells, whatever it did since it was made. Over stores that tell
 /// theirs at all times, as those in memory do, each model is one that tells.
 pub fn law_disks_tell_sectors<S: SectorStore>()
-    ensures tells { (m : Model S) → TellsDisks (device_at S.size S.told m) }
+    ensures tells { (m : Model S) → DisksAreKnownIfTelling (device_at S.size S.told m) }
     ensures telling { ((store : S) → is_some (S.told store) ≡ true) → (m : Model S)
         → (device_at S.size S.told m).telling ≡ true }
 {}
@@ -36,22 +36,23 @@ pub fn law_clears_are_possible<S: SectorStore>()
 /// Whatever steps are done or left, one after another, that don't put a disk in which isn't in: it stays out, with the
 /// sectors that it had. So it has these where it is put in. That holds of the disk that wasn't in last, which a
 /// LosePlug doesn't put in, and of the one that was, where none is in.
-pub fn law_disks_that_are_out_stay<S: SectorStore>()
+pub fn law_disk_out_stays_out_unless_put_in<S: SectorStore>()
     ensures other { (steps : List DeviceStep) (old new : Model S) (port : ℕ) (which : DiskIndex)
-        → disk_index_of old port ≢ Some which → All (λ s. PutsIn (disk_index_of old port) port which s → ⊥) steps →
+        → disk_index_of old port ≢ Some which → All (λ s. PutsDiskIntoPort (disk_index_of old port) port which s
+        → ⊥) steps →
         AnswersEachStep S.size S.told S.failures steps old new → (disk_index_of new port ≢ Some which)
         × (numbered_disk new port which ≡ numbered_disk old port which) }
     ensures last_in { (steps : List DeviceStep) (old new : Model S) (port : ℕ) (which : DiskIndex)
         → disk_index_of old port ≡ Some which →
         ((device_at S.size S.told old).port port).present ≡ false
-        → All (λ s. PutsIn (disk_index_of old port) port which s → ⊥) steps
+        → All (λ s. PutsDiskIntoPort (disk_index_of old port) port which s → ⊥) steps
         → AnswersEachStep S.size S.told S.failures steps old new →
         (disk_index_of new port ≡ Some which → ((device_at S.size S.told new).port port).present ≡ false)
         × (numbered_disk new port which ≡ numbered_disk old port which) }
 {}
 
 /// What a model does by itself leaves a held port as it is.
-pub fn law_held_ports_stay()
+pub fn law_own_steps_leave_held_ports()
     ensures { (held : List Bool) (old new : Device) (port : ℕ) → IsPortHeld held port
         → DoesSpontaneousSteps held old new
         → new.port port ≡ old.port port }
@@ -93,7 +94,7 @@ pub fn law_lost_caches_leave_what_is_lasting<S: SectorStore>()
         (sector_told (S.told b.disk.store) sector ≡ sector_told (lasting_of S.told a) sector)
         ⊎ ((sector_told (S.told b.disk.store) sector ≡ sector_told (S.told a.disk.store) sector)
         × (S.failures b.disk.store ≢ S.failures a.disk.store)) }
-    ensures all_is_lasting { (old new : Model S) (p : Port) (a b : Bay S) → bay_of old p.0 ≡ Some a
+    ensures all_is_lasting_without_failures { (old new : Model S) (p : Port) (a b : Bay S) → bay_of old p.0 ≡ Some a
         → bay_of new p.0 ≡ Some b
         → a.cache.is_on ≡ true → DidStep S.size S.told S.failures (asked.LosePlug p) old new
         → S.failures b.disk.store ≡ S.failures a.disk.store → (sector : ℕ) → sector < S.size a.disk.store →

@@ -2,9 +2,9 @@
 ghost use Rattle.std.specs.{Prelude.{◌≡◌, ◌≢◌, ◌↔◌, ◌<◌, ◌≤◌, ◌+◌, ◌-◌, ◌*◌, ◌^◌, ◌⊎◌, ◌++◌, ◌∷◌, [], ℕ, Bool, List, true, false, is_some, None, Some, ◌&&◌, min, max, map, length, slice_index, slice_index_or, slice_set, IsTrue, IfSome, IfOk, OnOk, OnErr}, Vec.{vec_len, vec_capacity}};
 ghost use Rattle.adapter.specs.{Commands.{is_ranged, reads_memory}, Device.{Disk, IsValidSector, FetchedCommand}, Access.{Reads, Writes, Loads, Stores, Shows, device_after_write}, Memory.{bytes_at, patched}, Rules.{MayRead, MayWrite, IsUnowned, IsStable}, Steps.{Steps, disk_after, disk_cleared, next_place}, AskedSteps.{DoesOrFailsStep}, OneCommand.{IsFreeSlot}};
 ghost use Rattle.sector_store.specs.Stores.{HasOneMoreFailure};
-ghost use Rattle.device_model.specs.{FetchedBytes.{bytes_of}, Disks.{OnlyEndsCommand, ModelHasRoomForOldSectors, OnlyChangesPageSource, numbered_disk, disks_given_for, port_0_alone}, PortView.{operation_of_kind}, Finishing.{FindsPageCommand, HasPageCommand, HasMove, TapeHasRoom, HasTakenCommand, MayTakePage, sends_page}, HeldPorts.{IsPortReleased}, DiskPages.{with_lie, with_logged_error, without_lies}, PageTaking.{TakesPage}};
-ghost use Rattle.device_model.specs.{StepEffects.{AnswersStep, Completes, OwnStepsKeep, HasCleared, IsPossible, CommandFails, KeepsRoomForNext, is_step_answered, asked_fault}, ToldDisks.{disks_told}, Queue.{BeginsAccess, DoesRead, AppliesEffect}, ModelState.{IsNewBay, IsNewMedia, IsNewModel, all_given_disks_tell, all_tell, cap_of, device_at, given_disks_tell, media_of, tells}, Slots.{IsNextMove}};
-ghost use Rattle.device_model.specs.{declared.port.TakenCommand.{TakenCommand}, ModelOwnSteps.{SendsPages, IsSettled, LeadsBySteps, LeavesPageWithoutMemory, NoPageIsLeft}, Trims.{next_run_length, written_ahead}, WholeAdapter.{HasDisks, HasRegister}};
+ghost use Rattle.device_model.specs.{FetchedBytes.{bytes_of}, Disks.{OnlyEndsCommand, ModelHasRoomForOldSectors, OnlyChangesPageSource, numbered_disk, disks_given_for, port_0_alone}, PortView.{operation_of_kind}, Finishing.{FindsPageCommandAndWhetherItCanEnd, HasFinishablePageCommand, HasMove, TapeHasRoom, HasTakenCommand, MayTakePageCommand, sends_page}, HeldPorts.{IsPortReleased}, DiskPages.{with_lie, with_logged_error, without_lies}, PageTaking.{TakesPageCommand}};
+ghost use Rattle.device_model.specs.{StepEffects.{AnswersStep, Completes, OwnStepsKeep, HasCleared, IsPossible, CommandFails, KeepsRoomForNext, is_step_not_skipped, asked_fault}, ToldDisks.{all_disks_have_known_sectors}, Queue.{BeginsAccess, DoesRead, AppliesEffect}, ModelState.{IsNewBay, IsNewMedia, IsNewModel, all_given_disks_tell, all_bay_stores_are_known, cap_of, device_at, given_disks_tell, media_of, tells}, Slots.{IsNextMove}};
+ghost use Rattle.device_model.specs.{declared.port.TakenCommand.{TakenCommand}, ModelOwnSteps.{SendsPages, IsSettled, LeadsBySteps, LeavesPageWithoutMemory, PageCommandWaitsOnlyIfHeldOrStarved}, Trims.{next_run_length, sectors_left_to_write}, WholeAdapter.{HasDisks, HasRegister}};
 
 use crate::bay::{Bay, PAGE_BYTES, add_lie_of, end_lies, log_failed, note_end_of};
 use crate::clearing::SectorExtent;
@@ -13,7 +13,7 @@ use crate::config::{ModelConfig, NoMemory};
 use crate::disks::{DiskIndex, Disks, PortDisks};
 use crate::hardware::Hardware;
 use crate::port::{CommandKind, PortModel};
-use crate::steps::{BegunCommand, NextMove, PendingPage};
+use crate::steps::{BegunCommand, NextMove, PendingPageCommand};
 use adapter::{
     AccessCounter, Adapter, DeviceStep, DiskNumber, DiskPage, Entry, FatalError, Stepped,
 };
@@ -37,7 +37,7 @@ enum StepOutcome {
 impl StepOutcome {
     /// Whether something came of it.
     fn is_told(self) -> bool
-        ensures { result ≡ is_step_answered self }
+        ensures { result ≡ is_step_not_skipped self }
     {
         match self {
             StepOutcome::Skipped => false,
@@ -128,7 +128,8 @@ fn bays_for<S: SectorStore>(
         → IsNewBay config (disks_given_for disks port) (slice_index_or bays.items port None)) }
     ensures media { IfOk result (λ bays. (port : ℕ) → IsNewMedia S.size S.told (disks_given_for disks port)
         (media_of S.size S.told (slice_index_or bays.items port None))) }
-    ensures tells { IfOk result (λ bays. all_tell S.told bays.items ≡ all_given_disks_tell S.told disks) }
+    ensures tells { IfOk result (λ bays. all_bay_stores_are_known S.told bays.items ≡ all_given_disks_tell S.told
+        disks) }
 {
     let mut bays = Vec::with_capacity(alloc, PORTS)?;
     push_bay(&mut bays, bay_for(alloc, disks.port0, config));
@@ -365,7 +366,7 @@ impl<S: SectorStore> Model<S> {
     ) -> StepOutcome
         requires small { slot.0 < 32 }
         requires known { IfSome known.old (λ n. (t : TakenCommand) × IsNextMove self.old.hardware port.0 slot.0 n t) }
-        ensures answers { AnswersStep S.size S.told S.failures (DeviceStep.Move port slot) (is_step_answered result)
+        ensures answers { AnswersStep S.size S.told S.failures (DeviceStep.Move port slot) (is_step_not_skipped result)
             self.old
             self.new }
         ensures whole { result ≡ StepOutcome.Done
@@ -397,7 +398,7 @@ impl<S: SectorStore> Model<S> {
             self.hardware.starved = true;
             return StepOutcome::Skipped;
         }
-        if !next.is_within_disk(bay.sectors()) {
+        if !next.is_within_disk_if_ranged(bay.sectors()) {
             let _failed = self.fail(port, slot, PAST_THE_DISK, false);
             return StepOutcome::Failed;
         }
@@ -428,7 +429,7 @@ impl<S: SectorStore> Model<S> {
     fn clear_run(&mut self, port: Port, slot: Slot, most: u32) -> StepOutcome
         requires { slot.0 < 32 }
         ensures answers { AnswersStep S.size S.told S.failures (DeviceStep.Clear port slot most)
-            (is_step_answered result)
+            (is_step_not_skipped result)
             self.old self.new }
         ensures whole { result ≡ StepOutcome.Done
             → HasCleared (device_at S.size S.told self.old) (device_at S.size S.told self.new) port.0 slot.0 most
@@ -488,7 +489,7 @@ impl<S: SectorStore> Model<S> {
         requires { slot.0 < 32 }
         ensures answers { AnswersStep S.size S.told S.failures (DeviceStep.Finish port slot) result self.old self.new }
         ensures sends { HasDisks (device_at S.size S.told self.old) port.0
-            → (has : HasPageCommand (device_at S.size S.told self.old) port.0 slot.0) →
+            → (has : HasFinishablePageCommand (device_at S.size S.told self.old) port.0 slot.0) →
             (result ≡ true → IsFreeSlot ((device_at S.size S.told self.new).port port.0) slot.0)
             × (result ≡ false → (self.new.hardware.starved ≡ true)
             × (TapeHasRoom self.new.hardware (has.moves_left + 1) → ⊥)) }
@@ -533,29 +534,30 @@ impl<S: SectorStore> Model<S> {
     fn take_page(&mut self, port: u8, slot: u8)
         requires port { port < 4 }
         requires small { slot < 32 }
-        requires there { MayTakePage (device_at S.size S.told self.old) port slot
-            ⊎ HasPageCommand (device_at S.size S.told self.old) port slot }
-        ensures { TakesPage S.size S.told port slot self.old self.new }
+        requires there { MayTakePageCommand (device_at S.size S.told self.old) port slot
+            ⊎ HasFinishablePageCommand (device_at S.size S.told self.old) port slot }
+        ensures { TakesPageCommand S.size S.told port slot self.old self.new }
     {
         let _taken = self.hardware.fetch(port, slot);
     }
 
     /// The first slot with an IDENTIFY DEVICE or READ LOG EXT that may be taken, or can be done to its end, of a port
     /// that has disks and isn't left out.
-    fn next_page(&self, left_out: &[bool; PORTS]) -> Option<PendingPage>
+    fn next_page_command(&self, left_out: &[bool; PORTS]) -> Option<PendingPageCommand>
         ensures port { IfSome result (λ found. (found.port < 4) × IsPortReleased left_out.now found.port
             × HasDisks (device_at S.size S.told self.now) found.port) }
         ensures small { IfSome result (λ found. found.slot < 32) }
-        ensures found { IfSome result (λ found. FindsPageCommand (device_at S.size S.told self.now) found.port
+        ensures found { IfSome result (λ found. FindsPageCommandAndWhetherItCanEnd
+            (device_at S.size S.told self.now) found.port
             found.slot
             (Some found.can_end)) }
         ensures none { result ≡ None → (port slot : ℕ) → port < 4 → IsPortReleased left_out.now port
             → HasDisks (device_at S.size S.told self.now) port → slot < 32 →
-            FindsPageCommand (device_at S.size S.told self.now) port slot None }
+            FindsPageCommandAndWhetherItCanEnd (device_at S.size S.told self.now) port slot None }
     {
         for port in 0..4u8 {
             if !left_out[usize::from(port)] && has_disks(self.bays.as_slice(), usize::from(port)) {
-                let found = self.hardware.next_page(port);
+                let found = self.hardware.next_page_command(port);
                 if found.is_some() {
                     return found;
                 }
@@ -574,7 +576,8 @@ impl<S: SectorStore> Model<S> {
             (device_at S.size S.told self.new) }
         ensures settled { (held : List Bool) → IsSettled held (device_at S.size S.told self.old)
             → IsSettled held (device_at S.size S.told self.new) }
-        ensures left { NoPageIsLeft self.new.held self.new.hardware.starved (device_at S.size S.told self.new) }
+        ensures left { PageCommandWaitsOnlyIfHeldOrStarved self.new.held self.new.hardware.starved
+            (device_at S.size S.told self.new) }
         ensures rest { OwnStepsKeep S.size self.old self.new }
         ensures told { self.new.hardware.starved ≡ true → (self.old.hardware.starved ≡ true)
             ⊎ LeavesPageWithoutMemory self.new.hardware (device_at S.size S.told self.new) }
@@ -583,7 +586,7 @@ impl<S: SectorStore> Model<S> {
     {
         let mut left_out = self.held;
         let mut lacks = false;
-        while let Some(found) = self.next_page(&left_out) {
+        while let Some(found) = self.next_page_command(&left_out) {
             if !found.can_end || lacks {
                 self.take_page(found.port, found.slot);
                 left_out[usize::from(found.port)] = true;
@@ -720,7 +723,8 @@ impl<S: SectorStore> Adapter for Model<S> {
         ensures reads { Reads r result (device_at S.size S.told self.old) (device_at S.size S.told self.new) }
         ensures counted { self.new.accesses.count.made ≡ self.old.accesses.count.made + 1 }
         ensures settled { IsSettled self.new.held (device_at S.size S.told self.new) }
-        ensures no_page_is_left { NoPageIsLeft self.new.held self.new.hardware.starved
+        ensures page_command_waits_only_if_held_or_starved { PageCommandWaitsOnlyIfHeldOrStarved self.new.held
+            self.new.hardware.starved
             (device_at S.size S.told self.new) }
         ensures does_read { DoesRead S.size S.told S.failures r result self.old self.new }
     {
@@ -764,7 +768,7 @@ impl<S: SectorStore> Adapter for Model<S> {
         self.hardware.store(addr as usize, bytes);
     }
 
-    ghost tells = { λ m. disks_told S.size S.told m.bays.items };
+    ghost tells = { λ m. all_disks_have_known_sectors S.size S.told m.bays.items };
 }
 
 impl<S: SectorStore> Stepped for Model<S> {

@@ -1,7 +1,7 @@
 // One port of the model.
 ghost use Rattle.std.specs.Prelude.{◌≡◌, ◌↔◌, [], unwrap_or, IfOk, IsTrue};
 ghost use Rattle.adapter.specs.{Commands.{direction_of, is_queued, is_ranged, piece_count, reads_memory}, Device.{Disk, DurableState}, Idle.{IsIdlePort}, Steps.{lasting_after}};
-ghost use Rattle.device_model.specs.{Finishing.{sends_page}, ModelState.{HasInitialValues}, Trims.{written_ahead}, PortView.{Media, cause_of, operation_of_kind, port_of}};
+ghost use Rattle.device_model.specs.{Finishing.{sends_page}, ModelState.{HasInitialValues}, Trims.{sectors_left_to_write}, PortView.{Media, cause_of, operation_of_kind, port_of}};
 
 use crate::halt::Halting;
 use crate::prds::PrdTable;
@@ -32,10 +32,10 @@ pub struct Readings {
     pub last_sig: u32,
     pub last_ci: u32,
     pub last_sact: u32,
-    pub engine_count: u32,
-    pub link_count: u32,
+    pub engine_wait_count: u32,
+    pub link_wait_count: u32,
     pub busy_count: u32,
-    pub command_count: u32,
+    pub slot0_issued_count: u32,
     pub acknowledged: bool,
 }
 
@@ -99,7 +99,7 @@ impl CommandKind {
 
     /// How many sectors it writes to the disk, of so many pieces that are left to move.
     pub fn sectors_to_write(self, left: u32) -> u32
-        ensures { result ≡ written_ahead (operation_of_kind self) left }
+        ensures { result ≡ sectors_left_to_write (operation_of_kind self) left }
     {
         match self {
             CommandKind::Write | CommandKind::WriteQueued => left,

@@ -81,17 +81,17 @@ impl PortModel {
             PortReg::Cmd => {
                 let awaited = !self.st && is_set(value, 15) || !self.fre && is_set(value, 14);
                 self.readings.last_cmd = value;
-                self.readings.engine_count = count_after_reading(
+                self.readings.engine_wait_count = count_after_reading(
                     awaited,
-                    self.readings.engine_count,
+                    self.readings.engine_wait_count,
                 );
             }
             PortReg::Ssts => {
                 self.readings.last_ssts = value;
                 if no_comreset {
-                    self.readings.link_count = link_count_after_reading(
+                    self.readings.link_wait_count = link_count_after_reading(
                         value % 16,
-                        self.readings.link_count,
+                        self.readings.link_wait_count,
                     );
                 }
             }
@@ -105,9 +105,9 @@ impl PortModel {
             PortReg::Ci => {
                 self.readings.last_ci = value;
                 if no_comreset {
-                    self.readings.command_count = count_after_reading(
+                    self.readings.slot0_issued_count = count_after_reading(
                         is_set(value, 0),
-                        self.readings.command_count,
+                        self.readings.slot0_issued_count,
                     );
                 }
             }
@@ -152,9 +152,9 @@ impl PortModel {
         }
         self.sctl_det = det;
         self.readings.sctl_written_at = tape;
-        self.readings.link_count = 0;
+        self.readings.link_wait_count = 0;
         self.readings.busy_count = 0;
-        self.readings.command_count = 0;
+        self.readings.slot0_issued_count = 0;
     }
 
     /// Bits of PxSERR are cleared.

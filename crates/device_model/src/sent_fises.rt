@@ -1,7 +1,7 @@
 // The FISes that the model sends, in the received FIS area of a port (Serial ATA; AHCI 1.3.1, 4.2.1).
 ghost use Rattle.std.specs.Prelude.{◌≡◌, ◌+◌, ◌<◌, ◌≤◌, ◌/◌, ◌%◌, true, false, length};
 ghost use Rattle.ata_types.specs.declared.memory.TheConstants.{RECEIVED_FIS_BYTES};
-ghost use Rattle.device_model.specs.{SentFises.{IsSentOrLost, SendsEnd, SendsFault, SendsDeviceToHost, end_fis, failed_tags_fis, page_setup_fis, signature_fis, ended_tag_fis}, PortView.{Media, cause_of, operation_of_kind, port_of}, WholeAdapter.{AllMedia, device_of}};
+ghost use Rattle.device_model.specs.{SentFises.{IsSentOrLost, SendsEnd, SendsFault, SendsDeviceToHost, end_fis, queued_failure_fis, page_setup_fis, signature_fis, ended_tag_fis}, PortView.{Media, cause_of, operation_of_kind, port_of}, WholeAdapter.{AllMedia, device_of}};
 
 use crate::hardware::{Hardware, put};
 use crate::port::{CommandKind, PortModel};
@@ -84,7 +84,7 @@ impl PortModel {
 
     /// What a Set Device Bits FIS tells of a queued command that has failed: it names no tag.
     fn failed_bits(&self) -> SetDeviceBits
-        ensures { (m : Media) → result ≡ failed_tags_fis (port_of self.now m) }
+        ensures { (m : Media) → result ≡ queued_failure_fis (port_of self.now m) }
     {
         let (status, error) = self.status_and_error();
         SetDeviceBits {

@@ -66,10 +66,10 @@ impl PortModel {
         ensures up { result ≡ true → (m : Media) → MayLinkUp (port_of self.old m) 0x101
             × (port_of self.new m ≡ port_after_link_up (port_of self.old m) 0x101 true) }
         ensures same { result ≡ false → self.new ≡ self.old }
-        ensures linked { (self.new.present ≡ true) → (self.new.sctl_det % 16 ≡ 0) → (self.new.link_due ≡ true)
+        ensures no_link_may_come { (self.new.present ≡ true) → (self.new.sctl_det % 16 ≡ 0) → (self.new.link_due ≡ true)
             → false ≡ true }
         ensures engine { (self.new.st ≡ self.old.st) × (self.new.cr ≡ self.old.cr) }
-        ensures area { (self.new.fre ≡ self.old.fre) × (self.new.fr ≡ self.old.fr) }
+        ensures fre_and_fr_are_kept { (self.new.fre ≡ self.old.fre) × (self.new.fr ≡ self.old.fr) }
     {
         let may = self.may_link();
         if may {
@@ -81,8 +81,9 @@ impl PortModel {
     /// CR and FR fall where they may.
     pub fn settle_state(&mut self)
         ensures does { (m : Media) → SettlesPort (port_of self.old m) (port_of self.new m) }
-        ensures fallen { self.new.st ≡ false → self.new.cr ≡ true → false ≡ true }
-        ensures area { self.new.fre ≡ false → self.new.cr ≡ false → self.new.fr ≡ true → false ≡ true }
+        ensures cr_is_clear_without_st { self.new.st ≡ false → self.new.cr ≡ true → false ≡ true }
+        ensures fr_is_clear_without_fre_and_cr { self.new.fre ≡ false → self.new.cr ≡ false → self.new.fr ≡ true
+            → false ≡ true }
     {
         self.fall();
         self.fr_fall();

@@ -1,7 +1,7 @@
 // The slots of a port: which command is taken, and how it goes on.
 ghost use Rattle.std.specs.Prelude.{◌≡◌, ◌↔◌, ◌<◌, ◌≤◌, ◌^◌, ◌+◌, ◌||◌, ℕ, IsTrue, None, Some, true, false, is_some, slice_index_or, IfSome, List};
-ghost use Rattle.adapter.specs.{Steps.{IsUnmixed, IsFetchable, IsWorking, admits, port_after_clear, port_after_done, port_after_fault, port_after_fetch, port_after_flush, port_after_move}, declared.command.Operation.{Operation}};
-ghost use Rattle.device_model.specs.{WordBits.{word_bits}, FetchedBytes.{IsNewlyTaken}, Slots.{IsOpenTo, MayTake, HasIssuedUntaken, WorksOnIn}, PortView.{Media, cause_of, halt_of, taken_in, busy_if_left, media_after_move, media_after_clear, media_after_end, operation_of_kind, port_of, taken_of, blank_port}, declared.port.TakenCommand.{TakenCommand}};
+ghost use Rattle.adapter.specs.{Steps.{IsUnmixed, IsFetchable, IsWorking, admits, port_after_clear, port_after_done, port_after_fault, port_after_fetch, port_with_lasting_after_operation, port_after_move}, declared.command.Operation.{Operation}};
+ghost use Rattle.device_model.specs.{WordBits.{word_bits}, FetchedBytes.{IsNewlyTaken}, Slots.{AdmitsBesideTaken, MayTakeIfDecoded, HasIssuedUntakenOnWorkingPort, WorksOnIn}, PortView.{Media, cause_of, halt_of, taken_in, bsy_if_disk_left_busy, media_after_move, media_after_clear, media_after_end, operation_of_kind, port_of, taken_of, blank_port}, declared.port.TakenCommand.{TakenCommand}};
 
 use crate::bits::{is_clear_from, with_bit_as};
 use crate::clearing::SectorExtent;
@@ -20,7 +20,7 @@ const TFES: u32 = 30;
 
 /// The status that a command leaves that failed: DRDY and ERR, and BSY where its disk is left busy.
 pub fn failed_status(busy: bool) -> u8
-    ensures { result ≡ 0x41 + busy_if_left busy }
+    ensures { result ≡ 0x41 + bsy_if_disk_left_busy busy }
 {
     if busy {
         FAILED_STATUS + BUSY
@@ -87,7 +87,8 @@ impl PortModel {
     /// PxCI.
     pub fn end(&mut self, slot: u8, command_kind: CommandKind, here: usize)
         requires { slot < 32 }
-        ensures { (m : Media) → port_of self.new (media_after_end m (operation_of_kind command_kind)) ≡ port_after_flush
+        ensures { (m : Media) → port_of self.new (media_after_end m
+            (operation_of_kind command_kind)) ≡ port_with_lasting_after_operation
             (port_after_done (port_of self.old m) slot (cause_of command_kind) (operation_of_kind command_kind))
             (operation_of_kind command_kind)
             here }
@@ -108,7 +109,7 @@ impl PortModel {
     /// where its disk is left busy, and the error, TFES is set, and the port is halted. The bits of its slot stay.
     pub fn fail(&mut self, queued: bool, error: u8, busy: bool)
         ensures { (m : Media) → port_of self.new m ≡ port_after_fault (port_of self.old m) queued error
-            (busy_if_left busy) }
+            (bsy_if_disk_left_busy busy) }
     {
         self.tfd = Some(u16::from(failed_status(busy)) + 256 * u16::from(error));
         self.is = with_bit_as(self.is, TFES, true);
@@ -145,7 +146,7 @@ impl PortModel {
     /// Whether such a command may be taken now, if the port works: no fault keeps it waiting, and it goes beside those
     /// that are taken.
     pub fn may_take_command(&self, command_kind: CommandKind) -> bool
-        ensures open { result ≡ true → IsOpenTo self.now (operation_of_kind command_kind) }
+        ensures open { result ≡ true → AdmitsBesideTaken self.now (operation_of_kind command_kind) }
         ensures complete { result ≡ false → (m : Media)
             → admits (halt_of self.now.halting) (operation_of_kind command_kind) ≡ true
             → IsUnmixed (port_of self.now m) (operation_of_kind command_kind) → ⊥ }
@@ -170,12 +171,12 @@ impl PortModel {
 
 /// Whether a slot has a command that is issued and not taken, on a port that works: it may be taken, if its bytes say
 /// one that may be beside those that are.
-pub fn has_untaken(ports: &[PortModel; 4], port: usize, slot: u8) -> bool
+pub fn has_issued_untaken_on_working_port(ports: &[PortModel; 4], port: usize, slot: u8) -> bool
     requires port { port < 4 }
     requires slot { slot < 32 }
-    ensures may { result ≡ true → HasIssuedUntaken (slice_index_or ports.now port blank_port) slot }
+    ensures may { result ≡ true → HasIssuedUntakenOnWorkingPort (slice_index_or ports.now port blank_port) slot }
     ensures complete { result ≡ false → (m : Media) (operation : Operation)
-        → MayTake (port_of (slice_index_or ports.now port blank_port) m) slot operation → ⊥ }
+        → MayTakeIfDecoded (port_of (slice_index_or ports.now port blank_port) m) slot operation → ⊥ }
     ensures is_not_fetchable { result ≡ false → (m : Media) (operation : Operation)
         → IsFetchable (port_of (slice_index_or ports.now port blank_port) m) slot →
         IsWorking (port_of (slice_index_or ports.now port blank_port) m) operation → ⊥ }

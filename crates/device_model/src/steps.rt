@@ -2,8 +2,8 @@
 ghost use Rattle.std.specs.{Prelude.{◌≡◌, ◌↔◌, IsTrue, ◌<◌, ◌≤◌, ◌+◌, ◌-◌, ◌*◌, ◌^◌, ◌++◌, ◌∷◌, [], true, false, ℕ, List, None, Some, IfSome, IsSomeAnd, if◌then◌else◌, length, nat_eq, slice_index, slice_index_or}, Vec.{vec_len, vec_capacity}};
 ghost use Rattle.adapter.specs.{Commands.{Meaning, is_queued, is_ranged, reads_memory}, Device.{Disk, FetchedCommand}, Memory.{bytes_at}, Decoding.{pieces}, Steps.{Can, IsFinished, device_after, next_sector}, Steps.DeviceTransition.{Fetch as FetchStep, FetchFault as FetchFaultStep, Move as MoveStep, Done as DoneStep, Fault as FaultStep, Fatal as FatalStep, Unplug as UnplugStep, Plug as PlugStep}};
 ghost use Rattle.adapter.specs.AskedSteps.{DoesFatal, DoesFault, DoesFetch, EndsAndPosts, fatal_bit};
-ghost use Rattle.device_model.specs.{TakenBlocks.{brought}, WriteCaches.{HasRoomForOldSectors, KeepsSameOldSectors}, PieceTransfers.{IsTransferred, piece_of}, FetchedBytes.{bytes_of}, Finishing.{TapeHasRoom, HasRoomAhead, FindsPageCommand, IsInside, PiecesInside, IsCommandBegun, HasMovesLeft, IsStepSkipped, IsRemaining, IsCommandUnbegun}, SentFises.{SendsEnd}, Slots.{WorksOnIn, IsNextMove, HasIssuedUntaken}, Trims.{changes_ahead}};
-ghost use Rattle.device_model.specs.{PortView.{taken_in, busy_if_left, operation_of_kind, taken_of, blank_port}, WholeAdapter.{AllMedia, device_of, all_media_after_move, all_media_after_end, all_media_after_plug}, declared.port.TakenCommand.{TakenCommand}};
+ghost use Rattle.device_model.specs.{TakenBlocks.{brought}, WriteCaches.{HasRoomForOldSectors, KeepsSameOldSectors}, PieceTransfers.{IsTransferred, piece_of}, FetchedBytes.{bytes_of}, Finishing.{TapeHasRoom, CacheHasRoomForRestOfCommand, FindsPageCommandAndWhetherItCanEnd, IsInside, PiecesInside, IsCommandBegun, HasMovesLeftInMemory, IsImpossibleOrLacksTape, HasMovesAndTrimRunsLeft, NoneMayFinishOrLacksRoom}, SentFises.{SendsEnd}, Slots.{WorksOnIn, IsNextMove, HasIssuedUntakenOnWorkingPort}, Trims.{sectors_left_to_change}};
+ghost use Rattle.device_model.specs.{PortView.{taken_in, bsy_if_disk_left_busy, operation_of_kind, taken_of, blank_port}, WholeAdapter.{AllMedia, device_of, all_media_after_move, all_media_after_end, all_media_after_plug}, declared.port.TakenCommand.{TakenCommand}};
 
 use crate::cache::Cache;
 use crate::fetch::{
@@ -12,7 +12,7 @@ use crate::fetch::{
 };
 use crate::hardware::Hardware;
 use crate::port::{CommandKind, TakenCommand};
-use crate::slots::{FAILED_STATUS, failed_status, has_untaken, working_on};
+use crate::slots::{FAILED_STATUS, failed_status, has_issued_untaken_on_working_port, working_on};
 use crate::trims::{clears_of, is_finished};
 use adapter::{Done, Entry, FatalError, Fault, Move, Prd};
 use ata_types::{Port, Slot};
@@ -52,7 +52,7 @@ pub struct BegunCommand {
 
 /// An IDENTIFY DEVICE or READ LOG EXT that the model goes on with by itself.
 #[derive(Clone, Copy, Debug)]
-pub struct PendingPage {
+pub struct PendingPageCommand {
     pub port: u8,
     pub slot: u8,
     /// Whether it can be done to its end. Else it may be taken, and no more.
@@ -61,7 +61,7 @@ pub struct PendingPage {
 
 impl NextMove {
     /// Whether it names no sector, or one of so many.
-    pub fn is_within_disk(self, sectors: u64) -> bool
+    pub fn is_within_disk_if_ranged(self, sectors: u64) -> bool
         ensures { IsTrue result ↔ (is_ranged (operation_of_kind self.command_kind) ≡ true → self.sector < sectors) }
     {
         // A sector that is named is on the disk, but for faults, and 0 is where none is named: so one look is enough.
@@ -151,8 +151,8 @@ fn are_inside(prds: &[Prd], size: usize) -> bool
 
 /// How many moves are left of a command, if each of its pieces has a place in a memory of this size.
 fn moves_left_of(command: &TakenCommand, size: usize) -> Option<u32>
-    ensures covered { IfSome result (λ left. HasMovesLeft (taken_of command.now) size left) }
-    ensures only { (left : ℕ) → HasMovesLeft (taken_of command.now) size left → result ≡ Some left }
+    ensures covered { IfSome result (λ left. HasMovesLeftInMemory (taken_of command.now) size left) }
+    ensures only { (left : ℕ) → HasMovesLeftInMemory (taken_of command.now) size left → result ≡ Some left }
 {
     let prds = command.prds.as_slice();
     if !are_inside(prds, size) {
@@ -165,11 +165,11 @@ fn moves_left_of(command: &TakenCommand, size: usize) -> Option<u32>
 fn remaining_of(command: &TakenCommand, block: &[u8], memory: &[u8]) -> Option<Remaining>
     requires block { block.now ≡ brought command.now.block }
     requires few { length block.now ≤ 512 }
-    ensures rest { IfSome result (λ rest. IsRemaining command.now memory.now rest.moves rest.clears) }
+    ensures rest { IfSome result (λ rest. HasMovesAndTrimRunsLeft command.now memory.now rest.moves rest.clears) }
     ensures changes { IfSome result (λ rest. rest.changes
-        ≡ changes_ahead (operation_of_kind command.now.command_kind) (bytes_of memory.now)
+        ≡ sectors_left_to_change (operation_of_kind command.now.command_kind) (bytes_of memory.now)
         (taken_of command.now) rest.moves) }
-    ensures only { (left clears : ℕ) → IsRemaining command.now memory.now left clears
+    ensures only { (left clears : ℕ) → HasMovesAndTrimRunsLeft command.now memory.now left clears
         → IsSomeAnd result (λ rest. (rest.moves ≡ left) × (rest.clears ≡ clears)) }
 {
     let moves = moves_left_of(command, memory.len())?;
@@ -226,9 +226,9 @@ fn note_no_memory(starved: &mut bool)
 /// Whether a command that sends a page can be done to its end: whether each of its pieces has a place in a memory of
 /// this size, and an address of 32 bits.
 fn can_end(command: &TakenCommand, size: usize) -> bool
-    ensures ends { result ≡ true → (left : ℕ) × HasMovesLeft (taken_of command.now) size left
+    ensures ends { result ≡ true → (left : ℕ) × HasMovesLeftInMemory (taken_of command.now) size left
         × PiecesInside (2 ^ 32) (pieces command.now.prds) }
-    ensures only { result ≡ false → (left : ℕ) → HasMovesLeft (taken_of command.now) size left
+    ensures only { result ≡ false → (left : ℕ) → HasMovesLeftInMemory (taken_of command.now) size left
         → PiecesInside (2 ^ 32) (pieces command.now.prds) → ⊥ }
 {
     match moves_left_of(command, size) {
@@ -283,7 +283,8 @@ impl Hardware {
         ensures tape { self.new.tape ≡ self.old.tape }
         ensures starved { self.new.starved ≡ self.old.starved }
     {
-        has_untaken(&self.ports, usize::from(port), slot) && self.fetch_decoded(port, slot)
+        has_issued_untaken_on_working_port(&self.ports, usize::from(port), slot)
+            && self.fetch_decoded(port, slot)
     }
 
     /// Takes the command that the bytes of a slot say, which may be taken; `false` says that they say none that the
@@ -291,7 +292,7 @@ impl Hardware {
     #[inline(never)]
     fn fetch_decoded(&mut self, port: u8, slot: u8) -> bool
         requires there { (port < 4) × (slot < 32) }
-        requires may { HasIssuedUntaken (slice_index_or self.old.ports port blank_port) slot }
+        requires may { HasIssuedUntakenOnWorkingPort (slice_index_or self.old.ports port blank_port) slot }
         ensures did { result ≡ true → (o : AllMedia)
             → DoesFetch port slot (device_of self.old o) (device_of self.new o) }
         ensures refused { result ≡ false → self.new ≡ self.old }
@@ -318,8 +319,8 @@ impl Hardware {
     fn decodes_page(&self, port: usize, slot: u8) -> Option<bool>
         requires port { port < 4 }
         requires slot { slot < 32 }
-        requires may { HasIssuedUntaken (slice_index_or self.now.ports port blank_port) slot }
-        ensures { (o : AllMedia) → FindsPageCommand (device_of self.now o) port slot result }
+        requires may { HasIssuedUntakenOnWorkingPort (slice_index_or self.now.ports port blank_port) slot }
+        ensures { (o : AllMedia) → FindsPageCommandAndWhetherItCanEnd (device_of self.now o) port slot result }
     {
         let list = self.ports[port].addresses.clb;
         let command = decode_page_command(&self.memory, list, slot)?;
@@ -335,12 +336,12 @@ impl Hardware {
     fn has_page(&self, port: usize, slot: u8) -> Option<bool>
         requires port { port < 4 }
         requires slot { slot < 32 }
-        ensures { (o : AllMedia) → FindsPageCommand (device_of self.now o) port slot result }
+        ensures { (o : AllMedia) → FindsPageCommandAndWhetherItCanEnd (device_of self.now o) port slot result }
     {
         if !self.ports[port].is_used(slot) {
             return None;
         }
-        if has_untaken(&self.ports, port, slot) {
+        if has_issued_untaken_on_working_port(&self.ports, port, slot) {
             if !may_be_page_command(&self.memory, self.ports[port].addresses.clb, slot) {
                 return None;
             }
@@ -359,16 +360,17 @@ impl Hardware {
 
     /// The first slot of a port with an IDENTIFY DEVICE or READ LOG EXT that may be taken, or can be done to its end.
     /// It is looked for as far as commands are issued or taken.
-    pub fn next_page(&self, port: u8) -> Option<PendingPage>
+    pub fn next_page_command(&self, port: u8) -> Option<PendingPageCommand>
         requires { port < 4 }
         ensures port { IfSome result (λ found. found.port ≡ port) }
         ensures small { IfSome result (λ found. found.slot < 32) }
-        ensures found { IfSome result (λ found. (o : AllMedia) → FindsPageCommand (device_of self.now o) port found.slot
+        ensures found { IfSome result (λ found. (o : AllMedia)
+            → FindsPageCommandAndWhetherItCanEnd (device_of self.now o) port found.slot
             (Some found.can_end)) }
         ensures first { IfSome result (λ found. (o : AllMedia) (slot : ℕ) → slot < found.slot
-            → FindsPageCommand (device_of self.now o) port slot None) }
+            → FindsPageCommandAndWhetherItCanEnd (device_of self.now o) port slot None) }
         ensures none { result ≡ None → (o : AllMedia) (slot : ℕ) → slot < 32
-            → FindsPageCommand (device_of self.now o) port slot None }
+            → FindsPageCommandAndWhetherItCanEnd (device_of self.now o) port slot None }
     {
         let place = usize::from(port);
         for slot in 0..32 {
@@ -376,7 +378,7 @@ impl Hardware {
                 return None;
             }
             if let Some(can_end) = self.has_page(place, slot) {
-                return Some(PendingPage {
+                return Some(PendingPageCommand {
                     port,
                     slot,
                     can_end,
@@ -488,13 +490,13 @@ impl Hardware {
         ensures found { IfSome result
             (λ rest. (t : TakenCommand) × WorksOnIn (slice_index_or self.now.ports port blank_port)
             slot t
-            × IsRemaining t self.now.memory.items rest.moves rest.clears) }
+            × HasMovesAndTrimRunsLeft t self.now.memory.items rest.moves rest.clears) }
         ensures changes { IfSome result (λ rest. (t : TakenCommand)
-            → WorksOnIn (slice_index_or self.now.ports port blank_port) slot t → rest.changes ≡ changes_ahead
+            → WorksOnIn (slice_index_or self.now.ports port blank_port) slot t → rest.changes ≡ sectors_left_to_change
             (operation_of_kind t.command_kind) (bytes_of self.now.memory.items) (taken_of t) rest.moves) }
         ensures only { (t : TakenCommand) (left clears : ℕ)
             → WorksOnIn (slice_index_or self.now.ports port blank_port) slot t
-            → IsRemaining t self.now.memory.items left clears
+            → HasMovesAndTrimRunsLeft t self.now.memory.items left clears
             → IsSomeAnd result (λ rest. (rest.moves ≡ left) × (rest.clears ≡ clears)) }
     {
         let command = working_on(&self.ports, usize::from(port), slot)?;
@@ -512,7 +514,7 @@ impl Hardware {
             (device_of self.new (all_media_after_end o port (operation_of_kind command_kind)))) }
         ensures refused { result ≡ None → (o : AllMedia) → device_of self.new o ≡ device_of self.old o }
         ensures step_is_skipped { result ≡ None → (o : AllMedia)
-            → IsStepSkipped self.old self.new ((flag : ℕ) × (t : FetchedCommand)
+            → IsImpossibleOrLacksTape self.old self.new ((flag : ℕ) × (t : FetchedCommand)
             × Can (DoneStep port slot flag t) (device_of self.old o)) }
         ensures starved_is_kept { IfSome result (λ command_kind. self.new.starved ≡ self.old.starved) }
     {
@@ -561,12 +563,12 @@ impl Hardware {
         requires port { port < 4 }
         requires slot { slot < 32 }
         ensures did { IfSome result (λ queued. (o : AllMedia)
-            → (f : DoesFault port slot error (busy_if_left busy) (device_of self.old o) (device_of self.new o))
+            → (f : DoesFault port slot error (bsy_if_disk_left_busy busy) (device_of self.old o) (device_of self.new o))
             × (queued ≡ is_queued f.fetched_command.meaning.operation)) }
         ensures refused { result ≡ None → (o : AllMedia) → device_of self.new o ≡ device_of self.old o }
         ensures step_is_skipped { result ≡ None → (o : AllMedia)
-            → IsStepSkipped self.old self.new ((t : FetchedCommand)
-            × Can (FaultStep port slot error (busy_if_left busy) t)
+            → IsImpossibleOrLacksTape self.old self.new ((t : FetchedCommand)
+            × Can (FaultStep port slot error (bsy_if_disk_left_busy busy) t)
             (device_of self.old o)) }
         ensures starved_is_kept { IfSome result (λ _. self.new.starved ≡ self.old.starved) }
     {
@@ -594,11 +596,12 @@ impl Hardware {
             × (device_of self.new o ≡ device_after (FetchFaultStep port slot false 0) (device_of self.old o)) }
         ensures refused { result ≡ false → (o : AllMedia) → device_of self.new o ≡ device_of self.old o }
         ensures step_is_skipped { result ≡ false → (o : AllMedia)
-            → IsStepSkipped self.old self.new (Can (FetchFaultStep port slot false 0) (device_of self.old o)) }
+            → IsImpossibleOrLacksTape self.old self.new (Can (FetchFaultStep port slot false 0)
+            (device_of self.old o)) }
         ensures starved_is_kept { result ≡ true → self.new.starved ≡ self.old.starved }
     {
         let place = usize::from(port);
-        if !has_untaken(&self.ports, place, slot) {
+        if !has_issued_untaken_on_working_port(&self.ports, place, slot) {
             return false;
         }
         if !self.ports[place].halting.admits(CommandKind::Identify) {
@@ -628,14 +631,13 @@ impl Hardware {
     fn begin_decoded(&mut self, port: u8, slot: u8, cache: &mut Cache) -> Option<BegunCommand>
         requires port { port < 4 }
         requires slot { slot < 32 }
-        requires may { HasIssuedUntaken (slice_index_or self.old.ports port blank_port) slot }
+        requires may { HasIssuedUntakenOnWorkingPort (slice_index_or self.old.ports port blank_port) slot }
         ensures begun { IfSome result (λ b. IsCommandBegun port slot b.remaining.moves b.remaining.clears
-            b.is_newly_taken self.old
-            self.new) }
+            b.is_newly_taken self.old self.new) }
         ensures ahead { IfSome result (λ b. (o : AllMedia)
-            → HasRoomAhead cache.new port slot b.remaining.moves (device_of self.new o)) }
+            → CacheHasRoomForRestOfCommand cache.new port slot b.remaining.moves (device_of self.new o)) }
         ensures same { KeepsSameOldSectors cache.old cache.new }
-        ensures left { result ≡ None → IsCommandUnbegun port slot self.old self.new cache.old cache.new }
+        ensures left { result ≡ None → NoneMayFinishOrLacksRoom port slot self.old self.new cache.old cache.new }
     {
         let model = &mut self.ports[usize::from(port)];
         let list = model.addresses.clb;
@@ -664,15 +666,14 @@ impl Hardware {
         requires port { port < 4 }
         requires slot { slot < 32 }
         ensures begun { IfSome result (λ b. IsCommandBegun port slot b.remaining.moves b.remaining.clears
-            b.is_newly_taken self.old
-            self.new) }
+            b.is_newly_taken self.old self.new) }
         ensures ahead { IfSome result (λ b. (o : AllMedia)
-            → HasRoomAhead cache.new port slot b.remaining.moves (device_of self.new o)) }
+            → CacheHasRoomForRestOfCommand cache.new port slot b.remaining.moves (device_of self.new o)) }
         ensures old_sectors_are_kept { KeepsSameOldSectors cache.old cache.new }
-        ensures is_unbegun { result ≡ None → IsCommandUnbegun port slot self.old self.new cache.old cache.new }
+        ensures is_unbegun { result ≡ None → NoneMayFinishOrLacksRoom port slot self.old self.new cache.old cache.new }
     {
         let place = usize::from(port);
-        if has_untaken(&self.ports, place, slot) {
+        if has_issued_untaken_on_working_port(&self.ports, place, slot) {
             return self.begin_decoded(port, slot, cache);
         }
         let remaining = self.remaining_at(port, slot)?;
@@ -693,7 +694,8 @@ impl Hardware {
             → DoesFatal port error (device_of self.old o) (device_of self.new o) }
         ensures refused { result ≡ false → (o : AllMedia) → device_of self.new o ≡ device_of self.old o }
         ensures step_is_skipped { result ≡ false → (o : AllMedia)
-            → IsStepSkipped self.old self.new (Can (FatalStep port (fatal_bit error)) (device_of self.old o)) }
+            → IsImpossibleOrLacksTape self.old self.new (Can (FatalStep port (fatal_bit error))
+            (device_of self.old o)) }
         ensures starved_is_kept { result ≡ true → self.new.starved ≡ self.old.starved }
     {
         let place = usize::from(port);
@@ -714,7 +716,7 @@ impl Hardware {
             × (device_of self.new o ≡ device_after (UnplugStep port) (device_of self.old o)) }
         ensures refused { result ≡ false → (o : AllMedia) → device_of self.new o ≡ device_of self.old o }
         ensures step_is_skipped { result ≡ false → (o : AllMedia)
-            → IsStepSkipped self.old self.new (Can (UnplugStep port) (device_of self.old o)) }
+            → IsImpossibleOrLacksTape self.old self.new (Can (UnplugStep port) (device_of self.old o)) }
         ensures starved_is_kept { result ≡ true → self.new.starved ≡ self.old.starved }
     {
         let place = usize::from(port);
@@ -739,7 +741,7 @@ impl Hardware {
             (device_of self.old o) }
         ensures refused { result ≡ false → (o : AllMedia) → device_of self.new o ≡ device_of self.old o }
         ensures step_is_skipped { result ≡ false → (o : AllMedia)
-            → IsStepSkipped self.old self.new (((device_of self.old o).port port).present ≡ false) }
+            → IsImpossibleOrLacksTape self.old self.new (((device_of self.old o).port port).present ≡ false) }
         ensures starved_is_kept { result ≡ true → self.new.starved ≡ self.old.starved }
     {
         let place = usize::from(port);

@@ -1,10 +1,10 @@
 // Trims: what is left to clear of one, and that it is cleared.
 ghost use Rattle.std.specs.Prelude.{◌≡◌, ◌↔◌, ◌+◌, ◌^◌, ◌<◌, ◌≤◌, ℕ, IsTrue, IfSome, IsSomeAnd, None, Some, length, drop, slice_index_or};
 ghost use Rattle.adapter.specs.{Decoding.{pieces}, Steps.{IsFinished, device_after}, Steps.DeviceTransition.{Clear as ClearStep}, Trim.{trim_sectors}};
-ghost use Rattle.device_model.specs.{TakenBlocks.{brought}, FetchedBytes.{bytes_of}, Finishing.{TapeHasRoom}, Slots.{CanClear, WorksOnIn, IsNextRun}, Trims.{HasRunsLeft, HasClearsLeft, block_ahead, cleared_ahead, next_uncleared, next_run_length, uncleared}, PortView.{blank_port, operation_of_kind, taken_of}, WholeAdapter.{AllMedia, device_of, all_media_after_clear}, declared.port.TakenCommand.{TakenCommand}};
+ghost use Rattle.device_model.specs.{TakenBlocks.{brought}, FetchedBytes.{bytes_of}, Finishing.{TapeHasRoom}, Slots.{CanClear, WorksOnIn, IsNextRun}, Trims.{HasRunsLeft, HasClearsLeft, trim_block_after_moves, sectors_left_to_clear, next_uncleared, next_run_length, uncleared}, PortView.{blank_port, operation_of_kind, taken_of}, WholeAdapter.{AllMedia, device_of, all_media_after_clear}, declared.port.TakenCommand.{TakenCommand}};
 
 use crate::clearing::{SectorExtent, count_runs, count_sectors, next_run};
-use crate::fetch::{copy_bytes, count_pieces, piece_at};
+use crate::fetch::{copy_bytes, count_pieces, piece_address_at};
 use crate::hardware::Hardware;
 use crate::port::TakenCommand;
 use crate::slots::working_on;
@@ -58,11 +58,12 @@ fn clears_of_block(block: &[u8], cleared: u32) -> Option<Clears>
 fn clears_of_trim(command: &TakenCommand, block: &[u8], memory: &[u8]) -> Option<Clears>
     requires block { block.now ≡ brought command.now.block }
     requires few { length block.now ≤ 512 }
-    ensures found { IfSome result (λ clears. HasRunsLeft (block_ahead (bytes_of memory.now) (taken_of command.now))
+    ensures found { IfSome result (λ clears. HasRunsLeft (trim_block_after_moves (bytes_of memory.now)
+        (taken_of command.now))
         command.now.cleared clears.runs) }
     ensures sectors { IfSome result (λ clears. clears.sectors ≡ length (drop command.now.cleared
-        (trim_sectors (block_ahead (bytes_of memory.now) (taken_of command.now))))) }
-    ensures only { (runs : ℕ) → HasRunsLeft (block_ahead (bytes_of memory.now) (taken_of command.now))
+        (trim_sectors (trim_block_after_moves (bytes_of memory.now) (taken_of command.now))))) }
+    ensures only { (runs : ℕ) → HasRunsLeft (trim_block_after_moves (bytes_of memory.now) (taken_of command.now))
         command.now.cleared
         runs → IsSomeAnd result (λ clears. clears.runs ≡ runs) }
 {
@@ -71,7 +72,7 @@ fn clears_of_trim(command: &TakenCommand, block: &[u8], memory: &[u8]) -> Option
     if command.moved >= pieces {
         return clears_of_block(block, command.cleared);
     }
-    let place = piece_at(prds, pieces - 1)?;
+    let place = piece_address_at(prds, pieces - 1)?;
     let mut bytes = [0; 512];
     copy_bytes(memory, place as usize, &mut bytes);
     clears_of_block(&bytes, command.cleared)
@@ -84,7 +85,7 @@ pub fn clears_of(command: &TakenCommand, block: &[u8], memory: &[u8]) -> Option<
     ensures found { IfSome result (λ clears. HasClearsLeft (operation_of_kind command.now.command_kind) (bytes_of
         memory.now)
         (taken_of command.now) clears.runs) }
-    ensures sectors { IfSome result (λ clears. clears.sectors ≡ cleared_ahead (operation_of_kind
+    ensures sectors { IfSome result (λ clears. clears.sectors ≡ sectors_left_to_clear (operation_of_kind
         command.now.command_kind)
         (bytes_of memory.now) (taken_of command.now)) }
     ensures complete { (runs : ℕ) → HasClearsLeft (operation_of_kind command.now.command_kind) (bytes_of memory.now)

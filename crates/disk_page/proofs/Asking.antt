@@ -31,7 +31,7 @@ use Rattle.refinement.specs.Slots.{Free, Own, SlotStates, set_slot_state as used
 use Rattle.command_table.specs.SectorPlaces.{places_of}
 use Rattle.command_table.specs.TableStores.{IsTableFor, IsHeaderOrTableStore, IsUnused}
 use Rattle.disk_page.specs.PageRequests.{page_operation, AreSlot0IssuedReadings, PortMayAskForPage, IsPageAccess, BringsLastPage, ShowsSlot0Issued, WaitsForSlot0InVain}
-use Rattle.disk_page.specs.PageWaits.{IsPageAwaited}
+use Rattle.disk_page.specs.PageWaits.{IsPageAwaitedOrReceived}
 use Rattle.disk_page.specs.declared.Page.{Page}
 use Rattle.disk_page.specs.declared.Page.TheVariants.{Identity, ErrorLog}
 use Rattle.disk_page.specs.Laws.{Laws}
@@ -57,7 +57,7 @@ pub record IsPending (port : Port) (start : Device) (n : ℕ) (d : Device) : Typ
   pub there : HasPort d port.0
   pub det : (d.port port.0).sctl_det ≡ 0
   pub told : IsSimulatedAlong (AreSlot0IssuedReadings port n) (IsPageAccess port) AnySlotStates start d
-  pub waiting : (o : Operation) (since : ℕ) (uses : SlotStates) (begun : Device) → IsPageAwaited port o since uses begun start → IsPageAwaited port o since uses begun d
+  pub waiting : (o : Operation) (since : ℕ) (uses : SlotStates) (begun : Device) → IsPageAwaitedOrReceived port o since uses begun start → IsPageAwaitedOrReceived port o since uses begun d
   pub low : n ≤ (d.port port.0).notes.slot0_issued_count
   pub high : 0 < n → (d.port port.0).notes.slot0_issued_count ≤ MOST_READINGS
 
@@ -65,8 +65,8 @@ pub record IsPending (port : Port) (start : Device) (n : ℕ) (d : Device) : Typ
 pub record IsFoundOver (port : Port) (start d : Device) : Type 0 where
   pub on : IsOn d
   pub followed : IsSimulated (IsPageAccess port) AnySlotStates start d
-  pub waiting : (o : Operation) (since : ℕ) (uses : SlotStates) (begun : Device) → IsPageAwaited port o since uses begun start → IsPageAwaited port o since uses begun d
-  pub over : (o : Operation) (since : ℕ) (uses : SlotStates) (begun : Device) → IsPageAwaited port o since uses begun start → IsSlotClear (d.port port.0) 0
+  pub waiting : (o : Operation) (since : ℕ) (uses : SlotStates) (begun : Device) → IsPageAwaitedOrReceived port o since uses begun start → IsPageAwaitedOrReceived port o since uses begun d
+  pub over : (o : Operation) (since : ℕ) (uses : SlotStates) (begun : Device) → IsPageAwaitedOrReceived port o since uses begun start → IsSlotClear (d.port port.0) 0
 
 abbrev next : Port → Port
 next port = record { 0 = port.0 + 1 }
@@ -176,7 +176,7 @@ module _ (laws : Laws) where
       let g = laws.accesses_extend_tape old new (any (IsHeaderOrTableStore port.0 0) old new a) in
       record {
         same = laws.accesses_keep_adapter old new (any (IsHeaderOrTableStore port.0 0) old new a);
-        keeps = l.port_is_kept_by_device;
+        keeps = l.bits_only_fall;
         controls = l.controls;
         set_at = ap (λ (n : Notes). n.st_set_at) l.notes;
         later = grown old.tape new.tape g.0 g.1;
@@ -231,7 +231,7 @@ module _ (laws : Laws) where
         }
 
     pub ask_permitted : (uses : SlotStates) → IsUnused port.0 0 uses → SomeMachineAgrees uses mid → IsStable (MayWrite (Px port Ci) 1) mid
-    ask_permitted uses free a = laws.own_is_permitted uses a.machine mid a.reached a.driver_relation.state_relation port (page_operation page) 1 on there (prepared uses free)
+    ask_permitted uses free a = laws.issuing_page_command_is_permitted uses a.machine mid a.reached a.driver_relation.state_relation port (page_operation page) 1 on there (prepared uses free)
 
     module _ (call : Writes (Px port Ci) 1 mid new) where
       pub asked_to : IsSimulatedChangingUses (IsPageAccess port) (IsUnused port.0 0) (λ uses. used uses port.0 0 (Own (page_operation page))) mid new
@@ -256,13 +256,13 @@ module _ (laws : Laws) where
           let same = ap (λ (es : List Entry). length es) put_ci.tape_is_as_at_access in omega (arith, l, same)
 
       pub asked_waits : (start : Device) (uses : SlotStates) → IsUnused port.0 0 uses → SomeMachineAgrees uses mid → ((other : Operation) → client_operation_of other ≡ None → GainsNoMove port.0 other start mid) →
-          IsPageAwaited port (page_operation page) (length new.tape) (used uses port.0 0 (Own (page_operation page))) start new
+          IsPageAwaitedOrReceived port (page_operation page) (length new.tape) (used uses port.0 0 (Own (page_operation page))) start new
       asked_waits start uses free a before = record {
         adapter_is_on = laws.access_keeps_on (Writing (Px port Ci) 1) mid new on (λ v e. absurd cc) call;
         driver_memory_fits = let same = (laws.access_keeps_adapter (Writing (Px port Ci) 1) mid new call).memory_size in omega (arith, same, room);
         machine_is_related = laws.fragments.some_machine_agrees (Asking port) (λ uses. used uses port.0 0 (Own (page_operation page))) uses mid new free asked_to a;
         awaits = laws.page_is_issued uses a.machine port (page_operation page) 1 mid new a.reached a.driver_relation.state_relation on.no_reset (prepared uses free) call;
-        ends_halt = λ alone. laws.issued_read_log_ends_halt uses a.machine port (page_operation page) 1 mid new a.reached a.driver_relation.state_relation on.no_reset
+        ends_halt = λ alone. laws.issued_own_command_is_unended_or_unhalted uses a.machine port (page_operation page) 1 mid new a.reached a.driver_relation.state_relation on.no_reset
             (λ slot other. sym (laws.other_slots_are_kept uses port.0 0 (Own (page_operation page)) port.0 slot (λ same here. other here)) ∙ alone slot other) (prepared uses free) call;
         no_other_page_moves = λ other page differs. laws.no_moves_compose port.0 other start mid new (before other page)
             (access_silent port uses other (Writing (Px port Ci) 1) mid new a page (λ is. let e : Free ≡ Own other = sym free ∙ is in absurd cc) call);
@@ -337,7 +337,7 @@ module _ (laws : Laws) where
     reads_followed = (laws.fragments.reads (Awaiting port) (Px port Ci) v d e refl call).is_simulated
 
     -- the driver goes on to wait
-    reads_wait : (o : Operation) (since : ℕ) (uses : SlotStates) (begun : Device) → IsPageAwaited port o since uses begun d → IsPageAwaited port o since uses begun e
+    reads_wait : (o : Operation) (since : ℕ) (uses : SlotStates) (begun : Device) → IsPageAwaitedOrReceived port o since uses begun d → IsPageAwaitedOrReceived port o since uses begun e
     reads_wait o since uses begun w =
         let a = w.machine_is_related in
         record {
@@ -351,7 +351,7 @@ module _ (laws : Laws) where
         }
 
     -- or it finds the command over
-    reads_over : bit v 0 ≡ false → (o : Operation) (since : ℕ) (uses : SlotStates) (begun : Device) → IsPageAwaited port o since uses begun d → IsSlotClear (e.port port.0) 0
+    reads_over : bit v 0 ≡ false → (o : Operation) (since : ℕ) (uses : SlotStates) (begun : Device) → IsPageAwaitedOrReceived port o since uses begun d → IsSlotClear (e.port port.0) 0
     reads_over clear o since uses begun w =
         let a = w.machine_is_related in
         (laws.page_is_found uses a.machine port o since v d e a.reached a.driver_relation.state_relation w.awaits call clear).0.slot_is_clear
@@ -373,7 +373,7 @@ module _ (laws : Laws) where
     on = on;
     there = there;
     det = det;
-    told = let none = laws.fragments.no_access_is_simulated (Awaiting port) d in
+    told = let none = laws.fragments.empty_fragment_is_simulated (Awaiting port) d in
         record { is_simulated = none.is_simulated; accesses_are_such = subst (AreSlot0IssuedReadings port 0) (sym none.accesses_are_such) (refl, All-nil (ShowsSlot0Issued port)) };
     waiting = λ o since uses begun w. w;
     low = omega arith;
@@ -420,7 +420,7 @@ module _ (laws : Laws) where
     same,
   )
 
-  module _ (port : Port) (o : Operation) (since : ℕ) (uses : SlotStates) (begun old : Device) (below : port.0 < 4) (w : IsPageAwaited port o since uses begun old) (clear : IsSlotClear (old.port port.0) 0) where
+  module _ (port : Port) (o : Operation) (since : ℕ) (uses : SlotStates) (begun old : Device) (below : port.0 < 4) (w : IsPageAwaitedOrReceived port o since uses begun old) (clear : IsSlotClear (old.port port.0) 0) where
     pub page_free : IsStable (IsUnowned (scratch_frame_address port.0) 512) old
     page_free =
         let a = w.machine_is_related in

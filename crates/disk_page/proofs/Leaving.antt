@@ -89,7 +89,7 @@ module _ (laws : Laws) where
   by_device : (port : ℕ) (old new : Device) → old.hr ≡ false → Steps old new → LeavesPortWhileAsking port old new
   by_device port old new off steps =
       let k : KeepsOverSteps old new = laws.law_step_lists_keep_what_steps_keep _ _ steps in
-      let p : PortBitsOnlyFall (old.port port) (new.port port) = k.ports_are_kept port in
+      let p : PortBitsOnlyFall (old.port port) (new.port port) = k.port_bits_only_fall port in
       record {
         controls_are_kept = (k.keeps_outside_reset off).controls_are_kept port;
         bases_are_kept = p.bases_are_kept;

@@ -4,15 +4,15 @@ use Rattle.ata_types.specs.declared.Port.{Port}
 use Rattle.adapter.specs.Access.{Access, Does, Loads, Reads, Writes}
 use Rattle.refinement.specs.Laws.{FragmentLaws, TapeLaws}
 use Rattle.refinement.specs.Relation.{StateRelation}
-use Rattle.refinement.specs.Fragments.{AnyAccess, AnySlotStates, SomeMachineAgrees, IsDrivenBy, SparesOtherPorts, LeavesPort, NoneWrites, GainsNoMove}
+use Rattle.refinement.specs.Fragments.{AnyAccess, AnySlotStates, SomeMachineAgrees, IsDrivenBy, SparesOtherPorts, OnlyDeviceChangesPort, NoneWrites, GainsNoMove}
 use Rattle.refinement.specs.AwaitedPage.{AwaitsOrHasPage}
-use Rattle.refinement.specs.HaltRecovery.{OwnCommandEndsHalt}
+use Rattle.refinement.specs.HaltRecovery.{PlainSlot0IsIssuedOrNotHalted}
 use Rattle.refinement.specs.Slots.{PageStandsInScratch, Free, IsMove, IsOver, Own, SlotState, SlotStates, client_operation_of, set_slot_state}
 use Rattle.hba_regs.specs.declared.reg.PortReg.TheVariants.{Ci, Sact}
 use Rattle.refinement.specs.StartedPort.{ClearsNoStart}
 use Rattle.adapter.specs.Device.{Device, DevicePort}
 use Rattle.adapter.specs.declared.tape.Entry.{Entry}
-use Rattle.refinement.specs.PortFacts.{FindsOwnPage, IsSlotClear, RecordsFaultsIfSt}
+use Rattle.refinement.specs.PortFacts.{FollowsAndHasPageSinceStart, IsSlotClear, RecordsFaultsIfSt}
 use Rattle.hba_regs.specs.declared.reg.Reg.TheVariants.{Ghc, Px}
 use Rattle.adapter.specs.Rules.{HasPort, IsUnowned, IsOn, MayWrite, IsStable}
 use Rattle.disk_page.specs.PageRequests.{IsPageAccess}
@@ -84,14 +84,15 @@ pub record Laws : Type 0 where
   pub stores_write_no_register : (port slot : ℕ) (r : Reg) → NoneWrites (IsHeaderOrTableStore port slot) r
   pub other_ports_are_left : (port : Port) (q : ℕ) (old new : Device) → q ≢ port.0 → IsOn old
       → IsDrivenBy (SparesOtherPorts port) old new
-      → LeavesPort (old.port q) (new.port q)
+      → OnlyDeviceChangesPort (old.port q) (new.port q)
   pub accesses_keep_adapter : (old new : Device) → IsDrivenBy AnyAccess old new → SameAdapter old new
   pub accesses_extend_tape : (old new : Device) → IsDrivenBy AnyAccess old new → (gained : List Entry)
       × (new.tape ≡ old.tape ++ gained)
   pub accesses_of_port_spare_ghc : (port : Port) (access : Access) → SparesOtherPorts port access
       → DoesNotWrite Ghc access
   -- the page
-  pub own_is_permitted : (uses : SlotStates) (m : Machine) (d : Device) → IsReachable m → StateRelation uses m d
+  pub issuing_page_command_is_permitted : (uses : SlotStates) (m : Machine) (d : Device) → IsReachable m
+      → StateRelation uses m d
       → (port : Port) (o : Operation) (v : ℕ) → IsOn d → HasPort d port.0 → IsOwnPrepared uses d port.0 o v
       → IsStable (MayWrite (Px port Ci) v) d
   pub page_is_issued : (uses : SlotStates) (m : Machine) (port : Port) (o : Operation) (v : ℕ) (old new : Device)
@@ -105,7 +106,8 @@ pub record Laws : Type 0 where
   pub page_is_found : (uses : SlotStates) (m : Machine) (port : Port) (o : Operation) (since v : ℕ) (old new : Device)
       → IsReachable m → StateRelation uses m old → AwaitsOrHasPage uses port.0 o since old
       → Reads (Px port Ci) v old new
-      → bit v 0 ≡ false → FindsOwnPage uses m port.0 o old new × PageStandsInScratch new.memory new.tape port.0 o since
+      → bit v 0 ≡ false → FollowsAndHasPageSinceStart uses m port.0 o old new
+      × PageStandsInScratch new.memory new.tape port.0 o since
   pub awaited_is_loaded : (uses : SlotStates) (m : Machine) (port : ℕ) (o : Operation) (since : ℕ) (bytes : List ℕ)
       (old new : Device) → IsReachable m → StateRelation uses m old → AwaitsOrHasPage uses port o since old
       → IsOver (old.port port) 0
@@ -118,15 +120,17 @@ pub record Laws : Type 0 where
       → IsStable (IsUnowned (scratch_frame_address port) 512) d
   pub release_keeps_relation : (uses : SlotStates) (port : ℕ) (o : Operation) (d : Device) → uses port 0 ≡ Free
       → IsOver (d.port port) 0 → SomeMachineAgrees (set_slot_state uses port 0 (Own o)) d → SomeMachineAgrees uses d
-  pub issued_read_log_ends_halt : (uses : SlotStates) (m : Machine) (port : Port) (o : Operation) (v : ℕ)
+  pub issued_own_command_is_unended_or_unhalted : (uses : SlotStates) (m : Machine) (port : Port) (o : Operation)
+      (v : ℕ)
       (old new : Device)
       → IsReachable m → StateRelation uses m old → old.hr ≡ false → ((slot : ℕ) → slot ≢ 0 → uses port.0 slot ≡ Free)
       → IsOwnPrepared uses old port.0 o v → Writes (Px port Ci) v old new
-      → OwnCommandEndsHalt (set_slot_state uses port.0 0 (Own o)) port.0 new
+      → PlainSlot0IsIssuedOrNotHalted (set_slot_state uses port.0 0 (Own o)) port.0 new
   pub access_keeps_ends_halt : (uses : SlotStates) (m : Machine) (port : Port) (access : Access) (old new : Device)
       → IsReachable m
       → StateRelation uses m old → ClearsNoStart port access → DoesNotWrite (Px port Sact) access → new.hr ≡ false
-      → Does access old new → OwnCommandEndsHalt uses port.0 old → OwnCommandEndsHalt uses port.0 new
+      → Does access old new → PlainSlot0IsIssuedOrNotHalted uses port.0 old
+      → PlainSlot0IsIssuedOrNotHalted uses port.0 new
   pub tape : TapeLaws
   pub unused_slot_moves_no_page : (uses : SlotStates) (m : Machine) (access : Access) (old new : Device) (port : ℕ)
       (o : Operation)

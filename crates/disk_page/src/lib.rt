@@ -8,7 +8,7 @@
 ghost use Rattle.std.specs.Prelude.{◌≡◌, ◌<◌, ◌+◌, ◌*◌, true, false, None, ℕ};
 ghost use Rattle.adapter.specs.{Commands.{command_of}, Device.{Device}, Rules.{IsOn, HasPort}, declared.command.Operation.{Operation}, AccessBounds.{MakesAtMost}};
 ghost use Rattle.refinement.specs.{Fragments.{AnySlotStates, IsSimulated, IsSimulatedAlong}, PortFacts.{IsSlotClear}, Slots.{SlotStates}};
-ghost use Rattle.disk_page.specs.{PageRequests.{AreSlot0IssuedReadings, GetsPage, IsPageAccess, MayAwaitPage, MayGetPage, page_operation}, PageWaits.{AsksForPage, IsPageAwaited}, Costs.{ASK_FOR_PAGE_ACCESSES, PAGE_ACCESSES}};
+ghost use Rattle.disk_page.specs.{PageRequests.{AreSlot0IssuedReadings, GetsPage, IsPageAccess, MayAwaitPage, MayGetPage, page_operation}, PageWaits.{AsksForPage, IsPageAwaitedOrReceived}, Costs.{ASK_FOR_PAGE_ACCESSES, PAGE_ACCESSES}};
 
 pub mod laws;
 mod prerequisites;
@@ -73,10 +73,10 @@ fn wait<A: Adapter>(adapter: &mut A, port: Port) -> bool
     ensures followed { IsSimulated (IsPageAccess port) AnySlotStates (A.device adapter.old) (A.device adapter.new) }
     ensures adapter_is_on { IsOn (A.device adapter.new) }
     ensures waiting { (o : Operation) (since : ℕ) (uses : SlotStates) (start : Device)
-        → IsPageAwaited port o since uses start (A.device adapter.old)
-        → IsPageAwaited port o since uses start (A.device adapter.new) }
+        → IsPageAwaitedOrReceived port o since uses start (A.device adapter.old)
+        → IsPageAwaitedOrReceived port o since uses start (A.device adapter.new) }
     ensures over { result ≡ true → (o : Operation) (since : ℕ) (uses : SlotStates) (start : Device)
-        → IsPageAwaited port o since uses start (A.device adapter.old)
+        → IsPageAwaitedOrReceived port o since uses start (A.device adapter.old)
         → IsSlotClear ((A.device adapter.new).port port.0) 0 }
     ensures vain { result ≡ false
         → (((A.device adapter.new).port port.0).notes.slot0_issued_count ≡ MOST_READINGS)

@@ -4,7 +4,7 @@ ghost use Rattle.disk_page.specs.Laws.{Laws};
 use adapter::laws::{
     law_kept_controls_compose, law_port_register_accesses, law_step_lists_keep_what_steps_keep,
 };
-use command_table::laws::law_stores_are_of_one_port;
+use command_table::laws::law_table_stores_touch_no_register;
 use refinement::access_kinds::law_fragment_prerequisites;
 use refinement::fragments::{
     law_agreeing_goes_on, law_other_ports_are_untouched, law_tape_prerequisites,
@@ -41,5 +41,5 @@ pub fn law_prerequisites()
     law_unused_slots_are_silent();
     law_agreeing_goes_on();
     law_other_ports_are_untouched();
-    law_stores_are_of_one_port();
+    law_table_stores_touch_no_register();
 }

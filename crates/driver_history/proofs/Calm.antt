@@ -22,10 +22,10 @@ use Rattle.block_machine.specs.Steps.{Step}
 use Rattle.identify.specs.declared.wanted.Wanted.{Wanted}
 use Rattle.driver_history.specs.EvidenceHandling.{IsDisturbed, IsLeftAlone, ServicesReadyPort, HandlesEvidenceAt}
 use Rattle.driver_history.specs.Claims.{IsFaultFreeOutcome, IsSpared}
-use Rattle.driver_history.specs.Evidence.{TapeGainsEntry, ReadyPortHasErrors, ReadyPortHasFatalErrors, IsEvidencedOf, ReadyPortHasLinkChange, ShowsFailure, StaysHealthy}
+use Rattle.driver_history.specs.Evidence.{TapeGainsEntry, ReadyPortHasErrors, ReadyPortHasFatalErrors, IsEvidencedOf, ReadyPortHasLinkChangeOrNoDevice, ShowsFailure, StaysHealthy}
 use Rattle.error_recovery.specs.Evidence.{GainsSinceStart, ShowsFatal}
 use Rattle.driver_history.specs.Histories.{LosesNoPortError, CallCorresponds}
-use Rattle.driver_history.specs.AccessTrace.{LeavesEngine}
+use Rattle.driver_history.specs.AccessTrace.{WritesNeitherCmdNorSctl}
 
 -- what the law on disks says
 abbrev pub EntryIsTold : Type 0
@@ -68,10 +68,10 @@ none_gained port Is old new disturbs u g =
     All-contains (λ e. IsDisturbance port e → ⊥) u.new_entries g.entry u.no_disturbance (subst (λ (xs : List Entry). Contains xs g.entry) same g.entry_is_new) (disturbs g.entry g.entry_is_of_kind)
 
 no_fatal : (p : DevicePort) → ShowsNoTrouble p → ShowsFatal p → ⊥
-no_fatal p quiet f = let low = f.from in let high = f.to in false≢true (sym (quiet.no_error_bit_is_set f.place low (omega (arith, high))) ∙ f.cause_is_set)
+no_fatal p quiet f = let low = f.from in let high = f.to in false≢true (sym (quiet.bits_27_to_30_are_clear f.place low (omega (arith, high))) ∙ f.cause_is_set)
 
 no_failure : (p : DevicePort) → ShowsNoTrouble p → ShowsFailure p → ⊥
-no_failure p quiet f = ⊎_elim (no_fatal p quiet) (λ fault. false≢true (sym (quiet.no_error_bit_is_set 30 (omega arith) (omega arith)) ∙ fault)) f
+no_failure p quiet f = ⊎_elim (no_fatal p quiet) (λ fault. false≢true (sym (quiet.bits_27_to_30_are_clear 30 (omega arith) (omega arith)) ∙ fault)) f
 
 -- what was gained while ST was one was gained
 pub gains_of : (port : ℕ) (Is : Entry → Type 0) (old new : Device) → GainsSinceStart Is port old new → TapeGainsEntry Is old new
@@ -86,17 +86,17 @@ gains_of port Is old new g = record {
 -- a port that stays healthy has no trouble that could be lost
 pub untroubled : (evidence : Evidence) (old : JointState Device) (ports : Ports) (new : Device) (port : Port) → StaysHealthy port.0 old.device new → LosesNoPortError evidence old ports new port
 untroubled evidence old ports new port healthy = record {
-  errors_are_handled_or_shown = λ ready port_error. absurd (⊎_elim
+  ready_errors_are_handled_or_shown = λ ready port_error. absurd (⊎_elim
       (no_failure (old.device.port port.0) healthy.port_runs_well.shows_no_trouble)
       (λ g. ⊎_elim
       (none_gained port.0 (IsFaultOf port.0) old.device new (fault_disturbs port.0) healthy.undisturbed)
       (none_gained port.0 (IsFatalErrorOf port.0) old.device new (fatal_disturbs port.0) healthy.undisturbed)
       g)
       port_error);
-  new_fault_is_shown = λ ready g. absurd (none_gained port.0 (IsFaultOf port.0) old.device new (fault_disturbs port.0) healthy.undisturbed (gains_of port.0 (IsFaultOf port.0) old.device new g));
-  new_fatal_is_shown = λ ready g. absurd (none_gained port.0 (IsFatalErrorOf port.0) old.device new (fatal_disturbs port.0) healthy.undisturbed (gains_of port.0 (IsFatalErrorOf port.0) old.device new g));
-  new_plug_event_is_shown = λ ready g. absurd (none_gained port.0 (IsPlugEvent port.0) old.device new (plugging_disturbs port.0) healthy.undisturbed (gains_of port.0 (IsPlugEvent port.0) old.device new g));
-  changes_are_handled_or_shown = λ ready port_error. absurd (⊎_elim
+  ready_shows_fault_since_start = λ ready g. absurd (none_gained port.0 (IsFaultOf port.0) old.device new (fault_disturbs port.0) healthy.undisturbed (gains_of port.0 (IsFaultOf port.0) old.device new g));
+  ready_shows_fatal_since_start = λ ready g. absurd (none_gained port.0 (IsFatalErrorOf port.0) old.device new (fatal_disturbs port.0) healthy.undisturbed (gains_of port.0 (IsFatalErrorOf port.0) old.device new g));
+  ready_shows_plug_event_since_start = λ ready g. absurd (none_gained port.0 (IsPlugEvent port.0) old.device new (plugging_disturbs port.0) healthy.undisturbed (gains_of port.0 (IsPlugEvent port.0) old.device new g));
+  changes_are_handled_or_shown_unless_dead = λ ready port_error. absurd (⊎_elim
       (λ change. ⊎_elim (λ n. false≢true (sym healthy.port_runs_well.shows_no_trouble.serr_n_is_clear ∙ n)) (λ x. false≢true (sym healthy.port_runs_well.shows_no_trouble.serr_x_is_clear ∙ x)) change)
       (none_gained port.0 (IsPlugEvent port.0) old.device new (plugging_disturbs port.0) healthy.undisturbed)
       port_error);
@@ -122,7 +122,7 @@ module _ (port : Port) (old : JointState Device) (new : Device) (healthy : Stays
   pub no_plugging : TapeGainsEntry (IsPlugEvent port.0) old.device new → ⊥
   no_plugging = none_gained port.0 (IsPlugEvent port.0) old.device new (plugging_disturbs port.0) healthy.undisturbed
 
-  pub not_gone : ReadyPortHasLinkChange port old new → ⊥
+  pub not_gone : ReadyPortHasLinkChangeOrNoDevice port old new → ⊥
   not_gone g = ⊎_elim
       (λ change. ⊎_elim (λ n. false≢true (sym healthy.port_runs_well.shows_no_trouble.serr_n_is_clear ∙ n)) (λ x. false≢true (sym healthy.port_runs_well.shows_no_trouble.serr_x_is_clear ∙ x)) change)
       (λ more. ⊎_elim (λ missing. missing healthy.port_runs_well.det_is_3) no_plugging more)
@@ -144,7 +144,7 @@ module _ (told : EntryIsTold) (wanted : List Wanted) (old : JointState Device) (
       no_plugging port old h.device healthy (record { new_entries = t.is_backed.new_entries; tape_is = t.is_backed.tape_is; entry = x.0; entry_is_new = x.1; entry_is_of_kind = x.2 })
 
   undisturbed : IsDisturbed h.event.evidence h.event.steps port → ⊥
-  undisturbed d = ⊎_elim (λ failed. no_errors port old h.device healthy (ev.showing_error_only failed)) (λ rest. ⊎_elim (λ g. not_gone port old h.device healthy (ev.link_changed_only g)) changes rest) d
+  undisturbed d = ⊎_elim (λ failed. no_errors port old h.device healthy (ev.named_showing_error_had_error failed)) (λ rest. ⊎_elim (λ g. not_gone port old h.device healthy (ev.named_link_changed_had_change_or_no_device g)) changes rest) d
 
   module _ (asks : h.event.call ≡ Service) (ready : old.abstract.ports.state port ≡ Ready) where
     serves : ServicesReadyPort old.abstract h.event.evidence h.event.steps (abstract_after old.abstract h.event) port
@@ -176,7 +176,7 @@ module _ (told : EntryIsTold) (wanted : List Wanted) (old : JointState Device) (
   no_interrupt (State at) heeds other spares ready i = heeds i
   no_interrupt (Told step) heeds other spares ready i = heeds i
 
-  pub engine_left : h.event.call ≢ Reset → (h.event.call ≡ Tick → IsStoppedOrStuck h.event.evidence port → ⊥) → old.abstract.ports.state port ≡ Ready → All (LeavesEngine port) t.accesses
+  pub engine_left : h.event.call ≢ Reset → (h.event.call ≡ Tick → IsStoppedOrStuck h.event.evidence port → ⊥) → old.abstract.ports.state port ≡ Ready → All (WritesNeitherCmdNorSctl port) t.accesses
   engine_left other spares ready = ⊎_elim (λ a. a) (λ i. absurd (no_interrupt h.event.call (t.ports_correspond port).handles_evidence other spares ready i)) ev.engine_is_left_or_stopped
 
 tick_restarts : (said : AbstractCallResult) (old : AbstractState) (evidence : Evidence) (steps : List Step) (new : AbstractState) → ResultMatchesSteps {D = DeviceStep} Tick said old evidence steps new → RestartsTimedOut old evidence steps new
@@ -196,4 +196,4 @@ restarts_of ask said old evidence steps new answered asks = tick_restarts said o
 -- a tick interrupts none that it doesn't bring to its limit
 pub tick_spares : (ask : AbstractCall DeviceStep) (said : AbstractCallResult) (old : AbstractState) (evidence : Evidence) (steps : List Step) (new : AbstractState) (port : Port) → ResultMatchesSteps ask said old evidence steps new
     → (ask ≡ Tick → TimesOutAtTick old port → ⊥) → ask ≡ Tick → IsStoppedOrStuck evidence port → ⊥
-tick_spares ask said old evidence steps new port answered young asks i = young asks (((restarts_of ask said old evidence steps new answered asks).timed_out_iff_interrupted port).1 i)
+tick_spares ask said old evidence steps new port answered young asks i = young asks (((restarts_of ask said old evidence steps new answered asks).timed_out_iff_stopped_or_stuck port).1 i)

@@ -163,4 +163,4 @@ module _ (laws : AccessLaws) where
   access_shows faults port access old new on spares does = of_faults port.0 old new (laws.access_ends_tfes_clear_no_fault port access old new on spares does)
   access_shows fatals port access old new on spares does = of_fatals port.0 old new (laws.access_ends_fatal_clear_no_fatal port access old new on spares does)
   access_shows disks port access old new on spares does = of_disks port.0 old new (laws.access_ends_n_clear_no_plugs port access old new on spares does)
-  access_shows links port access old new on spares does = of_links port.0 old new (laws.access_keeps_serr_n_and_x port access old new on spares does).1
+  access_shows links port access old new on spares does = of_links port.0 old new (laws.access_but_serr_write_keeps_set_n_and_x port access old new on spares does).1

@@ -13,7 +13,7 @@ use Rattle.block_machine.specs.Steps.{Step, Answer}
 use Rattle.identify.specs.declared.wanted.Wanted.{Wanted}
 use Rattle.driver_history.specs.Claims.{GoesWellFor, IsFaultFreeOutcome, IsHealthyFor, IsSpared}
 use Rattle.driver_history.specs.Histories.{IsDriverHistory, CallCorresponds}
-use Rattle.driver_history.specs.AccessTrace.{LeavesEngine}
+use Rattle.driver_history.specs.AccessTrace.{WritesNeitherCmdNorSctl}
 use Rattle.driver_history.proofs.Calm.{EntryIsTold, engine_left, restarts_of, spared, tick_spares}
 use Rattle.driver_history.proofs.Lasting.{KeepsWell}
 use Rattle.driver_history.proofs.Leaving.{left_well}
@@ -78,7 +78,7 @@ module _ (told : EntryIsTold) (steps : KeepsWell) (wanted : List Wanted) (first 
     t : CallCorresponds wanted old h
     t = history.2
 
-    engine : All (LeavesEngine port) t.accesses
+    engine : All (WritesNeitherCmdNorSctl port) t.accesses
     engine = engine_left told wanted old h t port healthy.stays_healthy healthy.is_no_reset
         (tick_spares h.event.call h.event.result old.abstract h.event.evidence h.event.steps (abstract_after old.abstract h.event) port history.1.result_matches_steps healthy.has_not_timed_out) healthy.ready
 

@@ -67,7 +67,7 @@ module _ (wanted : List Wanted) where
     slot = ⊎_elim
         (λ parked. absurd (All-contains (λ _. ⊥) [] e.request.id (All-nil (λ _. ⊥)) (subst (λ (ids : List RequestId). Contains ids e.request.id) ready.slots_invariant.none_is_parked parked)))
         (λ has. has)
-        (holds.driver_relation.have_slots e.request.port.0 e (inl (here, issued)) refl)
+        (holds.driver_relation.have_slots_unless_parked e.request.port.0 e (inl (here, issued)) refl)
 
     usable : slot.0 < (i.abstract.ports.mode e.request.port).usable_slots
     usable = ⊎_elim

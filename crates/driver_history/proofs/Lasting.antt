@@ -17,12 +17,12 @@ use Rattle.refinement.specs.PortFacts.{RunsWell, Undisturbed}
 use Rattle.refinement.specs.PreservedParts.{DoesNotWrite}
 use Rattle.block_machine.specs.Events.{AbstractCall, Submit, StoreAt, LoadAt, Service, Tick, Reset, RevokeOf, StepDevice as Told, AbstractCallResult, Submitted, Stored, Loaded, Replied, WasRevoked, Stepped, TimesOutAtTick, AbstractState}
 use Rattle.driver_history.specs.Histories.{ExplainsAccesses, IsIssuingAccess, IsServedAndNotDead}
-use Rattle.driver_history.specs.AccessTrace.{UsesPortsAndNotGhc, LeavesEngine}
-use Rattle.port_boot.specs.States.{StaysRunning}
+use Rattle.driver_history.specs.AccessTrace.{UsesPortsAndNotGhc, WritesNeitherCmdNorSctl}
+use Rattle.port_boot.specs.States.{StaysRunningIfUndisturbed}
 
 -- it writes neither GHC, nor PxCMD or PxSCTL of the port
 abbrev pub LeavesRunning : Port → Access → Type 0
-LeavesRunning port access = DoesNotWrite Ghc access × LeavesEngine port access
+LeavesRunning port access = DoesNotWrite Ghc access × WritesNeitherCmdNorSctl port access
 
 -- such accesses, or none
 abbrev pub IsCalm : Port → List Access → Device → Device → Type 0
@@ -52,21 +52,21 @@ pub record KeepsWell : Type 0 where
   pub steps : (port : ℕ) (old new : Device) → old.hr ≡ false → Steps old new → Undisturbed port old new → RunsWell (old.port port) → RunsWell (new.port port)
   -- and over accesses
   pub runs : (port : Port) (accesses : List Access) (old new : Device) → IsOn old → DoesAll accesses old new → All (DoesNotWrite Ghc) accesses → All (DoesNotWrite (Px port Sctl)) accesses
-      → All (DoesNotWrite (Px port Cmd)) accesses → StaysRunning port.0 old new
-  pub well : (port : ℕ) (old new : Device) → StaysRunning port old new → Undisturbed port old new → RunsWell (old.port port) → RunsWell (new.port port)
+      → All (DoesNotWrite (Px port Cmd)) accesses → StaysRunningIfUndisturbed port.0 old new
+  pub well : (port : ℕ) (old new : Device) → StaysRunningIfUndisturbed port old new → Undisturbed port old new → RunsWell (old.port port) → RunsWell (new.port port)
 
 module _ (port : Port) (m : AbstractState) (accesses : List Access) (old new : Device) where
   abbrev Calm : Type 0
   Calm = IsCalm port accesses old new
 
-  serving : (Such : Port → Type 0) → All (UsesPortsAndNotGhc Such) accesses → All (LeavesEngine port) accesses → All (LeavesRunning port) accesses
+  serving : (Such : Port → Type 0) → All (UsesPortsAndNotGhc Such) accesses → All (WritesNeitherCmdNorSctl port) accesses → All (LeavesRunning port) accesses
   serving Such serves leaves i e small = ((serves i e small).1, leaves i e small)
 
   none : accesses ≡ [] → new ≡ old → Calm
   none made same = inl (subst (λ (list : List Access). All (LeavesRunning port) list × DoesAll list old new) (sym made) (All-nil (LeavesRunning port), same))
 
   -- how the call came there, if it leaves the engine alone
-  pub came_calmly : KeepsWell → (ask : AbstractCall DeviceStep) (said : AbstractCallResult) → ExplainsAccesses m ask said accesses old new → IsNoReset ask → All (LeavesEngine port) accesses → Calm
+  pub came_calmly : KeepsWell → (ask : AbstractCall DeviceStep) (said : AbstractCallResult) → ExplainsAccesses m ask said accesses old new → IsNoReset ask → All (WritesNeitherCmdNorSctl port) accesses → Calm
   came_calmly laws (Told step) (Stepped true) c other leaves = inr (laws.asked step old new c.1)
   came_calmly laws (Submit r) (Submitted (Ok id)) c other leaves = inl ((λ i e small. issuing_leaves port c.1.0.port _ (c.1.2 i e small)), c.0)
   came_calmly laws (RevokeOf client number) (WasRevoked (Some replies)) c other leaves = inl ((λ i e small. issuing_leaves port c.1.0.0.port _ (c.1.1 i e small)), c.0)

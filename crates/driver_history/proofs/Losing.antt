@@ -122,12 +122,12 @@ module _ (laws : AccessLaws) (port : Port) where
   -- what was shown is shown still, and so is what came
   pub loses_none : (old : JointState Device) (new : Device) → ((kind : TroubleKind) → AreShown kind port.0 old.device new) → (evidence : Evidence) (ports : Ports) → LosesNoPortError evidence old ports new port
   loses_none old new shows evidence ports = record {
-    errors_are_handled_or_shown = λ ready port_error. inr (⊎_elim
+    ready_errors_are_handled_or_shown = λ ready port_error. inr (⊎_elim
         (failure_still port.0 old.device new shows)
         (λ came. ⊎_elim (λ g. inr ((shows faults).came g)) (λ g. inl ((shows fatals).came g)) came)
         port_error);
-    changes_are_handled_or_shown = λ tends port_error. inr (⊎_elim (change_still port.0 old.device new shows) (λ g. inl ((shows disks).came g)) port_error);
-    new_fault_is_shown = λ ready g. (shows faults).came (gains_of port.0 (IsFaultOf port.0) old.device new g);
-    new_fatal_is_shown = λ ready g. (shows fatals).came (gains_of port.0 (IsFatalErrorOf port.0) old.device new g);
-    new_plug_event_is_shown = λ ready g. (shows disks).came (gains_of port.0 (IsPlugEvent port.0) old.device new g);
+    changes_are_handled_or_shown_unless_dead = λ tends port_error. inr (⊎_elim (change_still port.0 old.device new shows) (λ g. inl ((shows disks).came g)) port_error);
+    ready_shows_fault_since_start = λ ready g. (shows faults).came (gains_of port.0 (IsFaultOf port.0) old.device new g);
+    ready_shows_fatal_since_start = λ ready g. (shows fatals).came (gains_of port.0 (IsFatalErrorOf port.0) old.device new g);
+    ready_shows_plug_event_since_start = λ ready g. (shows disks).came (gains_of port.0 (IsPlugEvent port.0) old.device new g);
   }

@@ -14,7 +14,7 @@ use Rattle.adapter.specs.declared.tape.Entry.{Entry}
 use Rattle.adapter.specs.declared.tape.Entry.TheVariants as entry
 use Rattle.adapter.specs.declared.tape.Fault as tape_fault
 use Rattle.adapter.specs.declared.command.Operation.TheVariants.{ReadLog}
-use Rattle.refinement.specs.Fragments.{IsDrivenBy, SparesOtherPorts, TapeGrows, LeavesPort, GainsNoMove}
+use Rattle.refinement.specs.Fragments.{IsDrivenBy, SparesOtherPorts, TapeGrows, OnlyDeviceChangesPort, GainsNoMove}
 use Rattle.refinement.specs.Slots.{IsMove}
 use Rattle.refinement.specs.Errors.{LinkErrorsRiseByDisks, ErrorBitsRiseByErrors, IsFatalErrorOf}
 use Rattle.refinement.specs.PortFacts.{IsFaultOf}
@@ -22,11 +22,11 @@ use Rattle.refinement.specs.PreservedParts.{ComesUp, IsPlugEvent, NoPlugEvents, 
 use Rattle.block_machine.specs.Events.{AbstractCall, AbstractState, AbstractCallResult}
 use Rattle.block_machine.specs.Histories.{JointState}
 use Rattle.block_machine.specs.Ports.{Ports, SamePort, Evidence, IsStoppedOrStuck}
-use Rattle.driver_history.specs.Evidence.{TapeGainsEntry, ReadyPortHasErrors, ReadyPortHasFatalErrors, IsEvidencedOf, ReadyPortHasLinkChange, IsLost, ShowsLinkChange, ShowsLoss}
-use Rattle.error_recovery.specs.Evidence.{BringsLog, HasFailed, ShowsFatal}
+use Rattle.driver_history.specs.Evidence.{TapeGainsEntry, ReadyPortHasErrors, ReadyPortHasFatalErrors, IsEvidencedOf, ReadyPortHasLinkChangeOrNoDevice, MayHaveLostDisk, ShowsLinkChange, ShowsLoss}
+use Rattle.error_recovery.specs.Evidence.{BringsLastLogPage, HasFailed, ShowsFatal}
 use Rattle.driver_history.specs.Laws.{AccessLaws}
 use Rattle.driver_history.specs.PortTurn.{HasTurnIn, IsOfOtherPort, EvidenceAgreesOn, call_accesses}
-use Rattle.driver_history.specs.AccessTrace.{DoesNotWriteCmd, LeavesEngine}
+use Rattle.driver_history.specs.AccessTrace.{DoesNotWriteCmd, WritesNeitherCmdNorSctl}
 use Rattle.driver_history.proofs.Errors.{AreShown, TroubleKind, access_shows, change_still, failure_still, fatals, register_of, shown_more, shown_none}
 
 -- ---- entries of a kind, or none
@@ -101,7 +101,7 @@ module _ (laws : AccessLaws) (port : Port) where
   -- What is left of the port by accesses of others: the adapter is on; the port is left to its device; its errors rise by errors alone; and its trouble is shown.
   pub record IsLeft (old new : Device) : Type 0 where
     pub on : IsOn new
-    pub leaves : LeavesPort (old.port port.0) (new.port port.0)
+    pub leaves : OnlyDeviceChangesPort (old.port port.0) (new.port port.0)
     pub grows : TapeGrows old new
     pub errors : ErrorBitsRiseByErrors port.0 old new
     pub undue : (old.port port.0).link_due ≡ false → (new.port port.0).link_due ≡ false
@@ -132,20 +132,20 @@ module _ (laws : AccessLaws) (port : Port) where
         leaves = laws.other_ports_are_left other port.0 old new apart on driven;
         grows = laws.tape.access_grows access old new does;
         errors = laws.access_changes_by_errors port access old new does;
-        undue = λ undue. laws.tape.access_makes_no_link_due port access old new on.no_reset undue (laws.one_port_spares_registers other port Sctl apart access of) does;
-        disks = λ undue. laws.tape.access_raises_by_disks port access old new on.no_reset undue does;
+        undue = λ undue. laws.tape.access_but_sctl_write_makes_no_link_due port access old new on.no_reset undue (laws.one_port_spares_registers other port Sctl apart access of) does;
+        disks = λ undue. laws.tape.access_raises_link_errors_by_disks port access old new on.no_reset undue does;
         shows = λ undue none. ⊎_elim
             (λ (same : SameLink (old.port port.0) (new.port port.0)). same.det)
             (λ (up : ComesUp (old.port port.0) (new.port port.0)). absurd (false≢true (sym undue ∙ up.link_was_due)))
-            (laws.link_stays_without_plug_events port access old new on.no_reset (laws.one_port_spares_registers other port Sctl apart access of) does none);
+            (laws.link_is_same_or_comes_up_without_plugs port access old new on.no_reset (laws.one_port_spares_registers other port Sctl apart access of) does none);
         shown = λ none shows. ⊎_elim
             (λ (same : SameLink (old.port port.0) (new.port port.0)). same.det ∙ shows)
             (λ (up : ComesUp (old.port port.0) (new.port port.0)). up.det)
-            (laws.link_stays_without_plug_events port access old new on.no_reset (laws.one_port_spares_registers other port Sctl apart access of) does none);
+            (laws.link_is_same_or_comes_up_without_plugs port access old new on.no_reset (laws.one_port_spares_registers other port Sctl apart access of) does none);
         fresh = λ undue none. ⊎_elim
             (λ (same : SameLink (old.port port.0) (new.port port.0)). same.fresh)
             (λ (up : ComesUp (old.port port.0) (new.port port.0)). absurd (false≢true (sym undue ∙ up.link_was_due)))
-            (laws.link_stays_without_plug_events port access old new on.no_reset (laws.one_port_spares_registers other port Sctl apart access of) does none);
+            (laws.link_is_same_or_comes_up_without_plugs port access old new on.no_reset (laws.one_port_spares_registers other port Sctl apart access of) does none);
         trouble_shown = λ kind. access_shows laws kind port access old new on.no_reset (laws.one_port_spares_registers other port (register_of kind) apart access of) does;
       }
 
@@ -185,9 +185,9 @@ module _ (laws : AccessLaws) (port : Port) where
       }
 
   -- they write neither PxCMD nor PxSCTL of it
-  pub others_leave_engine : (accesses : List Access) → All (IsOfOtherPort port) accesses → All (LeavesEngine port) accesses
+  pub others_leave_engine : (accesses : List Access) → All (IsOfOtherPort port) accesses → All (WritesNeitherCmdNorSctl port) accesses
   others_leave_engine accesses of =
-      All-weaker (IsOfOtherPort port) (LeavesEngine port) (λ access x. (laws.one_port_spares_registers x.0 port Cmd x.1 access x.2, laws.one_port_spares_registers x.0 port Sctl x.1 access x.2)) accesses of
+      All-weaker (IsOfOtherPort port) (WritesNeitherCmdNorSctl port) (λ access x. (laws.one_port_spares_registers x.0 port Cmd x.1 access x.2, laws.one_port_spares_registers x.0 port Sctl x.1 access x.2)) accesses of
 
   -- the tape gains over accesses
   pub grows_over : (accesses : List Access) (old new : Device) → DoesAll accesses old new → TapeGrows old new
@@ -203,7 +203,7 @@ module _ (laws : AccessLaws) (port : Port) where
       (λ missing.
       let a = laws.tape.no_disk_comes_in_parts port.0 old t.start new first.grows.0 since.0 first.grows.1 since.1 missing.1 in
       let b = laws.tape.no_disk_comes_in_parts port.0 t.start t.end new middle.0 last.0 middle.1 last.1 a.1 in
-      inr ((λ there. missing.0 ((first.disks undue).det_3_was_3_if_none_comes a.0 there).0), b.0))
+      inr ((λ there. missing.0 ((first.disks undue).det_3_was_3_and_none_went_if_none_comes a.0 there).0), b.0))
       loss
     where
       first : IsLeft old t.start
@@ -286,7 +286,7 @@ module _ (laws : AccessLaws) (port : Port) where
     ready_then : begun.ports.state port ≡ Ready → old.abstract.ports.state port ≡ Ready
     ready_then is = sym was.1 ∙ is
 
-    lost : (old.device.port port.0).link_due ≡ false → IsLost port (record { device = t.start; abstract = begun }) ended t.end → IsLost port old ports new
+    lost : (old.device.port port.0).link_due ≡ false → MayHaveLostDisk port (record { device = t.start; abstract = begun }) ended t.end → MayHaveLostDisk port old ports new
     lost undue (inl shown) = ⊎_elim (λ change. inl change) (λ g. inr (inr (inl g))) (changes undue shown)
     lost undue (inr (inl gone)) = ⊎_elim (λ out. inr (inl out)) (λ g. inr (inr (inl g))) (missing undue gone)
     lost undue (inr (inr (inl g))) = inr (inr (inl (within (IsPlugEvent port.0) g)))
@@ -295,7 +295,7 @@ module _ (laws : AccessLaws) (port : Port) where
       (λ is same. end.1 (sym stays.1 ∙ is) (sym stays.2 ∙ same.0 ∙ sym was.2, sym stays.3 ∙ same.1 ∙ sym was.3)),
     )))
 
-    gone_only : ReadyPortHasLinkChange port (record { device = t.start; abstract = begun }) t.end → ReadyPortHasLinkChange port old new
+    gone_only : ReadyPortHasLinkChangeOrNoDevice port (record { device = t.start; abstract = begun }) t.end → ReadyPortHasLinkChangeOrNoDevice port old new
     gone_only (is, inl shown) = (ready_then is, ⊎_elim (λ change. inl change) (λ g. inr (inr g)) (changes (linked (inl (ready_then is))) shown))
     gone_only (is, inr (inl gone)) = (ready_then is, ⊎_elim (λ out. inr (inl out)) (λ g. inr (inr g)) (missing (linked (inl (ready_then is))) gone))
     gone_only (is, inr (inr g)) = (ready_then is, inr (inr (within (IsPlugEvent port.0) g)))
@@ -312,26 +312,26 @@ module _ (laws : AccessLaws) (port : Port) where
 
     pub evidence_is_the_calls : IsEvidencedOf ask said (call_accesses t) old ports new call port
     evidence_is_the_calls = record {
-      lost_only = λ named. lost (linked (inr (alike.lost.1 named))) (its.lost_only (alike.lost.1 named));
-      link_changed_all = λ is loss. alike.link_changed.0 (its.link_changed_all (ready is) (loss_then old.device new on (linked (inl is)) t loss));
-      link_changed_only = λ named. gone_only (its.link_changed_only (alike.link_changed.1 named));
-      showing_error_all = λ is failure. alike.showing_error.0 (its.showing_error_all (ready is) (failure_still port.0 old.device t.start first.trouble_shown failure));
-      showing_error_only = λ named. errors (its.showing_error_only (alike.showing_error.1 named));
-      showing_fatal_error_all = λ is shown. alike.showing_fatal_error.0 (its.showing_fatal_error_all (ready is) ((first.trouble_shown fatals).still shown));
-      showing_fatal_error_only = λ named. fatal_errors (its.showing_fatal_error_only (alike.showing_fatal_error.1 named));
+      named_lost_may_have_lost_disk = λ named. lost (linked (inr (alike.lost.1 named))) (its.named_lost_may_have_lost_disk (alike.lost.1 named));
+      shown_loss_of_ready_is_named = λ is loss. alike.link_changed.0 (its.shown_loss_of_ready_is_named (ready is) (loss_then old.device new on (linked (inl is)) t loss));
+      named_link_changed_had_change_or_no_device = λ named. gone_only (its.named_link_changed_had_change_or_no_device (alike.link_changed.1 named));
+      shown_failure_of_ready_is_named = λ is failure. alike.showing_error.0 (its.shown_failure_of_ready_is_named (ready is) (failure_still port.0 old.device t.start first.trouble_shown failure));
+      named_showing_error_had_error = λ named. errors (its.named_showing_error_had_error (alike.showing_error.1 named));
+      shown_fatal_of_ready_is_named = λ is shown. alike.showing_fatal_error.0 (its.shown_fatal_of_ready_is_named (ready is) ((first.trouble_shown fatals).still shown));
+      named_showing_fatal_had_fatal = λ named. fatal_errors (its.named_showing_fatal_had_fatal (alike.showing_fatal_error.1 named));
       engine_is_left_or_stopped = ⊎_elim
-          (λ left. inl (All-append (LeavesEngine port) t.before (t.turn ++ t.later) (others_leave_engine t.before t.earlier_are_of_others)
-          (All-append (LeavesEngine port) t.turn t.later left (others_leave_engine t.later t.later_are_of_others))))
+          (λ left. inl (All-append (WritesNeitherCmdNorSctl port) t.before (t.turn ++ t.later) (others_leave_engine t.before t.earlier_are_of_others)
+          (All-append (WritesNeitherCmdNorSctl port) t.turn t.later left (others_leave_engine t.later t.later_are_of_others))))
           (λ (i : IsStoppedOrStuck turn port). inr (⊎_elim (λ a. inl (alike.stopped.0 a)) (λ b. inr (alike.stuck.0 b)) i))
           its.engine_is_left_or_stopped;
-      stopped_only = λ named. ⊎_elim
+      named_stopped_was_stopped_or_reset = λ named. ⊎_elim
           (λ stops. inl (laws.fall_holds_with_earlier t.before (t.turn ++ t.later) 0 15 port (laws.fall_holds_with_later t.turn t.later 0 15 port stops)))
           (λ reset. inr (reset.0, sym was.0 ∙ reset.1))
-          (its.stopped_only (alike.stopped.1 named));
+          (its.named_stopped_was_stopped_or_reset (alike.stopped.1 named));
       stuck_only = λ named. ⊎_elim
           (λ sticks. inl (
             laws.sticking_holds_with_earlier t.before (t.turn ++ t.later) port (laws.sticking_holds_with_later t.turn t.later port sticks.0),
-            ap (λ n. n.engine_count) last.leaves.notes ∙ sticks.1,
+            ap (λ n. n.engine_wait_count) last.leaves.notes ∙ sticks.1,
           ))
           (λ reset. inr (reset.0, sym was.0 ∙ reset.1))
           (its.stuck_only (alike.stuck.1 named));
@@ -354,7 +354,7 @@ module _ (laws : AccessLaws) (port : Port) where
             ∙ ap (λ (rest : List Access). t.before ++ rest) (append_assoc f.cmd_is_unwritten.early f.cmd_is_unwritten.late t.later)
             ∙ sym (append_assoc t.before f.cmd_is_unwritten.early (f.cmd_is_unwritten.late ++ t.later));
         cmd_is_unwritten = All-append (DoesNotWriteCmd port) t.before f.cmd_is_unwritten.early
-            (All-weaker (LeavesEngine port) (DoesNotWriteCmd port) (λ access leaves. leaves.0) t.before (others_leave_engine t.before t.earlier_are_of_others)) f.cmd_is_unwritten.cmd_is_unwritten;
+            (All-weaker (WritesNeitherCmdNorSctl port) (DoesNotWriteCmd port) (λ access leaves. leaves.0) t.before (others_leave_engine t.before t.earlier_are_of_others)) f.cmd_is_unwritten.cmd_is_unwritten;
         does_early = laws.does_append t.before f.cmd_is_unwritten.early old t.start f.device_before_stop t.leads_to_start f.cmd_is_unwritten.does_early;
         does_late = laws.does_append f.cmd_is_unwritten.late t.later f.device_before_stop t.end new f.cmd_is_unwritten.does_late t.leads_to_new;
       };
@@ -363,7 +363,7 @@ module _ (laws : AccessLaws) (port : Port) where
     }
 
     -- the last page of the log that the turn brought is the call's last
-    pub brought_in_call : (page : List ℕ) → GainsNoMove port.0 ReadLog t.end new → BringsLog port t.start t.end page → BringsLog port old new page
+    pub brought_in_call : (page : List ℕ) → GainsNoMove port.0 ReadLog t.end new → BringsLastLogPage port t.start t.end page → BringsLastLogPage port old new page
     brought_in_call page (later, tape, none) b = record {
       new_entries = ahead.grows.0 ++ (b.new_entries ++ later);
       tape_grows = tape ∙ ap (λ (xs : List Entry). xs ++ later) (b.tape_grows ∙ ap (λ (xs : List Entry). xs ++ b.new_entries) ahead.grows.1)

@@ -21,7 +21,7 @@ use Rattle.block_machine.specs.Steps.{Step, Touch}
 use Rattle.identify.specs.declared.wanted.Wanted.{Wanted}
 use Rattle.driver_history.specs.Histories.{IsDriverHistory}
 use Rattle.driver_history.specs.Laws.{RunLaws}
-use Rattle.driver_history.specs.ConfinedMoves.{IsConfinedClear, IsConfinedMove, ConfinesCallMoves, KeepsToItsFrames}
+use Rattle.driver_history.specs.ConfinedMoves.{IsConfinedClear, IsConfinedMove, ConfinesCallMovesAndClears, KeepsToItsFrames}
 use Rattle.driver_history.proofs.Telling.{history_runs, machine_is}
 
 -- ---- among a call's steps
@@ -185,7 +185,7 @@ module _ (laws : RunLaws) (wanted : List Wanted) (first : JointState Device) (pa
       split : h.event.steps ++ early ≡ (c.later ++ c.touches) ++ (c.before ++ early)
       split = ap (λ (steps : List Step). steps ++ early) (c.here ∙ sym (append_assoc c.later c.touches c.before)) ∙ append_assoc (c.later ++ c.touches) c.before early
 
-  pub keeps_moves : ConfinesCallMoves start early h.event.steps (joint_state_after first past).device h.device
+  pub keeps_moves : ConfinesCallMovesAndClears start early h.event.steps (joint_state_after first past).device h.device
   keeps_moves = record {
     new_entries = history.2.is_backed.new_entries;
     tape_is = history.2.is_backed.tape_is;

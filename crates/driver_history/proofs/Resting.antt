@@ -21,7 +21,7 @@ use Rattle.block_machine.specs.Expected.{after}
 use Rattle.host_boot.specs.TakeOver.{wanted_of}
 use Rattle.identify.specs.declared.wanted.Wanted.{Wanted}
 use Rattle.driver_history.specs.Claims.{AnswerJustified}
-use Rattle.driver_history.specs.Evidence.{IsEndedReset, IsLost}
+use Rattle.driver_history.specs.Evidence.{IsEndedReset, MayHaveLostDisk}
 use Rattle.driver_history.specs.Histories.{CallCorresponds}
 use Rattle.driver_history.specs.PortInvariants.{DriverInvariant, PortStateInvariant, IsDeadAt}
 
@@ -99,8 +99,8 @@ module _ (wanted : List Wanted) (old : JointState Device) (h : JointEvent Device
   lawful e o here = lawful_of old.abstract h.event.evidence h.event.ports h.event.steps x.answers_are_lawful e o here
 
   -- a port of which Unplugged is told was lost
-  pub lost_then : (e : Pending) → Contains h.event.steps (Answer e outcome.Unplugged) → IsLost e.request.port old h.event.ports h.device
-  lost_then e here = (t.is_evidenced.each_port_is_evidenced e.request.port).lost_only (lawful e outcome.Unplugged here).0
+  pub lost_then : (e : Pending) → Contains h.event.steps (Answer e outcome.Unplugged) → MayHaveLostDisk e.request.port old h.event.ports h.device
+  lost_then e here = (t.is_evidenced.each_port_is_evidenced e.request.port).named_lost_may_have_lost_disk (lawful e outcome.Unplugged here).0
 
   module _ (shrink : RowsShrink) where
     rests : (e : Pending) (o : Outcome) → Contains h.event.steps (Answer e o) → IsLawfulAnswer old.abstract h.event.evidence h.event.ports e o → AnswerJustified old h t.accesses e o
@@ -111,7 +111,7 @@ module _ (wanted : List Wanted) (old : JointState Device) (h : JointEvent Device
           (λ stops. stops)
           (λ (ends : _ × _). absurd (⊎_elim (λ (d : ⊥). d) (λ s. no_fault h.event.call h.event.result h.event.ports e status error ends.0 s)
           (belongs_of h.event.call h.event.ports h.event.steps x.steps_are_of_call (Answer e (outcome.DeviceError status error)) here)))
-          ((t.is_evidenced.each_port_is_evidenced e.request.port).stopped_only l.3),
+          ((t.is_evidenced.each_port_is_evidenced e.request.port).named_stopped_was_stopped_or_reset l.3),
     )
     rests e outcome.Aborted here l = (l.1, l.2.0)
     rests e outcome.Unplugged here l = lost_then e here
@@ -124,7 +124,7 @@ module _ (wanted : List Wanted) (old : JointState Device) (h : JointEvent Device
       grant_gone shrink old.abstract.machine h.event.steps e x.steps_are_enabled here,
       ⊎_elim
           (λ waits. inl waits)
-          (λ again. inr (⊎_elim (λ stops. inl stops) (λ ends. inr ends.0) ((t.is_evidenced.each_port_is_evidenced e.request.port).stopped_only again.1)))
+          (λ again. inr (⊎_elim (λ stops. inl stops) (λ ends. inr ends.0) ((t.is_evidenced.each_port_is_evidenced e.request.port).named_stopped_was_stopped_or_reset again.1)))
           l,
     )
 

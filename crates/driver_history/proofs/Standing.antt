@@ -54,7 +54,7 @@ taken_bits false queued ci sact on i s a b = false≢true on
 ended_of : (memory : ℕ → ℕ) (p : DevicePort) (port slot : ℕ) (e : Pending) (c : Meaning) (places : List ℕ) → IsInSomeStage memory p port slot e c places → p.st ≡ true
     → p.ci slot ≡ false → p.sact slot ≡ false → e.ended ≡ true
 ended_of memory p port slot e c places (inl waits) st ci sact = absurd (false≢true (sym ci ∙ waits.issued))
-ended_of memory p port slot e c places (inr (inl taken)) st ci sact = absurd (taken_bits p.st (is_queued c.operation) (p.ci slot) (p.sact slot) st taken.ci_is_set_while_plain taken.sact ci sact)
+ended_of memory p port slot e c places (inr (inl taken)) st ci sact = absurd (taken_bits p.st (is_queued c.operation) (p.ci slot) (p.sact slot) st taken.ci_is_set_iff_st_and_plain taken.sact ci sact)
 ended_of memory p port slot e c places (inr (inr (inl ended))) st ci sact = ended.ended
 ended_of memory p port slot e c places (inr (inr (inr dropped))) st ci sact = absurd (false≢true (sym dropped.st_is_clear ∙ st))
 

@@ -22,9 +22,9 @@ use Rattle.block_machine.specs.Histories.{JointState}
 use Rattle.block_machine.specs.Ports.{Evidence, IsStoppedOrStuck, Ports, SamePort}
 use Rattle.error_recovery.specs.Evidence.{GainsSinceStart, ShowsFatal}
 use Rattle.driver_history.specs.Evidence.{TapeGainsEntry, ShowsLinkChange, ShowsFailure}
-use Rattle.driver_history.specs.Histories.{BootsAnew, IsForeignOrUnfit, HasOnlyTaskFileError, HasFirstFisOrNoDevice, LosesNoPortError, RunsWellAnew, IsServedAndNotDead, ProbesDisk}
+use Rattle.driver_history.specs.Histories.{BootsAnewWhereRequired, IsForeignOrUnfit, HasOnlyTaskFileError, HasFirstFisOrNoDevice, LosesNoPortError, RunsWellAnew, IsServedAndNotDead, ProbesDisk}
 use Rattle.driver_history.specs.Laws.{AccessLaws}
-use Rattle.driver_history.specs.PortTurn.{EndsNoLinkDue, HasTurnIn, IsOfOtherPort, EvidenceAgreesOn, call_accesses}
+use Rattle.driver_history.specs.PortTurn.{ChangedUnreadyPortEndsNoLinkDue, HasTurnIn, IsOfOtherPort, EvidenceAgreesOn, call_accesses}
 use Rattle.driver_history.specs.AccessTrace.{ResetsLink}
 use Rattle.driver_history.proofs.Parting.{IsLeft, gains_within, grows_over, loss_then, others_leave, plugged_or_not}
 use Rattle.driver_history.proofs.Since.{calm_since, running_in_part}
@@ -105,8 +105,8 @@ module _ (laws : AccessLaws) (port : Port) where
       reset_in_turn : ResetsLink port (call_accesses t) → ResetsLink port t.turn
       reset_in_turn r = reset_before port t.turn t.later (spares_other t.later t.later_are_of_others) (reset_after port t.before (t.turn ++ t.later) (spares_other t.before t.earlier_are_of_others) r)
 
-      pub boots_are_the_calls : (one other : AbstractCallResult) → (old.abstract.ports.state port ≡ Ready → (old.device.port port.0).link_due ≡ false) → SamePort old.abstract.ports begun.ports port → BootsAnew Service one t.turn began ended t.end port
-          → BootsAnew Service other (call_accesses t) old ports new port
+      pub boots_are_the_calls : (one other : AbstractCallResult) → (old.abstract.ports.state port ≡ Ready → (old.device.port port.0).link_due ≡ false) → SamePort old.abstract.ports begun.ports port → BootsAnewWhereRequired Service one t.turn began ended t.end port
+          → BootsAnewWhereRequired Service other (call_accesses t) old ports new port
       boots_are_the_calls one other undue was its = (
         λ ready port_error. booted (its.0 (was.1 ∙ ready) (⊎_elim
             (λ fatal. inl ((first.trouble_shown fatals).still fatal))
@@ -144,7 +144,7 @@ module _ (laws : AccessLaws) (port : Port) where
       x_then : (old.device.port port.0).serr_x ≡ true → (t.start.port port.0).serr_x ≡ true
       x_then x = (first.trouble_shown links).still x
 
-      pub linked_is_the_calls : SamePort old.abstract.ports begun.ports port → EndsNoLinkDue port began ended t.end → EndsNoLinkDue port old ports new
+      pub linked_is_the_calls : SamePort old.abstract.ports begun.ports port → ChangedUnreadyPortEndsNoLinkDue port began ended t.end → ChangedUnreadyPortEndsNoLinkDue port old ports new
       linked_is_the_calls was linked bad x none =
           let parts = comes none in
           ⊎_elim
@@ -154,27 +154,27 @@ module _ (laws : AccessLaws) (port : Port) where
 
       -- the disk's first FIS has come, or no device shows, at the call's end, where it has at the turn's
       fresh_still : NoDiskComes port.0 t.end new → HasFirstFisOrNoDevice (t.end.port port.0) → HasFirstFisOrNoDevice (new.port port.0)
-      fresh_still none fresh = fresh_or_gone (new.port port.0) (stays_over HasFirstFisIfShown (laws.first_fis_stays port) t.later t.end new t.leads_to_new none (fresh_if_shown (t.end.port port.0) fresh))
+      fresh_still none fresh = fresh_or_gone (new.port port.0) (stays_over HasFirstFisIfShown (laws.first_fis_if_shown_stays_if_no_disk_comes port) t.later t.end new t.leads_to_new none (fresh_if_shown (t.end.port port.0) fresh))
 
-      pub tries_are_the_calls : SamePort old.abstract.ports begun.ports port → (IsForeignOrUnfit old.abstract.ports port → ShowsDiskIfIn (old.device.port port.0)) → EndsNoLinkDue port began ended t.end
+      pub tries_are_the_calls : SamePort old.abstract.ports begun.ports port → (IsForeignOrUnfit old.abstract.ports port → ShowsDiskIfIn (old.device.port port.0)) → ChangedUnreadyPortEndsNoLinkDue port began ended t.end
           → (NoDiskComes port.0 t.start t.end → ProbesDisk t.turn began ended t.end port) → NoDiskComes port.0 old.device new → ProbesDisk (call_accesses t) old ports new port
       tries_are_the_calls was there linked tried none = record {
-        absent_with_device_is_booted = λ absent shows. ⊎_elim
+        absent_with_device_is_booted_dead_or_has_plug_event = λ absent shows. ⊎_elim
             (λ gained. inr (inr (gains_within (IsPlugEvent port.0) old.device old.device t.start new (laws.tape.growth_is_reflexive old.device) since gained)))
             (λ still. ⊎_elim
             (λ dead. inl (stays.1 ∙ dead))
             (λ rest. inr (⊎_elim (λ r. inl (reset_in_call r)) (λ gained. inr (gains_within (IsPlugEvent port.0) old.device t.start t.end new first.grows last.grows gained)) rest))
-            (its.absent_with_device_is_booted (was.1 ∙ absent) (first.shown still shows)))
+            (its.absent_with_device_is_booted_dead_or_has_plug_event (was.1 ∙ absent) (first.shown still shows)))
             (plugged_or_not port.0 old.device t.start first.grows);
-        absent_gets_first_fis = λ absent shows stale. ⊎_elim
+        absent_gets_first_fis_or_dead_or_no_device = λ absent shows stale. ⊎_elim
             (λ (shows_then : (t.start.port port.0).ssts_det ≡ 3). ⊎_elim
             (λ (fresh : (t.start.port port.0).fresh ≡ true). inr (from_start (λ _. fresh)))
-            (λ (stale_then : (t.start.port port.0).fresh ≡ false). ⊎_elim (λ dead. inl (stays.1 ∙ dead)) (λ fresh. inr (fresh_still parts.2 fresh)) (its.absent_gets_first_fis (was.1 ∙ absent) shows_then stale_then))
+            (λ (stale_then : (t.start.port port.0).fresh ≡ false). ⊎_elim (λ dead. inl (stays.1 ∙ dead)) (λ fresh. inr (fresh_still parts.2 fresh)) (its.absent_gets_first_fis_or_dead_or_no_device (was.1 ∙ absent) shows_then stale_then))
             (cases_Bool (t.start.port port.0).fresh))
             (λ (gone : (t.start.port port.0).ssts_det ≢ 3). inr (from_start (λ shows_then. absurd (gone shows_then))))
             (cases_eq (t.start.port port.0).ssts_det 3);
-        missing_disk_makes_absent = λ bad out. ⊎_elim (λ absent. inl (stays.1 ∙ absent)) (λ dead. inr (stays.1 ∙ dead)) (its.missing_disk_makes_absent (bad_then was bad) (vacant_then bad out).det_is_not_3);
-        changed_disk_is_booted = λ bad x. ⊎_elim
+        missing_disk_makes_absent_or_dead = λ bad out. ⊎_elim (λ absent. inl (stays.1 ∙ absent)) (λ dead. inr (stays.1 ∙ dead)) (its.missing_disk_makes_absent_or_dead (bad_then was bad) (vacant_then bad out).det_is_not_3);
+        changed_disk_is_booted_or_absent_or_dead = λ bad x. ⊎_elim
             (λ absent. inl (stays.1 ∙ absent))
             (λ rest. ⊎_elim
             (λ dead. inr (inl (stays.1 ∙ dead)))
@@ -186,7 +186,7 @@ module _ (laws : AccessLaws) (port : Port) where
             more))
             (linked (bad_then was bad) (x_then x) parts.1))
             rest)
-            (its.changed_disk_is_booted (bad_then was bad) (x_then x));
+            (its.changed_disk_is_booted_or_absent_or_dead (bad_then was bad) (x_then x));
       }
         where
           parts : NoDiskComes port.0 old.device t.start × NoDiskComes port.0 t.start t.end × NoDiskComes port.0 t.end new
@@ -198,11 +198,11 @@ module _ (laws : AccessLaws) (port : Port) where
           -- what is so of the disk's first FIS when the turn begins is so at the call's end
           from_start : HasFirstFisIfShown (t.start.port port.0) → HasFirstFisOrNoDevice (new.port port.0)
           from_start fresh = fresh_or_gone (new.port port.0)
-              (stays_over HasFirstFisIfShown (laws.first_fis_stays port) t.later t.end new t.leads_to_new parts.2 (stays_over HasFirstFisIfShown (laws.first_fis_stays port) t.turn t.start t.end t.turn_leads_to_end parts.1 fresh))
+              (stays_over HasFirstFisIfShown (laws.first_fis_if_shown_stays_if_no_disk_comes port) t.later t.end new t.leads_to_new parts.2 (stays_over HasFirstFisIfShown (laws.first_fis_if_shown_stays_if_no_disk_comes port) t.turn t.start t.end t.turn_leads_to_end parts.1 fresh))
 
           -- where no disk was in, none is when the turn begins
           vacant_then : IsForeignOrUnfit old.abstract.ports port → (old.device.port port.0).ssts_det ≢ 3 → IsVacant (t.start.port port.0)
-          vacant_then bad out = stays_over IsVacant (laws.vacant_port_stays_vacant port) t.before old.device t.start t.leads_to_start parts.0
+          vacant_then bad out = stays_over IsVacant (laws.vacant_port_stays_vacant_if_no_disk_comes port) t.before old.device t.start t.leads_to_start parts.0
               (⊎_elim (λ (shows : (old.device.port port.0).ssts_det ≡ 3). absurd (out shows)) (λ gone. record { no_disk_is_in = gone; det_is_not_3 = out }) (there bad))
 
       module _ (turn call : Evidence) (alike : EvidenceAgreesOn port turn call) where
@@ -276,22 +276,22 @@ module _ (laws : AccessLaws) (port : Port) where
 
           pub trouble_is_the_calls : LosesNoPortError call old ports new port
           trouble_is_the_calls = record {
-            errors_are_handled_or_shown = λ ready port_error. ⊎_elim
-                (λ shown. still faults (its.errors_are_handled_or_shown (was.1 ∙ ready) (inl (failure_still port.0 old.device t.start first.trouble_shown shown))))
+            ready_errors_are_handled_or_shown = λ ready port_error. ⊎_elim
+                (λ shown. still faults (its.ready_errors_are_handled_or_shown (was.1 ∙ ready) (inl (failure_still port.0 old.device t.start first.trouble_shown shown))))
                 (λ g. ⊎_elim
-                (came faults (λ it. its.errors_are_handled_or_shown (was.1 ∙ ready) (⊎_elim (λ tells. inl tells) (λ g. inr (inl g)) it)))
-                (came fatals (λ it. its.errors_are_handled_or_shown (was.1 ∙ ready) (⊎_elim (λ tells. inl tells) (λ g. inr (inr g)) it)))
+                (came faults (λ it. its.ready_errors_are_handled_or_shown (was.1 ∙ ready) (⊎_elim (λ tells. inl tells) (λ g. inr (inl g)) it)))
+                (came fatals (λ it. its.ready_errors_are_handled_or_shown (was.1 ∙ ready) (⊎_elim (λ tells. inl tells) (λ g. inr (inr g)) it)))
                 g)
                 port_error;
-            changes_are_handled_or_shown = λ tends port_error.
+            changes_are_handled_or_shown_unless_dead = λ tends port_error.
                 let tends_then : IsServedAndNotDead begun.ports port = (was.0 ∙ tends.0, λ dead. tends.1 (sym was.1 ∙ dead)) in
                 ⊎_elim
-                (λ shown. still disks (its.changes_are_handled_or_shown tends_then (inl (change_still port.0 old.device t.start first.trouble_shown shown))))
-                (came disks (its.changes_are_handled_or_shown tends_then))
+                (λ shown. still disks (its.changes_are_handled_or_shown_unless_dead tends_then (inl (change_still port.0 old.device t.start first.trouble_shown shown))))
+                (came disks (its.changes_are_handled_or_shown_unless_dead tends_then))
                 port_error;
-            new_fault_is_shown = came_since faults its.new_fault_is_shown;
-            new_fatal_is_shown = came_since fatals its.new_fatal_is_shown;
-            new_plug_event_is_shown = came_since disks its.new_plug_event_is_shown;
+            ready_shows_fault_since_start = came_since faults its.ready_shows_fault_since_start;
+            ready_shows_fatal_since_start = came_since fatals its.ready_shows_fatal_since_start;
+            ready_shows_plug_event_since_start = came_since disks its.ready_shows_plug_event_since_start;
           }
 
         pub well_is_the_calls : (ended.state port ≡ Ready → ((old.device.port port.0).link_due ≡ false) ⊎ ResetsLink port t.turn) → (ended.state port ≡ Ready → (t.end.port port.0).notes.st_set_at ≤ length t.end.tape) → RunsWellAnew turn t.turn began ended t.end port

@@ -16,8 +16,8 @@ abbrev pub DoesNotWriteCmd : Port → Access → Type 0
 DoesNotWriteCmd port access = DoesNotWrite (Px port Cmd) access
 
 -- nor PxSCTL: so it doesn't reset its link either
-abbrev pub LeavesEngine : Port → Access → Type 0
-LeavesEngine port access = DoesNotWriteCmd port access × DoesNotWrite (Px port Sctl) access
+abbrev pub WritesNeitherCmdNorSctl : Port → Access → Type 0
+WritesNeitherCmdNorSctl port access = DoesNotWriteCmd port access × DoesNotWrite (Px port Sctl) access
 
 -- the access clears no bit that tells of the port's trouble
 abbrev pub ClearsNoError : Port → Access → Type 0

@@ -18,9 +18,9 @@ use Rattle.block_machine.specs.Steps.{Answer, AllTouched, HasGrant}
 use Rattle.port_control.specs.Engines.{Stops}
 use Rattle.error_recovery.specs.Evidence.{ShowsFatal}
 use Rattle.driver_history.specs.EvidenceHandling.{ToldOkOr, tells_fault}
-use Rattle.driver_history.specs.Evidence.{IsEndedReset, IsFaultTold, IsLost, StaysHealthy}
-use Rattle.driver_history.specs.Histories.{ExplainsAccesses, FindsDoneInCall, IssuesAllDue, TellsPlainFaults}
-use Rattle.driver_history.specs.AccessTrace.{LeavesEngine}
+use Rattle.driver_history.specs.Evidence.{IsEndedReset, IsFaultTold, MayHaveLostDisk, StaysHealthy}
+use Rattle.driver_history.specs.Histories.{ExplainsAccesses, FindsDoneInCall, IssuesAllDue, TellsLonePlainFaultsUnlessDead}
+use Rattle.driver_history.specs.AccessTrace.{WritesNeitherCmdNorSctl}
 
 -- what a call may tell where nothing goes wrong: Ok; or Revoked, where it revokes a grant
 abbrev pub IsFaultFreeOutcome : AbstractCall DeviceStep → Outcome → Type 0
@@ -35,7 +35,7 @@ pub record IsSpared (old : JointState Device) (h : JointEvent Device DeviceStep)
   pub outcomes_are_fault_free : (e : Pending) (o : Outcome) → Contains h.event.steps (Answer e o) → e.request.port
       ≡ port
       → IsFaultFreeOutcome h.event.call o
-  pub engine_is_left : All (LeavesEngine port) accesses
+  pub engine_is_left : All (WritesNeitherCmdNorSctl port) accesses
 
 -- What an answer of a call that made these accesses rests on, in the device's terms. Ok: the request was issued when
 -- the call began, the device has moved all its sectors since its last issue, and ended it. DeviceError: the device told
@@ -49,9 +49,9 @@ AnswerJustified old h accesses e (outcome.DeviceError status error) =
     IsFaultTold old h.device accesses (record { id = e.request.id; status = status; error = error })
     × Stops e.request.port accesses
 AnswerJustified old h accesses e outcome.Aborted = (e.issue_count ≡ 4) × (h.event.ports.state e.request.port ≡ Ready)
-AnswerJustified old h accesses e outcome.Unplugged = IsLost e.request.port old h.event.ports h.device
+AnswerJustified old h accesses e outcome.Unplugged = MayHaveLostDisk e.request.port old h.event.ports h.device
 AnswerJustified old h accesses e outcome.PortDead = (h.event.ports.state e.request.port ≡ Dead)
-    × (((h.device.port e.request.port.0).notes.engine_count ≡ MOST_READINGS) ⊎ (IsOn h.device → ⊥))
+    × (((h.device.port e.request.port.0).notes.engine_wait_count ≡ MOST_READINGS) ⊎ (IsOn h.device → ⊥))
 AnswerJustified old h accesses e outcome.Revoked = (HasGrant (abstract_after old.abstract h.event).machine e → ⊥)
     × ((e.issued ≡ false) ⊎ (Stops e.request.port accesses ⊎ IsEndedReset h.event.call h.event.result))
 
@@ -89,7 +89,8 @@ pub record HandlesShownFailure (port : Port) (old : JointState Device) (h : Join
   pub none_stays_issued : NoneStaysIssued h.event.steps (abstract_after old.abstract h.event).machine port
   pub one_fault_at_most : count_by (tells_fault port) h.event.steps ≤ 1
   pub fatal_tells_no_fault : ShowsFatal (old.device.port port.0) → count_by (tells_fault port) h.event.steps ≡ 0
-  pub tells_plain_faults : TellsPlainFaults Service old h.event.ports h.device h.event.steps port
+  pub tells_lone_plain_faults_unless_dead : TellsLonePlainFaultsUnlessDead Service old h.event.ports h.device
+      h.event.steps port
 
 -- ---- lost disks
 

@@ -46,7 +46,7 @@ pub record IsConfinedClear (start : Machine) (earlier steps : List Step) (clear 
 
 -- The moves and clears that the tape has gained in a call of these steps, after these earlier ones, keep to their
 -- places.
-pub record ConfinesCallMoves (start : Machine) (earlier steps : List Step) (old new : Device) : Type 0 where
+pub record ConfinesCallMovesAndClears (start : Machine) (earlier steps : List Step) (old new : Device) : Type 0 where
   pub new_entries : List Entry
   pub tape_is : new.tape ≡ old.tape ++ new_entries
   pub moves_keep_to_frames : (move : tape_move.Move) → Contains new_entries (entry.Move move)

@@ -20,8 +20,8 @@ use Rattle.block_machine.specs.Ports.{Ports, SameSerialAndSize, RequestFault, Ev
 use Rattle.block_machine.specs.State.{Pending}
 use Rattle.port_control.specs.Engines.{Stops, EngineSticks}
 use Rattle.identify.specs.ErrorLog.{NamesQueuedCommand}
-use Rattle.error_recovery.specs.Evidence.{BringsLog, HasFailed, ShowsFatal}
-use Rattle.driver_history.specs.AccessTrace.{LeavesEngine}
+use Rattle.error_recovery.specs.Evidence.{BringsLastLogPage, HasFailed, ShowsFatal}
+use Rattle.driver_history.specs.AccessTrace.{WritesNeitherCmdNorSctl}
 
 -- the tape gained an entry of this kind
 pub record TapeGainsEntry (Is : Entry → Type 0) (old new : Device) : Type 0 where
@@ -66,7 +66,7 @@ pub record BacksQueuedFault (old : JointState Device) (new : Device) (accesses :
   pub fault : tape_fault.Fault
   pub failed : HasFailed e.request.port accesses old.device new fault
   pub page : List ℕ
-  pub brings_log : BringsLog e.request.port old.device new page
+  pub brings_log : BringsLastLogPage e.request.port old.device new page
   pub page_tells_error : NamesQueuedCommand page slot told.status told.error
 
 -- The fault is of a request that was issued when the call began, in the slot that served it then.
@@ -88,8 +88,8 @@ pub record IsFaultTold (old : JointState Device) (new : Device) (accesses : List
 
 -- The port had told of a change, or showed no device, when the call began; a disk of it went or came in the call; or it
 -- ends the call neither dead nor ready with serial and size as when it was last ready.
-abbrev pub IsLost : Port → JointState Device → Ports → Device → Type 0
-IsLost port old ports new =
+abbrev pub MayHaveLostDisk : Port → JointState Device → Ports → Device → Type 0
+MayHaveLostDisk port old ports new =
     ShowsLinkChange (old.device.port port.0)
     ⊎ (((old.device.port port.0).ssts_det ≢ 3)
     ⊎ (TapeGainsEntry (IsPlugEvent port.0) old.device new
@@ -101,8 +101,8 @@ ShowsLoss port old new = ShowsLinkChange (old.port port.0)
     ⊎ (((old.port port.0).ssts_det ≢ 3) × NoDiskComes port.0 old new)
 
 -- It was ready, and showed that when the call began, or a disk went or came in it.
-abbrev pub ReadyPortHasLinkChange : Port → JointState Device → Device → Type 0
-ReadyPortHasLinkChange port old new = (old.abstract.ports.state port ≡ Ready)
+abbrev pub ReadyPortHasLinkChangeOrNoDevice : Port → JointState Device → Device → Type 0
+ReadyPortHasLinkChangeOrNoDevice port old new = (old.abstract.ports.state port ≡ Ready)
     × (ShowsLinkChange (old.device.port port.0)
     ⊎ (((old.device.port port.0).ssts_det ≢ 3)
     ⊎ TapeGainsEntry (IsPlugEvent port.0) old.device new))
@@ -140,21 +140,22 @@ pub record IsEvidencedOf (ask : AbstractCall DeviceStep) (said : AbstractCallRes
     (old : JointState Device)
     (ports : Ports) (new : Device)
     (evidence : Evidence) (port : Port) : Type 0 where
-  pub lost_only : Contains evidence.lost port → IsLost port old ports new
-  pub link_changed_all : old.abstract.ports.state port ≡ Ready → ShowsLoss port old.device new
+  pub named_lost_may_have_lost_disk : Contains evidence.lost port → MayHaveLostDisk port old ports new
+  pub shown_loss_of_ready_is_named : old.abstract.ports.state port ≡ Ready → ShowsLoss port old.device new
       → Contains evidence.link_changed port
-  pub link_changed_only : Contains evidence.link_changed port → ReadyPortHasLinkChange port old new
-  pub showing_error_all : old.abstract.ports.state port ≡ Ready → ShowsFailure (old.device.port port.0)
+  pub named_link_changed_had_change_or_no_device : Contains evidence.link_changed port
+      → ReadyPortHasLinkChangeOrNoDevice port old new
+  pub shown_failure_of_ready_is_named : old.abstract.ports.state port ≡ Ready → ShowsFailure (old.device.port port.0)
       → Contains evidence.showing_error port
-  pub showing_error_only : Contains evidence.showing_error port → ReadyPortHasErrors port old new
-  pub showing_fatal_error_all : old.abstract.ports.state port ≡ Ready → ShowsFatal (old.device.port port.0)
+  pub named_showing_error_had_error : Contains evidence.showing_error port → ReadyPortHasErrors port old new
+  pub shown_fatal_of_ready_is_named : old.abstract.ports.state port ≡ Ready → ShowsFatal (old.device.port port.0)
       → Contains evidence.showing_fatal_error port
-  pub showing_fatal_error_only : Contains evidence.showing_fatal_error port → ReadyPortHasFatalErrors port old new
-  pub engine_is_left_or_stopped : All (LeavesEngine port) accesses ⊎ IsStoppedOrStuck evidence port
-  pub stopped_only : Contains evidence.stopped port → Stops port accesses
+  pub named_showing_fatal_had_fatal : Contains evidence.showing_fatal_error port → ReadyPortHasFatalErrors port old new
+  pub engine_is_left_or_stopped : All (WritesNeitherCmdNorSctl port) accesses ⊎ IsStoppedOrStuck evidence port
+  pub named_stopped_was_stopped_or_reset : Contains evidence.stopped port → Stops port accesses
       ⊎ (IsEndedReset ask said × (old.abstract.ports.served port ≡ true))
   pub stuck_only : Contains evidence.stuck port
-      → (EngineSticks port accesses × ((new.port port.0).notes.engine_count ≡ MOST_READINGS))
+      → (EngineSticks port accesses × ((new.port port.0).notes.engine_wait_count ≡ MOST_READINGS))
       ⊎ (IsStuckReset ask said × (old.abstract.ports.served port ≡ true))
 
 -- Each fault that is named was told by the device, and so it is with each port.

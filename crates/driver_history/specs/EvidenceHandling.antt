@@ -11,24 +11,28 @@ use Rattle.block_machine.specs.State.{Pending}
 use Rattle.block_machine.specs.Steps.{Step, WaitAgain, Answer}
 
 -- requests wait again, are aborted, are told Revoked, or have a fault told of them, on ports that failed
-abbrev pub OnlyFailedPortsRequeueOrFault : Evidence → List Step → Type 0
-OnlyFailedPortsRequeueOrFault evidence [] = Unit {0}
-OnlyFailedPortsRequeueOrFault evidence (WaitAgain e ∷ before) = OnlyFailedPortsRequeueOrFault evidence before
+abbrev pub OnlyFailedPortsRequeueAbortRevokeOrFault : Evidence → List Step → Type 0
+OnlyFailedPortsRequeueAbortRevokeOrFault evidence [] = Unit {0}
+OnlyFailedPortsRequeueAbortRevokeOrFault evidence
+    (WaitAgain e ∷ before) = OnlyFailedPortsRequeueAbortRevokeOrFault evidence before
     × Contains evidence.showing_error e.request.port
-OnlyFailedPortsRequeueOrFault evidence (Answer e outcome.Aborted ∷ before) = OnlyFailedPortsRequeueOrFault evidence
+OnlyFailedPortsRequeueAbortRevokeOrFault evidence
+    (Answer e outcome.Aborted ∷ before) = OnlyFailedPortsRequeueAbortRevokeOrFault evidence
     before
     × Contains evidence.showing_error e.request.port
-OnlyFailedPortsRequeueOrFault evidence (Answer e outcome.Revoked ∷ before) = OnlyFailedPortsRequeueOrFault evidence
+OnlyFailedPortsRequeueAbortRevokeOrFault evidence
+    (Answer e outcome.Revoked ∷ before) = OnlyFailedPortsRequeueAbortRevokeOrFault evidence
     before
     × Contains evidence.showing_error e.request.port
-OnlyFailedPortsRequeueOrFault evidence (Answer e (outcome.DeviceError status error) ∷ before) =
-    OnlyFailedPortsRequeueOrFault evidence before × Contains evidence.showing_error e.request.port
-OnlyFailedPortsRequeueOrFault evidence (step ∷ before) = OnlyFailedPortsRequeueOrFault evidence before
+OnlyFailedPortsRequeueAbortRevokeOrFault evidence (Answer e (outcome.DeviceError status error) ∷ before) =
+    OnlyFailedPortsRequeueAbortRevokeOrFault evidence before × Contains evidence.showing_error e.request.port
+OnlyFailedPortsRequeueAbortRevokeOrFault evidence
+    (step ∷ before) = OnlyFailedPortsRequeueAbortRevokeOrFault evidence before
 
 -- so they are in a service
-abbrev pub OnlyFailedPortsRequeueIn : {D : Type 0} → AbstractCall D → Evidence → List Step → Type 0
-OnlyFailedPortsRequeueIn Service evidence steps = OnlyFailedPortsRequeueOrFault evidence steps
-OnlyFailedPortsRequeueIn ask evidence steps = Unit {0}
+abbrev pub OnlyFailedPortsRequeueIfService : {D : Type 0} → AbstractCall D → Evidence → List Step → Type 0
+OnlyFailedPortsRequeueIfService Service evidence steps = OnlyFailedPortsRequeueAbortRevokeOrFault evidence steps
+OnlyFailedPortsRequeueIfService ask evidence steps = Unit {0}
 
 -- each answer to a request of the port is Ok, or this one
 abbrev pub ToldOkOr : Outcome → List Step → Port → Type 0
@@ -67,7 +71,7 @@ pub record ServicesReadyPort (old : AbstractState) (evidence : Evidence) (steps 
       ⊎ ToldOkOr outcome.PortDead steps port
   pub trouble_interrupts : Contains evidence.showing_error port ⊎ Contains evidence.link_changed port
       → IsStoppedOrStuck evidence port
-  pub trouble_leaves_none_issued : Contains evidence.showing_error port ⊎ Contains evidence.stopped port
+  pub error_or_stop_leaves_no_old_issue : Contains evidence.showing_error port ⊎ Contains evidence.stopped port
       → NoneStaysIssued steps new.machine port
   pub one_fault_at_most : count_by (tells_fault port) steps ≤ 1
   pub fatal_tells_no_fault : Contains evidence.showing_fatal_error port → Contains evidence.showing_error port

@@ -35,7 +35,7 @@ use Rattle.identify.specs.declared.wanted.Wanted.{Wanted}
 use Rattle.host_boot.specs.Resets.{AwaitsResetInVain, BeginsReset}
 use Rattle.error_recovery.specs.Evidence.{GainsSinceStart, ShowsFatal}
 use Rattle.driver_history.specs.Evidence.{TapeGainsEntry, ShowsLinkChange, ShowsFailure, ShowsLoss, IsEvidenced}
-use Rattle.driver_history.specs.EvidenceHandling.{HandlesEvidenceAt, OnlyFailedPortsRequeueIn}
+use Rattle.driver_history.specs.EvidenceHandling.{HandlesEvidenceAt, OnlyFailedPortsRequeueIfService}
 use Rattle.driver_history.specs.PortInvariants.{DriverInvariant}
 use Rattle.driver_history.specs.AccessTrace.{ReadsMasksBeforeCmdWrite, ResetsLink, UsesPortsAndNotGhc, StaysInDriverFrames, UsesPortRegistersOf}
 
@@ -170,12 +170,13 @@ IsAnsweredFaulty e steps = (done : Pending) × (status : ℕ) × (error : ℕ)
     × (done.request ≡ e.request) × Contains steps (Answer done (outcome.DeviceError status error))
 
 -- Then a plain request that is outstanding is answered with its fault, unless the port ends dead: it isn't tried again.
-abbrev pub TellsPlainFaults : AbstractCall DeviceStep → JointState Device → Ports → Device → List Step → Port → Type 0
-TellsPlainFaults Service old ports new steps port = HasOnlyTaskFileError port old new
+abbrev pub TellsLonePlainFaultsUnlessDead : AbstractCall DeviceStep → JointState Device → Ports → Device → List Step
+    → Port → Type 0
+TellsLonePlainFaultsUnlessDead Service old ports new steps port = HasOnlyTaskFileError port old new
     → (e : Pending) (slot : ℕ) → IsIssuedOn port old.abstract.machine e → e.ended ≡ false
     → (s : ServesRequest old.abstract.machine old.device.memory (old.device.port port.0) port.0 slot e.request.id)
     → is_queued s.command.operation ≡ false → IsAnsweredFaulty e steps ⊎ (ports.state port ≡ Dead)
-TellsPlainFaults ask old ports new steps port = Unit {0}
+TellsLonePlainFaultsUnlessDead ask old ports new steps port = Unit {0}
 
 -- ---- disks that are there are probed
 
@@ -193,14 +194,16 @@ IsForeignOrUnfit ports port = (ports.state port ≡ Foreign) ⊎ ((cause : ℕ) 
 -- the call ends, or no device shows.
 pub record ProbesDisk (accesses : List Access) (old : JointState Device) (ports : Ports) (new : Device)
     (port : Port) : Type 0 where
-  pub absent_with_device_is_booted : old.abstract.ports.state port ≡ Absent → (old.device.port port.0).ssts_det ≡ 3
+  pub absent_with_device_is_booted_dead_or_has_plug_event : old.abstract.ports.state port ≡ Absent
+      → (old.device.port port.0).ssts_det ≡ 3
       → (ports.state port ≡ Dead) ⊎ (ResetsLink port accesses ⊎ TapeGainsEntry (IsPlugEvent port.0) old.device new)
-  pub absent_gets_first_fis : old.abstract.ports.state port ≡ Absent → (old.device.port port.0).ssts_det ≡ 3
+  pub absent_gets_first_fis_or_dead_or_no_device : old.abstract.ports.state port ≡ Absent
+      → (old.device.port port.0).ssts_det ≡ 3
       → (old.device.port port.0).fresh ≡ false → (ports.state port ≡ Dead) ⊎ HasFirstFisOrNoDevice (new.port port.0)
-  pub missing_disk_makes_absent : IsForeignOrUnfit old.abstract.ports port → (old.device.port port.0).ssts_det ≢ 3
-      → (ports.state port ≡ Absent) ⊎ (ports.state port ≡ Dead)
-  pub changed_disk_is_booted : IsForeignOrUnfit old.abstract.ports port → (old.device.port port.0).serr_x ≡ true
-      → (ports.state port ≡ Absent) ⊎ ((ports.state port ≡ Dead)
+  pub missing_disk_makes_absent_or_dead : IsForeignOrUnfit old.abstract.ports port
+      → (old.device.port port.0).ssts_det ≢ 3 → (ports.state port ≡ Absent) ⊎ (ports.state port ≡ Dead)
+  pub changed_disk_is_booted_or_absent_or_dead : IsForeignOrUnfit old.abstract.ports port
+      → (old.device.port port.0).serr_x ≡ true → (ports.state port ≡ Absent) ⊎ ((ports.state port ≡ Dead)
       ⊎ (ResetsLink port accesses × ((new.port port.0).serr_x ≡ false) × HasFirstFisOrNoDevice (new.port port.0)))
 
 abbrev pub ProbesInCall : AbstractCall DeviceStep → List Access → JointState Device → Ports → Device → Port → Type 0
@@ -213,19 +216,18 @@ ProbesInCall ask accesses old ports new port = Unit {0}
 -- A reset that ends boots each served port, unless that gets stuck; so does a tick with each that is hung; and a
 -- service with each ready one that showed a fatal error when the call began or has lost its disk, and with each that it
 -- shows anew, but as absent or dead.
-abbrev pub BootsAnew : AbstractCall DeviceStep → AbstractCallResult → List Access → JointState Device → Ports → Device
-    → Port
-    → Type 0
-BootsAnew Reset (WasReset (Some replies)) accesses old ports new port =
+abbrev pub BootsAnewWhereRequired : AbstractCall DeviceStep → AbstractCallResult → List Access → JointState Device
+    → Ports → Device → Port → Type 0
+BootsAnewWhereRequired Reset (WasReset (Some replies)) accesses old ports new port =
     old.abstract.ports.served port ≡ true → (ports.state port ≡ Dead) ⊎ ResetsLink port accesses
-BootsAnew Tick said accesses old ports new port =
+BootsAnewWhereRequired Tick said accesses old ports new port =
     TimesOutAtTick old.abstract port → (ports.state port ≡ Dead) ⊎ ResetsLink port accesses
-BootsAnew Service said accesses old ports new port =
+BootsAnewWhereRequired Service said accesses old ports new port =
     (old.abstract.ports.state port ≡ Ready → ShowsFatal (old.device.port port.0) ⊎ ShowsLoss port old.device new
     → (ports.state port ≡ Dead) ⊎ ((ports.state port ≡ Absent) ⊎ ResetsLink port accesses))
     × (SamePort old.abstract.ports ports port
     ⊎ ((ports.state port ≡ Dead) ⊎ ((ports.state port ≡ Absent) ⊎ ResetsLink port accesses)))
-BootsAnew ask said accesses old ports new port = Unit {0}
+BootsAnewWhereRequired ask said accesses old ports new port = Unit {0}
 
 -- ---- trouble is heeded, or shown still
 
@@ -235,20 +237,20 @@ BootsAnew ask said accesses old ports new port = Unit {0}
 -- came.
 pub record LosesNoPortError (evidence : Evidence) (old : JointState Device) (ports : Ports) (new : Device)
     (port : Port) : Type 0 where
-  pub errors_are_handled_or_shown : old.abstract.ports.state port ≡ Ready
+  pub ready_errors_are_handled_or_shown : old.abstract.ports.state port ≡ Ready
       → ShowsFailure (old.device.port port.0)
       ⊎ (TapeGainsEntry (IsFaultOf port.0) old.device new ⊎ TapeGainsEntry (IsFatalErrorOf port.0) old.device new)
       → IsStoppedOrStuck evidence port ⊎ ShowsFailure (new.port port.0)
-  pub changes_are_handled_or_shown : IsServedAndNotDead old.abstract.ports port
+  pub changes_are_handled_or_shown_unless_dead : IsServedAndNotDead old.abstract.ports port
       → ShowsLinkChange (old.device.port port.0)
       ⊎ TapeGainsEntry (IsPlugEvent port.0) old.device new
       → IsStoppedOrStuck evidence port ⊎ ShowsLinkChange (new.port port.0)
-  pub new_fault_is_shown : ports.state port ≡ Ready → GainsSinceStart (IsFaultOf port.0) port.0 old.device new
-      → (new.port port.0).is 30 ≡ true
-  pub new_fatal_is_shown : ports.state port ≡ Ready → GainsSinceStart (IsFatalErrorOf port.0) port.0 old.device new
-      → ShowsFatal (new.port port.0)
-  pub new_plug_event_is_shown : ports.state port ≡ Ready → GainsSinceStart (IsPlugEvent port.0) port.0 old.device new
-      → (new.port port.0).serr_n ≡ true
+  pub ready_shows_fault_since_start : ports.state port ≡ Ready
+      → GainsSinceStart (IsFaultOf port.0) port.0 old.device new → (new.port port.0).is 30 ≡ true
+  pub ready_shows_fatal_since_start : ports.state port ≡ Ready
+      → GainsSinceStart (IsFatalErrorOf port.0) port.0 old.device new → ShowsFatal (new.port port.0)
+  pub ready_shows_plug_event_since_start : ports.state port ≡ Ready
+      → GainsSinceStart (IsPlugEvent port.0) port.0 old.device new → (new.port port.0).serr_n ≡ true
 
 -- Where a port was stopped and is ready after the call, its boot or its recovery has taken the trouble away, what came
 -- meanwhile too: it runs well, if no disk went or came in the call, and no fault and no fatal error came since ST was
@@ -267,9 +269,10 @@ RunsWellAnew evidence accesses old ports new port =
 pub record PortCorresponds (old : JointState Device) (h : JointEvent Device DeviceStep) (accesses : List Access)
     (port : Port) : Type 0 where
   pub finds_done : FindsDoneInCall h.event.call accesses old h.event.steps port
-  pub plain_faults_are_told : TellsPlainFaults h.event.call old h.event.ports h.device h.event.steps port
+  pub lone_plain_faults_are_told_unless_dead : TellsLonePlainFaultsUnlessDead h.event.call old h.event.ports h.device
+      h.event.steps port
   pub probes_disk : ProbesInCall h.event.call accesses old h.event.ports h.device port
-  pub boots_anew : BootsAnew h.event.call h.event.result accesses old h.event.ports h.device port
+  pub boots_anew : BootsAnewWhereRequired h.event.call h.event.result accesses old h.event.ports h.device port
   pub loses_no_error : LosesNoPortError h.event.evidence old h.event.ports h.device port
   pub runs_well_anew : RunsWellAnew h.event.evidence accesses old h.event.ports h.device port
   pub handles_evidence : HandlesEvidenceAt port h.event.call old.abstract h.event.evidence h.event.steps
@@ -284,7 +287,7 @@ pub record CallCorresponds (wanted : List Wanted) (old : JointState Device)
   pub accesses_are_explained : ExplainsAccesses old.abstract h.event.call h.event.result accesses old.device h.device
   pub is_backed : TapeBacksSteps old.device h.device old.abstract.machine h.event.steps
   pub is_evidenced : IsEvidenced h.event.call h.event.result accesses old h.event.ports h.device h.event.evidence
-  pub only_failed_requeue : OnlyFailedPortsRequeueIn h.event.call h.event.evidence h.event.steps
+  pub only_failed_requeue_if_service : OnlyFailedPortsRequeueIfService h.event.call h.event.evidence h.event.steps
   pub issues_all_due : (port : Port)
       → IssuesAllDue h.event.call h.event.steps (abstract_after old.abstract h.event).machine h.event.ports
       port

@@ -11,13 +11,13 @@ use Rattle.adapter.specs.KeptBySteps.{KeepsOverSteps}
 use Rattle.adapter.specs.Rules.{IsOn}
 use Rattle.adapter.specs.Steps.{Steps}
 use Rattle.refinement.specs.Laws.{TapeLaws}
-use Rattle.refinement.specs.Fragments.{IsDrivenBy, SparesOtherPorts, LeavesPort}
-use Rattle.refinement.specs.Errors.{ErrorBitsRiseByErrors, KeepsErrors, NoDiskComes, NoFaults, NoFatalErrors}
+use Rattle.refinement.specs.Fragments.{IsDrivenBy, SparesOtherPorts, OnlyDeviceChangesPort}
+use Rattle.refinement.specs.Errors.{ErrorBitsRiseByErrors, KeepsSetBitsOfPxisAndSerrNX, NoDiskComes, NoFaults, NoFatalErrors}
 use Rattle.refinement.specs.PortFacts.{RunsWell, Undisturbed}
-use Rattle.refinement.specs.PreservedParts.{LeavesControls, LinkIsSameOrComesUp, NoPlugEvents, DoesNotWrite}
+use Rattle.refinement.specs.PreservedParts.{ControlsChangeOnlyByTheirWrites, LinkIsSameOrComesUp, NoPlugEvents, DoesNotWrite}
 use Rattle.refinement.specs.Vacant.{HasFirstFisIfShown, IsVacant}
 use Rattle.error_recovery.specs.Evidence.{ShowsFatal}
-use Rattle.port_boot.specs.States.{StaysRunning}
+use Rattle.port_boot.specs.States.{StaysRunningIfUndisturbed}
 use Rattle.port_control.specs.Engines.{EngineFalls, EngineSticks}
 use Rattle.adapter.specs.RegisterEffects.{PortRegisterWritten}
 use Rattle.adapter.specs.declared.access.DeviceStep.{DeviceStep}
@@ -30,10 +30,10 @@ use Rattle.block_machine.specs.Steps.{HoldsFrames, Step, Touch}
 pub record AccessLaws : Type 0 where
   pub other_ports_are_left : (port : Port) (q : ℕ) (old new : Device) → q ≢ port.0 → IsOn old
       → IsDrivenBy (SparesOtherPorts port) old new
-      → LeavesPort (old.port q) (new.port q)
-  pub leaves_port_is_reflexive : (p : DevicePort) → LeavesPort p p
-  pub leaves_port_is_transitive : (old mid new : DevicePort) → LeavesPort old mid → LeavesPort mid new
-      → LeavesPort old new
+      → OnlyDeviceChangesPort (old.port q) (new.port q)
+  pub leaves_port_is_reflexive : (p : DevicePort) → OnlyDeviceChangesPort p p
+  pub leaves_port_is_transitive : (old mid new : DevicePort) → OnlyDeviceChangesPort old mid
+      → OnlyDeviceChangesPort mid new → OnlyDeviceChangesPort old new
   pub one_port_spares_registers : (port q : Port) (r : PortReg) → q.0 ≢ port.0 → (access : Access)
       → SparesOtherPorts port access
       → DoesNotWrite (Px q r) access
@@ -42,7 +42,7 @@ pub record AccessLaws : Type 0 where
   pub tape : TapeLaws
   pub access_changes_by_errors : (port : Port) (access : Access) (old new : Device) → Does access old new
       → ErrorBitsRiseByErrors port.0 old new
-  pub link_stays_without_plug_events : (port : Port) (access : Access) (old new : Device) → old.hr ≡ false
+  pub link_is_same_or_comes_up_without_plugs : (port : Port) (access : Access) (old new : Device) → old.hr ≡ false
       → DoesNotWrite (Px port Sctl) access
       → Does access old new → NoPlugEvents port.0 old new → LinkIsSameOrComesUp (old.port port.0) (new.port port.0)
   pub fall_holds_with_later : (early late : List Access) (start running : ℕ) (port : Port)
@@ -85,15 +85,15 @@ pub record AccessLaws : Type 0 where
       → DoesNotWrite (Px port Serr) access → Does access old new → (new.port port.0).serr_n ≡ false
       → ((old.port port.0).serr_n ≡ false) × NoPlugEvents port.0 old new
   pub steps_keep_errors : (port : ℕ) (old new : Device) → old.hr ≡ false → Steps old new
-      → KeepsErrors (old.port port) (new.port port)
-  pub access_keeps_serr_n_and_x : (port : Port) (access : Access) (old new : Device) → old.hr ≡ false
+      → KeepsSetBitsOfPxisAndSerrNX (old.port port) (new.port port)
+  pub access_but_serr_write_keeps_set_n_and_x : (port : Port) (access : Access) (old new : Device) → old.hr ≡ false
       → DoesNotWrite (Px port Serr) access → Does access old new
       → ((old.port port.0).serr_n ≡ true → (new.port port.0).serr_n ≡ true)
       × ((old.port port.0).serr_x ≡ true → (new.port port.0).serr_x ≡ true)
   pub shows_fatal_unless_clear : (p : DevicePort) → (((place : ℕ) → 27 ≤ place → place ≤ 29 → p.is place ≡ false) → ⊥)
       → ShowsFatal p
   pub access_leaves_controls : (port : Port) (access : Access) (old new : Device) → old.hr ≡ false → Does access old new
-      → LeavesControls access port (old.port port.0) (new.port port.0)
+      → ControlsChangeOnlyByTheirWrites access port (old.port port.0) (new.port port.0)
   pub cmd_write_sets_st_and_fre : (port : Port) (v : ℕ) (old new : Device) → Writes (Px port Cmd) v old new
       → ((new.port port.0).st ≡ bit v 0) × ((new.port port.0).fre ≡ bit v 4)
   pub sctl_write_sets_det : (port : Port) (v : ℕ) (old new : Device) → Writes (Px port Sctl) v old new
@@ -101,19 +101,17 @@ pub record AccessLaws : Type 0 where
   pub setting_st_is_noted : (port : Port) (v : ℕ) (old new : Device) → (old.port port.0).st ≡ false → bit v 0 ≡ true
       → Writes (Px port Cmd) v old new → ((new.port port.0).cr ≡ true)
       × ((new.port port.0).notes.st_set_at ≡ length new.tape)
-  pub vacant_port_stays_vacant : (port : Port) (access : Access) (old new : Device) → NoDiskComes port.0 old new
-      → Does access old new
-      → IsVacant (old.port port.0) → IsVacant (new.port port.0)
-  pub first_fis_stays : (port : Port) (access : Access) (old new : Device) → NoDiskComes port.0 old new
-      → Does access old new
+  pub vacant_port_stays_vacant_if_no_disk_comes : (port : Port) (access : Access) (old new : Device)
+      → NoDiskComes port.0 old new → Does access old new → IsVacant (old.port port.0) → IsVacant (new.port port.0)
+  pub first_fis_if_shown_stays_if_no_disk_comes : (port : Port) (access : Access) (old new : Device)
+      → NoDiskComes port.0 old new → Does access old new
       → HasFirstFisIfShown (old.port port.0) → HasFirstFisIfShown (new.port port.0)
   pub runs_on_after_accesses : (port : Port) (accesses : List Access) (old new : Device) → IsOn old
       → DoesAll accesses old new
       → All (DoesNotWrite Ghc) accesses → All (DoesNotWrite (Px port Sctl)) accesses
-      → All (DoesNotWrite (Px port Cmd)) accesses → StaysRunning port.0 old new
-  pub stays_well_if_undisturbed : (port : ℕ) (old new : Device) → StaysRunning port old new → Undisturbed port old new
-      → RunsWell (old.port port)
-      → RunsWell (new.port port)
+      → All (DoesNotWrite (Px port Cmd)) accesses → StaysRunningIfUndisturbed port.0 old new
+  pub stays_well_if_undisturbed : (port : ℕ) (old new : Device) → StaysRunningIfUndisturbed port old new
+      → Undisturbed port old new → RunsWell (old.port port) → RunsWell (new.port port)
 
 -- What laws say of runs of calls, and of the steps that they make one after another.
 pub record RunLaws : Type 0 where

@@ -78,14 +78,14 @@ pub record ReadySlotsInvariant (s : DriverSlots) (i : JointState Device) (port :
   pub slots_serve_clients : (slot : ℕ) → IsFreeOrServes (s.slot_states port.0 slot)
   pub unusable_are_free : (slot : ℕ) → mode.usable_slots ≤ slot → s.slot_states port.0 slot ≡ Free
   pub none_is_parked : s.awaiting_disposition port.0 ≡ []
-  pub commands_are_as_asked : (slot : ℕ) (e : Pending) → SlotServesUnanswered s i port slot e → e.ended ≡ false
-      → IsQueuedAsAsked mode i.device port.0 slot e
+  pub unended_commands_are_queued_as_asked : (slot : ℕ) (e : Pending) → SlotServesUnanswered s i port slot e
+      → e.ended ≡ false → IsQueuedAsAsked mode i.device port.0 slot e
   pub plain_is_alone : (slot : ℕ) (e : Pending) → SlotServesUnanswered s i port slot e
       → is_plain mode e.request.asked.op ≡ true
       → (slot ≡ 0) × ((other : ℕ) → other ≢ 0 → s.slot_states port.0 other ≡ Free)
 
 -- nothing is in the slots of a port, and nothing is parked
-pub record HasNothingInSlots (s : DriverSlots) (port : ℕ) : Type 0 where
+pub record HasAllSlotsFreeAndNoneParked (s : DriverSlots) (port : ℕ) : Type 0 where
   pub all_are_free : AllFree s.slot_states port
   pub none_is_parked : s.awaiting_disposition port ≡ []
 
@@ -113,7 +113,7 @@ pub record IsStoppedAt (wanted : Wanted) (s : DriverSlots) (i : JointState Devic
   pub adapter_is_on : IsOn i.device
   pub backs_state : BacksState (serial_of wanted) state port.0 i.device
   pub shows_disk_if_in : FoundUnusableDevice state → ShowsDiskIfIn (i.device.port port.0)
-  pub has_nothing_in_slots : HasNothingInSlots s port.0
+  pub has_nothing_in_slots : HasAllSlotsFreeAndNoneParked s port.0
   pub has_no_unanswered : HasNoUnanswered i.abstract.machine port
   pub none_is_quarantined : NoneKept i.abstract.machine port
 
@@ -127,7 +127,7 @@ pub record IsDeadAt (wanted : Wanted) (i : JointState Device) (port : Port) : Ty
 pub record IsUnservedAt (s : DriverSlots) (i : JointState Device) (port : Port) : Type 0 where
   pub state_is_absent : i.abstract.ports.state port ≡ Absent
   pub port_is_idle : IsIdlePort (i.device.port port.0)
-  pub has_nothing_in_slots : HasNothingInSlots s port.0
+  pub has_nothing_in_slots : HasAllSlotsFreeAndNoneParked s port.0
   pub has_no_unanswered : HasNoUnanswered i.abstract.machine port
   pub none_is_quarantined : NoneKept i.abstract.machine port
 

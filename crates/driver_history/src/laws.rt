@@ -6,8 +6,8 @@ ghost use Rattle.refinement.specs.{Fragments.{GainsNoMove}, PortFacts.{DeviceSpa
 ghost use Rattle.block_machine.specs.{Events.{AbstractCall, AbstractState, AbstractCallResult, steps_of, Service, Tick, Reset, TimesOutAtTick, IsRun, EveryReadHoldsExpected, NoneStaysIssued}, Histories.{JointState, JointEvent, IsReachable, events_of, joint_state_after}, Ports.{PortsWellFormed, Evidence, Ports, SameSerialAndSize, SamePort}, State.{Pending}, Steps.{Answer}};
 ghost use Rattle.identify.specs.declared.wanted.Wanted.{Wanted};
 ghost use Rattle.durability.specs.Durable.{EveryPlugFindsFlushed};
-ghost use Rattle.driver_history.specs.{Claims.{AnswerJustified, GoesWellFor, IsHealthyFor, IsSpared}, Evidence.{ReadyPortHasErrors, ReadyPortHasFatalErrors, IsEvidencedOf, ReadyPortHasLinkChange, ShowsLinkChange, StaysHealthy}, Histories.{IsDriverHistory, IssuesAllDue, LosesNoPortError, OfPortsInCalls}, PortInvariants.{DriverInvariant}, ConfinedMoves.{ConfinesCallMoves}, PortTurn.{HasTurnIn, EvidenceAgreesOn, call_accesses}};
-ghost use Rattle.error_recovery.specs.Evidence.{BringsLog, HasFailed};
+ghost use Rattle.driver_history.specs.{Claims.{AnswerJustified, GoesWellFor, IsHealthyFor, IsSpared}, Evidence.{ReadyPortHasErrors, ReadyPortHasFatalErrors, IsEvidencedOf, ReadyPortHasLinkChangeOrNoDevice, ShowsLinkChange, StaysHealthy}, Histories.{IsDriverHistory, IssuesAllDue, LosesNoPortError, OfPortsInCalls}, PortInvariants.{DriverInvariant}, ConfinedMoves.{ConfinesCallMovesAndClears}, PortTurn.{HasTurnIn, EvidenceAgreesOn, call_accesses}};
+ghost use Rattle.error_recovery.specs.Evidence.{BringsLastLogPage, HasFailed};
 ghost use Rattle.ata_types.specs.declared.request.Outcome.TheVariants as outcome;
 
 use super::prerequisites::{law_prerequisites, law_run_prerequisites};
@@ -17,7 +17,7 @@ use block_machine::laws::law_rows_shrink_and_owners_stay;
 use durability::laws::law_flushed_writes_survive_replug;
 use port_boot::laws::law_a_port_runs_on;
 use refinement::laws::law_disks_are_told;
-use refinement::port_facts::{law_device_spares_frames, law_running_well_stays};
+use refinement::port_facts::{law_device_spares_frames, law_running_well_stays_if_undisturbed};
 
 /// The calls of a history are a run of the block machine. So its laws on runs hold of them: each request that is issued
 /// was accepted and broke no rule, each touch is of an accepted request's own sector at a frame that is lent to it, and
@@ -47,7 +47,7 @@ pub fn law_reads_hold_if_disks_tell()
 
 /// Where the adapter's disks tell their sectors, each disk that comes back in a history has the writes that were
 /// flushed, or later ones.
-pub fn law_replugs_keep_flushed_writes()
+pub fn law_replugs_keep_flushed_if_disks_tell()
     ensures { (wanted : List Wanted) (first : JointState Device) (past : List (JointEvent Device DeviceStep))
         → IsDriverHistory wanted first past → first.device.telling ≡ true
         → EveryPlugFindsFlushed first.abstract.machine (steps_of (events_of past)) }
@@ -64,7 +64,7 @@ pub fn law_moves_keep_to_their_places()
     ensures { (wanted : List Wanted) (first : JointState Device) (past : List (JointEvent Device DeviceStep))
         (h : JointEvent Device DeviceStep)
         → IsDriverHistory wanted first (h ∷ past)
-        → ConfinesCallMoves first.abstract.machine (steps_of (events_of past)) h.event.steps
+        → ConfinesCallMovesAndClears first.abstract.machine (steps_of (events_of past)) h.event.steps
         (joint_state_after first past).device h.device }
 {
     law_run_prerequisites();
@@ -98,7 +98,7 @@ pub fn law_issued_requests_have_their_slots()
 
 /// In a service a ready port that stays healthy is left alone: it is what it was, each answer there is Ok, and neither
 /// its PxCMD nor its PxSCTL is written.
-pub fn law_healthy_ports_are_left_alone()
+pub fn law_services_leave_healthy_ports_alone()
     ensures { (wanted : List Wanted) (first : JointState Device) (past : List (JointEvent Device DeviceStep))
         (h : JointEvent Device DeviceStep)
         (port : Port) → (history : IsDriverHistory wanted first (h ∷ past)) → h.event.call ≡ Service
@@ -111,14 +111,14 @@ pub fn law_healthy_ports_are_left_alone()
 
 /// A port that is ready and stays healthy in a call runs well after it, unless the call is a reset, or a tick that
 /// brings a request of the port to its age of three.
-pub fn law_calls_leave_ports_well()
+pub fn law_healthy_calls_leave_ports_well()
     ensures { OfPortsInCalls (λ old h new port. old.abstract.ports.state port ≡ Ready → h.event.call ≢ Reset
         → (h.event.call ≡ Tick → TimesOutAtTick old.abstract port → ⊥)
         → StaysHealthy port.0 old.device h.device → RunsWell (h.device.port port.0)) }
 {
     law_disks_are_told();
     law_asked_steps_are_transitions();
-    law_running_well_stays();
+    law_running_well_stays_if_undisturbed();
     law_a_port_runs_on();
 }
 
@@ -164,7 +164,7 @@ pub fn law_unplugged_needs_loss()
 
 /// A service answers each request of a ready port whose bits are clear when it begins, whether or not a command has
 /// failed there or its disk was lost.
-pub fn law_clear_bits_are_answered()
+pub fn law_services_answer_where_bits_are_clear()
     ensures { (wanted : List Wanted) (first : JointState Device) (past : List (JointEvent Device DeviceStep))
         (h : JointEvent Device DeviceStep)
         (port : Port) (slot : ℕ) (id : RequestId) → IsDriverHistory wanted first (h ∷ past) → h.event.call ≡ Service
@@ -192,7 +192,7 @@ pub fn law_healthy_calls_go_well()
 {
     law_disks_are_told();
     law_asked_steps_are_transitions();
-    law_running_well_stays();
+    law_running_well_stays_if_undisturbed();
     law_a_port_runs_on();
 }
 
@@ -224,7 +224,8 @@ pub fn law_a_turns_evidence_is_the_calls()
         → HasFailed port t.turn t.start t.end fault → HasFailed port (call_accesses t) old new fault }
     ensures turn_log_page_is_calls { (port : Port) (old new : Device) (page : List ℕ) → IsOn old
         → (t : HasTurnIn port old new)
-        → GainsNoMove port.0 ReadLog t.end new → BringsLog port t.start t.end page → BringsLog port old new page }
+        → GainsNoMove port.0 ReadLog t.end new → BringsLastLogPage port t.start t.end page
+        → BringsLastLogPage port old new page }
 {
     law_prerequisites();
 }
@@ -234,7 +235,7 @@ pub fn law_a_turns_evidence_is_the_calls()
 pub fn law_healthy_ports_have_no_error()
     ensures link_is_unchanged { (port : Port) (old : JointState Device) (new : Device)
         → StaysHealthy port.0 old.device new
-        → ReadyPortHasLinkChange port old new → ⊥ }
+        → ReadyPortHasLinkChangeOrNoDevice port old new → ⊥ }
     ensures has_no_errors { (port : Port) (old : JointState Device) (new : Device) → StaysHealthy port.0 old.device new
         → ReadyPortHasErrors port old new → ⊥ }
     ensures has_no_fatal_errors { (port : Port) (old : JointState Device) (new : Device)

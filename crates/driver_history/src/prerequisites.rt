@@ -11,12 +11,13 @@ use block_machine::laws::{
 use error_recovery::laws::law_fatal_errors_show_unless_clear;
 use port_boot::laws::law_a_port_runs_on;
 use port_control::laws::law_what_is_told_of_engines_stays;
-use refinement::disks::law_where_no_disk_comes;
+use refinement::disks::law_vacancy_stays_where_no_disk_comes;
 use refinement::fragments::{law_other_ports_are_untouched, law_tape_prerequisites};
 use refinement::laws::law_histories_compose;
 use refinement::port_facts::{
-    law_adapter_stays, law_cleared_stays, law_controls_are_set, law_controls_stay,
-    law_errors_are_kept, law_errors_are_shown, law_link_stays, law_plug_events_are_found,
+    law_adapter_stays, law_clear_error_bits_stay_clear, law_controls_are_set, law_controls_stay,
+    law_errors_are_kept, law_errors_are_shown, law_link_is_same_or_comes_up_without_plugs,
+    law_plug_events_are_found,
 };
 
 /// The laws that the proofs on parts of calls rest on.
@@ -27,17 +28,17 @@ pub fn law_prerequisites()
     law_step_lists_keep_what_steps_keep();
     law_port_register_accesses();
     law_adapter_stays();
-    law_cleared_stays();
+    law_clear_error_bits_stay_clear();
     law_controls_are_set();
     law_controls_stay();
     law_errors_are_kept();
     law_errors_are_shown();
     law_fatal_errors_show_unless_clear();
-    law_link_stays();
+    law_link_is_same_or_comes_up_without_plugs();
     law_plug_events_are_found();
     law_other_ports_are_untouched();
     law_tape_prerequisites();
-    law_where_no_disk_comes();
+    law_vacancy_stays_where_no_disk_comes();
     law_a_port_runs_on();
     law_what_is_told_of_engines_stays();
 }

@@ -7,7 +7,7 @@ ghost use Rattle.adapter.specs.{Access.{Access, DoesAll}, Device.{Device}, Rules
 ghost use Rattle.refinement.specs.{Fragments.{TapeGrows}, Errors.{IsFatalErrorOf, NoDiskComes}, PortFacts.{IsFaultOf, Undisturbed}, PreservedParts.{ShowsDiskIfIn, NoPlugEvents, DoesNotWrite}};
 ghost use Rattle.block_machine.specs.{Events.{AbstractState, AbstractCallResult, Service}, Histories.{JointEvent, JointState, joint_state_after}, Ports.{Evidence, IsStoppedOrStuck, Ports, SamePort}};
 ghost use Rattle.error_recovery.specs.Evidence.{GainsSinceStart};
-ghost use Rattle.driver_history.specs.{Claims.{HandlesShownFailure, HandlesShownLoss}, Evidence.{ShowsLinkChange, ShowsFailure, ShowsLoss}, Histories.{BootsAnew, IsForeignOrUnfit, HasOnlyTaskFileError, LosesNoPortError, OfPortsInCalls, RunsWellAnew, ProbesDisk}, PortTurn.{EndsNoLinkDue, HasTurnIn, EvidenceAgreesOn, call_accesses}, AccessTrace.{ClearsNoError, ResetsLink}};
+ghost use Rattle.driver_history.specs.{Claims.{HandlesShownFailure, HandlesShownLoss}, Evidence.{ShowsLinkChange, ShowsFailure, ShowsLoss}, Histories.{BootsAnewWhereRequired, IsForeignOrUnfit, HasOnlyTaskFileError, LosesNoPortError, OfPortsInCalls, RunsWellAnew, ProbesDisk}, PortTurn.{ChangedUnreadyPortEndsNoLinkDue, HasTurnIn, EvidenceAgreesOn, call_accesses}, AccessTrace.{ClearsNoError, ResetsLink}};
 ghost use Rattle.identify.specs.declared.wanted.Wanted.{Wanted};
 ghost use Rattle.port_control.specs.Engines.{Stops};
 
@@ -17,7 +17,7 @@ use super::prerequisites::law_prerequisites;
 /// showed: what had ended is answered, the port was stopped, who waits keeps no issue, and one request is told a fault
 /// at most. With a fatal error nobody is told one; with TFES alone, and in the call no fatal error, and no disk that
 /// goes or comes, a plain request always is.
-pub fn law_shown_failures_are_heeded()
+pub fn law_services_heed_shown_failures()
     ensures { OfPortsInCalls (λ old h new port. h.event.call ≡ Service → old.abstract.ports.state port ≡ Ready
         → ShowsFailure (old.device.port port.0) → HandlesShownFailure port old h) }
 {}
@@ -25,7 +25,7 @@ pub fn law_shown_failures_are_heeded()
 /// A service heeds that a ready port showed a change of its link when it began, or no device, with no disk that comes
 /// meanwhile, whatever else it showed: what had ended is answered, all other requests of the port are told that the
 /// disk is gone, or that the port is dead, and the port was stopped.
-pub fn law_shown_losses_are_heeded()
+pub fn law_services_heed_shown_losses()
     ensures { OfPortsInCalls (λ old h new port. h.event.call ≡ Service → old.abstract.ports.state port ≡ Ready
         → ShowsLoss port old.device h.device → HandlesShownLoss port old h) }
 {}
@@ -79,8 +79,8 @@ pub fn law_a_turns_errors_are_the_calls()
         → (old.abstract.ports.state port ≡ Ready → (old.device.port port.0).link_due ≡ false)
         → (t : HasTurnIn port old.device new) → IsOn t.end → SamePort ended ports port
         → SamePort old.abstract.ports begun.ports port
-        → BootsAnew Service one t.turn (record { device = t.start; abstract = begun }) ended t.end port
-        → BootsAnew Service other (call_accesses t) old ports new port }
+        → BootsAnewWhereRequired Service one t.turn (record { device = t.start; abstract = begun }) ended t.end port
+        → BootsAnewWhereRequired Service other (call_accesses t) old ports new port }
     ensures runs_well_anew { (port : Port) (old : JointState Device) (begun : AbstractState) (ended ports : Ports)
         (new : Device)
         (turn call : Evidence) → IsOn old.device
@@ -103,7 +103,7 @@ pub fn law_a_turn_that_probes_a_disk_is_the_calls()
         → IsOn old.device → (t : HasTurnIn port old.device new) → IsOn t.end → SamePort ended ports port
         → SamePort old.abstract.ports begun.ports port
         → (IsForeignOrUnfit old.abstract.ports port → ShowsDiskIfIn (old.device.port port.0))
-        → EndsNoLinkDue port (record { device = t.start; abstract = begun }) ended t.end
+        → ChangedUnreadyPortEndsNoLinkDue port (record { device = t.start; abstract = begun }) ended t.end
         → (NoDiskComes port.0 t.start t.end
         → ProbesDisk t.turn (record { device = t.start; abstract = begun }) ended t.end
         port)
@@ -112,8 +112,8 @@ pub fn law_a_turn_that_probes_a_disk_is_the_calls()
         (new : Device)
         → IsOn old.device → (t : HasTurnIn port old.device new) → IsOn t.end → SamePort ended ports port
         → SamePort old.abstract.ports begun.ports port
-        → EndsNoLinkDue port (record { device = t.start; abstract = begun })
-        ended t.end → EndsNoLinkDue port old ports new }
+        → ChangedUnreadyPortEndsNoLinkDue port (record { device = t.start; abstract = begun })
+        ended t.end → ChangedUnreadyPortEndsNoLinkDue port old ports new }
 {
     law_prerequisites();
 }
@@ -139,7 +139,7 @@ pub fn law_a_fatal_error_of_a_part_is_of_the_whole()
 {}
 
 /// Where accesses that leave the adapter on stopped a port, and its ST is one after them, it was set since they began.
-pub fn law_a_port_that_was_stopped_was_set_since()
+pub fn law_st_of_a_stopped_port_was_set_since()
     ensures { (port : Port) (accesses : List Access) (old new : Device) → IsOn old → All (DoesNotWrite Ghc) accesses
         → DoesAll accesses old new → Stops port accesses → (new.port port.0).st ≡ true
         → length old.tape ≤ (new.port port.0).notes.st_set_at }

@@ -10,7 +10,7 @@ use Rattle.block_machine.specs.State.{Block, DiskBytes, Accepted, Pending, Machi
 use Rattle.block_machine.specs.DueRequests.{is_flush, changes_sectors}
 use Rattle.block_machine.specs.Steps.{Step, Accept, Issue, Touch, End, Age, WaitAgain, Answer, Release, Revoke, Unplug, Replace, Store, Load, IsEnabled, MayStillMove, after_step, update_pending, newly_issued, touch, mark_ended, requeued, aged_pending, newly_accepted, put_sector, SameBytes, HoldsOrHeldSinceFlush}
 use Rattle.block_machine.specs.Expected.{after, IsLegal, IsInitial, IsAccept, IsTouch, HasTouched, plug_count}
-use Rattle.durability.specs.Durable.{AnswersOk, takes_out, plugs_other_disk, WriteAcceptedOnDisk, WriteOkOnSameDisk, FlushAcceptedAfterWrite, FlushOkAfterWrite, IsWrittenByOrAfter, PlugFindsFlushed, EveryPlugFindsFlushed}
+use Rattle.durability.specs.Durable.{AnswersOk, unplugs_disk_of, plugs_other_disk, WriteAcceptedSinceLastUnplug, WriteOkOnSameDisk, FlushAcceptedAfterOkWrite, FlushOkAfterOkWriteOnSameDisk, IsWrittenByOrAfter, ReplugFindsFlushedOrLater, EveryPlugFindsFlushed}
 use Rattle.block_machine.proofs.Members.{map_in, at_cases, without_in, append_in}
 use Rattle.block_machine.proofs.Sound.{Sound}
 use Rattle.block_machine.proofs.Keeps.{older_keeps, older_touched}
@@ -139,7 +139,7 @@ effect m (Store client frame offset bytes) port k may = inl (record { same = ref
 effect m (Load client frame offset bytes) port k may = inl (record { same = refl; quiet = λ w _ _ t. t })
 
 -- while no disk is taken out, one stays in
-stays_in : (m : Machine) (step : Step) (port : Port) → IsEnabled m step → takes_out port step ≡ false → m.present port ≡ true → (after_step m step).present port ≡ true
+stays_in : (m : Machine) (step : Step) (port : Port) → IsEnabled m step → unplugs_disk_of port step ≡ false → m.present port ≡ true → (after_step m step).present port ≡ true
 stays_in m (Unplug p) port may out here = cond-false (port.0 == p.0) false (m.present port) (ne_eqb port.0 p.0 (λ e. both_ways _ out (eq-eqb p.0 port.0 (sym e)))) ∙ here
 stays_in m (Replace p id size disk) port may out here = cond_both (port.0 == p.0) true (m.present port) (λ b. b ≡ true) (λ _. refl) (λ _. here)
 stays_in m (Touch e i block) port may out here = here
@@ -155,10 +155,10 @@ stays_in m (Store client frame offset bytes) port may out here = here
 stays_in m (Load client frame offset bytes) port may out here = here
 
 since_more : (w : Accepted) (k : ℕ) (step : Step) (h : List Step) (block : Block) → IsWrittenByOrAfter w k h block → IsWrittenByOrAfter w k (step ∷ h) block
-since_more w k step h block s = record { writer = s.writer; op_changes_sectors = s.op_changes_sectors; port_is = s.port_is; accepted_later = s.accepted_later; disk_number = s.disk_number; touched = inr s.touched; block_is = s.block_is }
+since_more w k step h block s = record { writer = s.writer; op_changes_sectors = s.op_changes_sectors; port_is = s.port_is; is_not_accepted_before = s.is_not_accepted_before; disk_number = s.disk_number; touched = inr s.touched; block_is = s.block_is }
 
 since_bytes : (w : Accepted) (k : ℕ) (h : List Step) (a b : Block) → SameBytes a b → IsWrittenByOrAfter w k h b → IsWrittenByOrAfter w k h a
-since_bytes w k h a b e s = record { writer = s.writer; op_changes_sectors = s.op_changes_sectors; port_is = s.port_is; accepted_later = s.accepted_later; disk_number = s.disk_number; touched = s.touched; block_is = λ x lt. e x lt ∙ s.block_is x lt }
+since_bytes w k h a b e s = record { writer = s.writer; op_changes_sectors = s.op_changes_sectors; port_is = s.port_is; is_not_accepted_before = s.is_not_accepted_before; disk_number = s.disk_number; touched = s.touched; block_is = λ x lt. e x lt ∙ s.block_is x lt }
 
 since_same : (w : Accepted) (k : ℕ) (h : List Step) (a b : Block) → a ≡ b → IsWrittenByOrAfter w k h b → IsWrittenByOrAfter w k h a
 since_same w k h a b e s = since_bytes w k h a b (λ x lt. ap (λ (c : Block). c x) e) s
@@ -169,7 +169,7 @@ since_written m step h w k seen writes t = record {
   writer = t.entry.request;
   op_changes_sectors = t.writes;
   port_is = t.here;
-  accepted_later = ⊎_elim
+  is_not_accepted_before = ⊎_elim
       (λ (less : t.entry.request.id.0 < w.id.0). absurd (seen.order t.entry (runs_lives m t.entry t.runs) less
       (conflict_at t.entry.request w k t.here (or_left _ _ t.writes) t.from t.to seen.from seen.to)))
       (λ (le : w.id.0 ≤ t.entry.request.id.0). le) (cases_lt t.entry.request.id.0 w.id.0);
@@ -220,7 +220,7 @@ absent_here : (m : Machine) (port : Port) → m.present port ≡ true → m.pres
 absent_here m port a b = both_ways _ b a
 
 stage_step : (start : Machine) (step : Step) (past : List Step) (w : Accepted) (k : ℕ) → IsInitial start → IsLegal start (step ∷ past) → changes_sectors w.asked.op ≡ true
-    → takes_out w.port step ≡ false → Stage start past w k → Stage start (step ∷ past) w k
+    → unplugs_disk_of w.port step ≡ false → Stage start past w k → Stage start (step ∷ past) w k
 stage_step start step past w k s legal writes out g = record {
   here = stays_in (after start past) step w.port legal.1 out g.here;
   inside = subst (λ (n : ℕ). k < n) (sym (sizes_stay (after start past) step w.port legal.1 (none_other (after start past) step w.port legal.1 g.here))) g.inside;
@@ -280,7 +280,7 @@ came m (Store client frame offset bytes) may s x i hx t = inl (x, hx, refl, t)
 came m (Load client frame offset bytes) may s x i hx t = inl (x, hx, refl, t)
 
 -- a writer that touches its sector number i now
-stage_now : (start : Machine) (step : Step) (past : List Step) (w : Accepted) (i : ℕ) → IsInitial start → IsLegal start (step ∷ past) → changes_sectors w.asked.op ≡ true → takes_out w.port step ≡ false
+stage_now : (start : Machine) (step : Step) (past : List Step) (w : Accepted) (i : ℕ) → IsInitial start → IsLegal start (step ∷ past) → changes_sectors w.asked.op ≡ true → unplugs_disk_of w.port step ≡ false
     → IsTouchAt step w i → Stage start (step ∷ past) w (w.asked.first.0 + i)
 stage_now start (Touch e n block) past w i s legal writes out t =
     let k : ℕ = w.asked.first.0 + i in
@@ -317,11 +317,11 @@ ok_entry m step w may whole ok =
     let law : IsWhole (Answer r.0 Ok) = subst (λ (x : Step). IsWhole x) r.1 whole in
     (r.0, here.0, r.2, (λ i lt. law.0 i (subst (λ (j : Accepted). i < j.asked.count) (sym r.2) lt)), law.1)
 
-ok_out : (port : Port) (step : Step) (w : Accepted) → AnswersOk step w → takes_out port step ≡ false
-ok_out port step w ok = let r = answer_ok step w ok in ap (takes_out port) r.1
+ok_out : (port : Port) (step : Step) (w : Accepted) → AnswersOk step w → unplugs_disk_of port step ≡ false
+ok_out port step w ok = let r = answer_ok step w ok in ap (unplugs_disk_of port) r.1
 
-accept_out : (port : Port) (step : Step) (w : Accepted) → IsAccept step w → takes_out port step ≡ false
-accept_out port step w t = ap (takes_out port) (accept_of step w t)
+accept_out : (port : Port) (step : Step) (w : Accepted) → IsAccept step w → unplugs_disk_of port step ≡ false
+accept_out port step w t = ap (unplugs_disk_of port) (accept_of step w t)
 
 -- a request that is accepted now has nothing touched and isn't ended
 new_entry : (m : Machine) (step : Step) (w : Accepted) → IsEnabled m step → Sound m → IsAccept step w → (x : Pending) → Contains (after_step m step).book x → x.request ≡ w → x ≡ newly_accepted w
@@ -334,7 +334,7 @@ new_entry m step w may s t x hx same =
     (append_in m.book (newly_accepted w) x (subst (λ (y : Step). Contains (after_step m y).book x) e hx))
 
 -- Each sector that an accepted writer touched is at its stage, while no disk was taken out.
-accepted_stage : (start : Machine) (h : List Step) (w : Accepted) → IsInitial start → IsLegal start h → changes_sectors w.asked.op ≡ true → WriteAcceptedOnDisk w h
+accepted_stage : (start : Machine) (h : List Step) (w : Accepted) → IsInitial start → IsLegal start h → changes_sectors w.asked.op ≡ true → WriteAcceptedSinceLastUnplug w h
     → (x : Pending) → Contains (after start h).book x → x.request ≡ w → (i : ℕ) → x.touched i ≡ true → Stage start h w (w.asked.first.0 + i)
 accepted_stage start [] w s legal writes a x hx same i t = absurd a
 accepted_stage start (step ∷ past) w s legal writes (inl a) x hx same i t =
@@ -354,7 +354,7 @@ stored_stage start (step ∷ past) w s legal whole writes (inl a) i lt =
     (accepted_stage start past w s legal.0 writes a.1 e.0 e.1 e.2 i (e.3 i lt))
 stored_stage start (step ∷ past) w s legal whole writes (inr a) i lt = stage_step start step past w (w.asked.first.0 + i) s legal writes a.0 (stored_stage start past w s legal.0 whole.0 writes a.1 i lt)
 
-asked_stage : (start : Machine) (h : List Step) (w flush : Accepted) → IsInitial start → IsLegal start h → AllWhole h → changes_sectors w.asked.op ≡ true → FlushAcceptedAfterWrite w flush h → (i : ℕ) → i < w.asked.count → Stage start h w (w.asked.first.0 + i)
+asked_stage : (start : Machine) (h : List Step) (w flush : Accepted) → IsInitial start → IsLegal start h → AllWhole h → changes_sectors w.asked.op ≡ true → FlushAcceptedAfterOkWrite w flush h → (i : ℕ) → i < w.asked.count → Stage start h w (w.asked.first.0 + i)
 asked_stage start [] w flush s legal whole writes a i lt = absurd a
 asked_stage start (step ∷ past) w flush s legal whole writes (inl a) i lt = stage_step start step past w (w.asked.first.0 + i) s legal writes (accept_out w.port step flush a.0) (stored_stage start past w s legal.0 whole.0 writes a.1 i lt)
 asked_stage start (step ∷ past) w flush s legal whole writes (inr a) i lt = stage_step start step past w (w.asked.first.0 + i) s legal writes a.0 (asked_stage start past w flush s legal.0 whole.0 writes a.1 i lt)
@@ -463,7 +463,7 @@ lasts_end start (End e) past w flush k port op t g = record {
 lasts_end start _ past w flush k port op t g = absurd t
 
 asked_lasts : (start : Machine) (h : List Step) (w flush : Accepted) → IsInitial start → IsLegal start h → AllWhole h → IsVolatile start h → changes_sectors w.asked.op ≡ true → flush.port ≡ w.port → flush.asked.op ≡ Flush
-    → FlushAcceptedAfterWrite w flush h → (x : Pending) → Contains (after start h).book x → x.request ≡ flush → x.ended ≡ true → (i : ℕ) → i < w.asked.count → Lasts start h w (w.asked.first.0 + i)
+    → FlushAcceptedAfterOkWrite w flush h → (x : Pending) → Contains (after start h).book x → x.request ≡ flush → x.ended ≡ true → (i : ℕ) → i < w.asked.count → Lasts start h w (w.asked.first.0 + i)
 asked_lasts start [] w flush s legal whole back writes port op a x hx same t i lt = absurd a
 asked_lasts start (step ∷ past) w flush s legal whole back writes port op (inl a) x hx same t i lt =
     let p = new_entry (after start past) step flush legal.1 (traced start past s legal.0).sound a.0 x hx same in
@@ -481,7 +481,7 @@ ok_other : (m : Machine) (port : Port) (step : Step) (w : Accepted) → AnswersO
 ok_other m port step w ok = let r = answer_ok step w ok in ap (plugs_other_disk m port) r.1
 
 flushed_lasts : (start : Machine) (h : List Step) (w flush : Accepted) → IsInitial start → IsLegal start h → AllWhole h → IsVolatile start h → changes_sectors w.asked.op ≡ true → flush.port ≡ w.port → flush.asked.op ≡ Flush
-    → FlushOkAfterWrite start w flush h → (i : ℕ) → i < w.asked.count → Lasts start h w (w.asked.first.0 + i)
+    → FlushOkAfterOkWriteOnSameDisk start w flush h → (i : ℕ) → i < w.asked.count → Lasts start h w (w.asked.first.0 + i)
 flushed_lasts start [] w flush s legal whole back writes port op a i lt = absurd a
 flushed_lasts start (step ∷ past) w flush s legal whole back writes port op (inl a) i lt =
     let e = ok_entry (after start past) step flush legal.1 whole.1 a.0 in
@@ -491,7 +491,7 @@ flushed_lasts start (step ∷ past) w flush s legal whole back writes port op (i
     lasts_step start step past w (w.asked.first.0 + i) s legal writes back.1 a.0 (flushed_lasts start past w flush s legal.0 whole.0 back.0 writes port op a.1 i lt)
 
 -- a disk that comes back has the writes that were flushed
-finds : (start : Machine) (past : List Step) (step : Step) → IsInitial start → IsLegal start (step ∷ past) → AllWhole past → IsVolatile start (step ∷ past) → PlugFindsFlushed start past step
+finds : (start : Machine) (past : List Step) (step : Step) → IsInitial start → IsLegal start (step ∷ past) → AllWhole past → IsVolatile start (step ∷ past) → ReplugFindsFlushedOrLater start past step
 finds start past (Replace port id size disk) s legal whole back = λ same w flush here f i lt.
     let lasts = flushed_lasts start past w flush s legal.0 whole back.0 f.op_changes_sectors f.flush_port_is f.flush_is f.flush_is_ok_after_write i lt in
     let inside : sector_of w i < (after start past).sizes port = subst (λ (p : Port). sector_of w i < (after start past).sizes p) here lasts.inside in

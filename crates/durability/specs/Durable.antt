@@ -14,9 +14,9 @@ AnswersOk (Answer e Ok) r = e.request ≡ r
 AnswersOk _ r = ⊥
 
 -- the step takes the disk of the port out
-abbrev pub takes_out : Port → Step → Bool
-takes_out port (Unplug p) = p.0 == port.0
-takes_out port _ = false
+abbrev pub unplugs_disk_of : Port → Step → Bool
+unplugs_disk_of port (Unplug p) = p.0 == port.0
+unplugs_disk_of port _ = false
 
 -- the step puts another disk in at the port
 abbrev pub plugs_other_disk : Machine → Port → Step → Bool
@@ -24,29 +24,30 @@ plugs_other_disk old port (Replace p id size disk) = p.0 == port.0 && not (id ==
 plugs_other_disk old port _ = false
 
 -- the write or trim was accepted, and no disk of its port was taken out since
-abbrev pub WriteAcceptedOnDisk : Accepted → List Step → Type 0
-WriteAcceptedOnDisk w [] = ⊥
-WriteAcceptedOnDisk w (step ∷ past) = IsAccept step w ⊎ ((takes_out w.port step ≡ false) × WriteAcceptedOnDisk w past)
+abbrev pub WriteAcceptedSinceLastUnplug : Accepted → List Step → Type 0
+WriteAcceptedSinceLastUnplug w [] = ⊥
+WriteAcceptedSinceLastUnplug w (step ∷ past) = IsAccept step w ⊎ ((unplugs_disk_of w.port step ≡ false)
+    × WriteAcceptedSinceLastUnplug w past)
 
 -- and then it was answered Ok
 abbrev pub WriteOkOnSameDisk : Accepted → List Step → Type 0
 WriteOkOnSameDisk w [] = ⊥
-WriteOkOnSameDisk w (step ∷ past) = (AnswersOk step w × WriteAcceptedOnDisk w past)
-    ⊎ ((takes_out w.port step ≡ false) × WriteOkOnSameDisk w past)
+WriteOkOnSameDisk w (step ∷ past) = (AnswersOk step w × WriteAcceptedSinceLastUnplug w past)
+    ⊎ ((unplugs_disk_of w.port step ≡ false) × WriteOkOnSameDisk w past)
 
 -- and then this flush was accepted
-abbrev pub FlushAcceptedAfterWrite : Accepted → Accepted → List Step → Type 0
-FlushAcceptedAfterWrite w flush [] = ⊥
-FlushAcceptedAfterWrite w flush (step ∷ past) =
+abbrev pub FlushAcceptedAfterOkWrite : Accepted → Accepted → List Step → Type 0
+FlushAcceptedAfterOkWrite w flush [] = ⊥
+FlushAcceptedAfterOkWrite w flush (step ∷ past) =
     (IsAccept step flush × WriteOkOnSameDisk w past)
-    ⊎ ((takes_out w.port step ≡ false) × FlushAcceptedAfterWrite w flush past)
+    ⊎ ((unplugs_disk_of w.port step ≡ false) × FlushAcceptedAfterOkWrite w flush past)
 
 -- and then it was answered Ok, and no other disk was put in since
-abbrev pub FlushOkAfterWrite : Machine → Accepted → Accepted → List Step → Type 0
-FlushOkAfterWrite start w flush [] = ⊥
-FlushOkAfterWrite start w flush (step ∷ past) =
-    (AnswersOk step flush × FlushAcceptedAfterWrite w flush past)
-    ⊎ ((plugs_other_disk (after start past) w.port step ≡ false) × FlushOkAfterWrite start w flush past)
+abbrev pub FlushOkAfterOkWriteOnSameDisk : Machine → Accepted → Accepted → List Step → Type 0
+FlushOkAfterOkWriteOnSameDisk start w flush [] = ⊥
+FlushOkAfterOkWriteOnSameDisk start w flush (step ∷ past) =
+    (AnswersOk step flush × FlushAcceptedAfterOkWrite w flush past)
+    ⊎ ((plugs_other_disk (after start past) w.port step ≡ false) × FlushOkAfterOkWriteOnSameDisk start w flush past)
 
 -- the write or trim was answered Ok before the flush of its port was accepted, and the flush was answered Ok, all on
 -- one disk
@@ -54,7 +55,7 @@ pub record IsFlushed (start : Machine) (w flush : Accepted) (history : List Step
   pub op_changes_sectors : changes_sectors w.asked.op ≡ true
   pub flush_is : flush.asked.op ≡ Flush
   pub flush_port_is : flush.port ≡ w.port
-  pub flush_is_ok_after_write : FlushOkAfterWrite start w flush history
+  pub flush_is_ok_after_write : FlushOkAfterOkWriteOnSameDisk start w flush history
 
 -- The block is what w, or a write or trim of its port accepted later, put on sector k of the disk that was in,
 -- whichever it was. (The law is on flushed writes and trims. Since such a one was accepted one disk alone was in at its
@@ -63,23 +64,23 @@ pub record IsWrittenByOrAfter (w : Accepted) (k : ℕ) (history : List Step) (bl
   pub writer : Accepted
   pub op_changes_sectors : changes_sectors writer.asked.op ≡ true
   pub port_is : writer.port ≡ w.port
-  pub accepted_later : w.id.0 ≤ writer.id.0
+  pub is_not_accepted_before : w.id.0 ≤ writer.id.0
   pub disk_number : ℕ
   pub touched : HasTouched writer k disk_number history
   pub block_is : SameBytes block (block_written writer.asked.op writer.blocks_at_acceptance (k - writer.asked.first.0))
 
 -- each sector of the write or trim has, on this disk, what it put there, or what one accepted later did
-abbrev pub HoldsWrite : Accepted → List Step → DiskBytes → Type 0
-HoldsWrite w history disk = (i : ℕ) → i < w.asked.count
+abbrev pub HoldsWriteOrLater : Accepted → List Step → DiskBytes → Type 0
+HoldsWriteOrLater w history disk = (i : ℕ) → i < w.asked.count
     → IsWrittenByOrAfter w (sector_of w i) history (disk (sector_of w i))
 
 -- a disk that comes back with this step has the writes and trims that were flushed
-abbrev pub PlugFindsFlushed : Machine → List Step → Step → Type 0
-PlugFindsFlushed start past (Replace port id size disk) = id ≡ (after start past).disk_ids port
-    → (w flush : Accepted) → w.port ≡ port → IsFlushed start w flush past → HoldsWrite w past disk
-PlugFindsFlushed start past _ = Unit {0}
+abbrev pub ReplugFindsFlushedOrLater : Machine → List Step → Step → Type 0
+ReplugFindsFlushedOrLater start past (Replace port id size disk) = id ≡ (after start past).disk_ids port
+    → (w flush : Accepted) → w.port ≡ port → IsFlushed start w flush past → HoldsWriteOrLater w past disk
+ReplugFindsFlushedOrLater start past _ = Unit {0}
 
 -- so it is with each step of the history
 abbrev pub EveryPlugFindsFlushed : Machine → List Step → Type 0
 EveryPlugFindsFlushed start [] = Unit {0}
-EveryPlugFindsFlushed start (step ∷ past) = EveryPlugFindsFlushed start past × PlugFindsFlushed start past step
+EveryPlugFindsFlushed start (step ∷ past) = EveryPlugFindsFlushed start past × ReplugFindsFlushedOrLater start past step

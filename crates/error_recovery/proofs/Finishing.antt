@@ -25,7 +25,7 @@ use Rattle.port_control.specs.Engines.{FailsToStop, EngineSticks, Stops}
 use Rattle.port_control.specs.Ports.{FailsToStopPort, PortStops, ClearsStAlone, IsCommandRegister}
 use Rattle.port_control.specs.declared.Running as running_token
 use Rattle.port_control.specs.declared.Stopped as stopped_token
-use Rattle.error_recovery.specs.Evidence.{BringsLog}
+use Rattle.error_recovery.specs.Evidence.{BringsLastLogPage}
 use Rattle.error_recovery.specs.declared.Next.{Next}
 use Rattle.error_recovery.specs.declared.Next.TheVariants.{Running, Restart, Dead}
 use Rattle.error_recovery.specs.declared.Recovered as recovered
@@ -33,8 +33,8 @@ use Rattle.error_recovery.specs.Laws.{Laws}
 use Rattle.error_recovery.specs.Laws.SlotCondition.{AnyUses, PortUnused}
 use Rattle.error_recovery.specs.Laws.RegisterSet.{AllButCi, CommandRegister}
 use Rattle.error_recovery.specs.Laws.AccessPurpose.{Asking, Controlling, Recovering}
-use Rattle.error_recovery.specs.RecoveryParts.{StopGetsStuck, StartsAgain, IsOnWithDriverMemory, MayStartAgain, ReadsLog, IsStoppedAndCleared}
-use Rattle.error_recovery.specs.Recovery.{EndsAsNext, IsRecoveryAccess, IsLeftByRecovery, SlotsAfterRecovery, PortMayRecover, RecoversOrStops, NamesUnknownSlot, SplitsOutstanding, Recovers, BacksFailure, StopsThenWaits}
+use Rattle.error_recovery.specs.RecoveryParts.{StopGetsStuck, StartsAgain, IsOnWithPortAndDriverMemory, MayStartAgain, ReadsLog, IsStoppedAndCleared}
+use Rattle.error_recovery.specs.Recovery.{EndsAsNext, IsRecoveryAccess, IsLeftByRecovery, SlotsAfterRecovery, PortMayRecover, RecoversOrStops, NamesSlotNotOutstanding, SplitsOutstanding, Recovers, BacksFailure, StopsThenWaits}
 use Rattle.error_recovery.proofs.Going.{Asks, Goes, asks_over, goes_over}
 use Rattle.error_recovery.proofs.Quieting.{commands_silent, starting_silent}
 use Rattle.error_recovery.proofs.Resting.{IsTold, brings_log}
@@ -45,7 +45,7 @@ use Rattle.error_recovery.proofs.Whole.{quieted_told, silent_others, spares_othe
 
 -- nobody is named
 pub all_go_again : (outstanding : ℕ) → SplitsOutstanding outstanding None outstanding
-all_go_again outstanding = record { each_is_in_one = λ slot small set. inr set; none_is_in_both = λ slot small set. (set, λ named. named) }
+all_go_again outstanding = record { each_is_in_one = λ slot small set. inr set; again_is_outstanding_and_unnamed = λ slot small set. (set, λ named. named) }
 
 -- what a plain command that is named rests on
 pub rests_on_fault : (port : Port) (outstanding shown : ℕ) (accesses : List Access) (old new : Device) → IsTold port false shown accesses old new → (failed : Option FailedSlot) →
@@ -87,7 +87,7 @@ recovers_at port at outstanding queued is result old new names same r =
 
 module _ (laws : Laws) where
   -- the log was read, and named none
-  pub log_room : (port : Port) (outstanding : ℕ) (start log : Device) → IsOn log → ReadsLog port outstanding None start log → IsOnWithDriverMemory port.0 start → IsOnWithDriverMemory port.0 log
+  pub log_room : (port : Port) (outstanding : ℕ) (start log : Device) → IsOn log → ReadsLog port outstanding None start log → IsOnWithPortAndDriverMemory port.0 start → IsOnWithPortAndDriverMemory port.0 log
   log_room port outstanding start log on (inl (count, a)) room = room_after laws (IsPageAccess port) port.0 start log a.is_simulated.is_driven on room
   log_room port outstanding start log on (inr (page, (brings, a), why)) room = room_after laws (IsPageAccess port) port.0 start log a.is_driven on room
 
@@ -101,14 +101,14 @@ module _ (laws : Laws) where
       record {
         accesses = made.accesses;
         does = record { accesses_are_recovery = made.accesses_are_of_kind; slots_after = inl (laws.fragments.fragment_is_a_part (Recovering AnyUses port) (λ uses. uses) old new g.is_simulated.is_simulated); tells_engine_outcome = g.is_simulated.accesses_are_such };
-        tells = record { splits_outstanding = all_go_again outstanding; failure_is_backed = tt; dead_names_none = λ e. refl; restart_names_none = λ token is run. absurd cc };
+        tells = record { splits_outstanding = all_go_again outstanding; failure_is_backed = tt; dead_names_none = λ e. refl; queued_restart_names_none = λ token is run. absurd cc };
         leaves = record {
           ends_as_next = (g.st_is_clear, g.stuck_is_backed);
           sctl_det_is_kept = went.det;
           sctl_time_is_kept = went.written;
           ie_is_kept = went.enabled;
           no_identify_moves = g.no_identify_moves;
-          other_ports_move_no_page = λ q o apart own (uses, none, agreed).
+          other_ports_move_no_unasked_page = λ q o apart own (uses, none, agreed).
               laws.fragments.unused_slot_gains_no_move (Recovering AnyUses port) (λ uses. uses) uses q o old new tt (spares_other laws port q Ci apart) (spares_other laws port q Sact apart) own none g.is_simulated.is_simulated agreed;
         };
       }
@@ -123,7 +123,7 @@ module _ (laws : Laws) where
       Recovers port outstanding queued (record { failed = None; again = outstanding; next = Dead }) old new
   is_stuck port outstanding queued old new on may g = record {
     handling = mends_stuck port outstanding queued old new on g;
-    tells = record { queued_running_names_one = λ token is run. absurd cc; plain_is_named = λ is set alive. absurd (alive refl); restart_is_explained = λ token run. absurd cc };
+    tells = record { queued_running_names_one = λ token is run. absurd cc; plain_is_named_unless_dead = λ is set alive. absurd (alive refl); restart_is_explained = λ token run. absurd cc };
   }
 
   module _ (port : Port) (outstanding : ℕ) (queued : Bool) (before after : ℕ) (old d : Device) (r : IsStoppedAndCleared port outstanding queued before after old d) where
@@ -133,7 +133,7 @@ module _ (laws : Laws) where
     -- what a recovery leaves, however it ends
     leaves : (next : Next) (new : Device) → Goes port old new → EndsAsNext queued port next old new → (SomeMachineAgreesWith (λ uses. uses port.0 0 ≡ Own Identify → ⊥) old → GainsNoMove port.0 Identify old new) →
         ((q : Port) (o : Operation) → q.0 ≢ port.0 → client_operation_of o ≡ None → SomeMachineAgreesWith (λ uses. uses q.0 0 ≡ Own o → ⊥) old → GainsNoMove q.0 o old new) → IsLeftByRecovery port queued next old new
-    leaves next new w ends silent others = record { ends_as_next = ends; sctl_det_is_kept = w.det; sctl_time_is_kept = w.written; ie_is_kept = w.enabled; no_identify_moves = silent; other_ports_move_no_page = others }
+    leaves next new w ends silent others = record { ends_as_next = ends; sctl_det_is_kept = w.det; sctl_time_is_kept = w.written; ie_is_kept = w.enabled; no_identify_moves = silent; other_ports_move_no_unasked_page = others }
 
     -- ---- its disk is busy
 
@@ -154,13 +154,13 @@ module _ (laws : Laws) where
               splits_outstanding = parts;
               failure_is_backed = rests;
               dead_names_none = λ e. absurd cc;
-              restart_names_none = λ at is run. unnamed is;
+              queued_restart_names_none = λ at is run. unnamed is;
             };
             leaves = leaves (Restart token) d went (names, r.stops_and_clears.receives.stopped) r.stops_and_clears.no_identify_moves (silent_others laws port outstanding queued before after old d r (λ uses. uses) d b);
           };
           tells = record {
             queued_running_names_one = λ at is run. absurd cc;
-            plain_is_named = λ is set alive. named is set;
+            plain_is_named_unless_dead = λ is set alive. named is set;
             restart_is_explained = λ at run. inl (
               All-append (DoesNotWrite (Px port Ci)) r.stops_and_clears.stops.is_simulated.is_driven.accesses b.is_driven.accesses r.stops_and_clears.stops.accesses_are_such.2 (quieted_told laws port outstanding queued before after old d r).accesses_are_such,
               λ idle. absurd (true≢false (sym occupied ∙ (ap (λ (v : ℕ). bit v 7 || bit v 3) (sym r.stops_and_clears.last_tfd_is) ∙ idle))),
@@ -199,13 +199,13 @@ module _ (laws : Laws) where
             splits_outstanding = parts;
             failure_is_backed = rests;
             dead_names_none = λ e. absurd cc;
-            restart_names_none = λ at on run. absurd cc;
+            queued_restart_names_none = λ at on run. absurd cc;
           };
           leaves = leaves (Running token) start goes_start (names, runs_plain laws port outstanding queued before after old d r went start s starting goes_start is) silent_start (silent_others laws port outstanding queued before after old d r (λ uses. uses) start b_start);
         };
         tells = record {
           queued_running_names_one = λ at on run. absurd (true≢false (sym on ∙ is));
-          plain_is_named = λ off set alive. named set;
+          plain_is_named_unless_dead = λ off set alive. named set;
           restart_is_explained = λ at run. absurd cc;
         };
       }
@@ -262,14 +262,14 @@ module _ (laws : Laws) where
                     tells = tells;
                   });
                   dead_names_none = λ e. absurd cc;
-                  restart_names_none = λ at is run. absurd cc;
+                  queued_restart_names_none = λ at is run. absurd cc;
                 };
                 leaves = leaves (Running token) log w
                     (names, runs_queued laws port outstanding queued before after old d r went start log s starting l (asking (λ uses. uses) a) (recovers_asked (λ uses. uses) a) brings.slot_is_clear.over running on) silent_now (silent_others laws port outstanding queued before after old d r (λ uses. uses) log b);
               };
               tells = record {
                 queued_running_names_one = λ at is run e. absurd cc;
-                plain_is_named = λ off. absurd (true≢false (sym on ∙ off));
+                plain_is_named_unless_dead = λ off. absurd (true≢false (sym on ∙ off));
                 restart_is_explained = λ at run. absurd cc;
               };
             }
@@ -298,7 +298,7 @@ module _ (laws : Laws) where
 
           -- the page that came is the last one still
           still_last : (page : List ℕ) → BringsLastPage port.0 ReadLog (length start.tape) page log → IsSimulated (IsPageAccess port) (IsUnused port.0 0) start log → IsDrivenBy (ReadsPortOrWrites IsCommandRegister port) log new →
-              BringsLog port old new page
+              BringsLastLogPage port old new page
           still_last page brings a c =
               let w = goes laws port outstanding queued before after old d r (λ uses. uses) log (b_log a) in
               let runs = asked_running laws port.0 start log s.runs l brings.slot_is_clear.over in
@@ -312,7 +312,7 @@ module _ (laws : Laws) where
 
           -- the engine stopped: the port has to be booted
           stopped : (token : stopped_token.Stopped) → token.port ≡ port → (b : IsSimulated (IsRecoveryAccess port) (λ uses. AllFree uses port.0) r.stops_and_clears.stopped new) → PortStops port log new →
-              (StopsThenWaits port (total laws port outstanding queued before after old d r (λ uses. uses) new b) new ⊎ ((page : List ℕ) × BringsLog port old new page × (NamesNoQueuedCommand page ⊎ NamesUnknownSlot outstanding page))) →
+              (StopsThenWaits port (total laws port outstanding queued before after old d r (λ uses. uses) new b) new ⊎ ((page : List ℕ) × BringsLastLogPage port old new page × (NamesNoQueuedCommand page ⊎ NamesSlotNotOutstanding outstanding page))) →
               (SomeMachineAgreesWith (λ uses. uses port.0 0 ≡ Own Identify → ⊥) old → GainsNoMove port.0 Identify old new) →
               Recovers port outstanding queued (record { failed = None; again = outstanding; next = Restart token }) old new
           stopped token names b halts why silent = record {
@@ -327,13 +327,13 @@ module _ (laws : Laws) where
                 splits_outstanding = all_go_again outstanding;
                 failure_is_backed = tt;
                 dead_names_none = λ e. absurd cc;
-                restart_names_none = λ at is run. refl;
+                queued_restart_names_none = λ at is run. refl;
               };
               leaves = leaves (Restart token) new (goes laws port outstanding queued before after old d r (λ uses. uses) new b) (names, halts.stopped) silent (silent_others laws port outstanding queued before after old d r (λ uses. uses) new b);
             };
             tells = record {
               queued_running_names_one = λ at is run. absurd cc;
-              plain_is_named = λ off. absurd (true≢false (sym on ∙ off));
+              plain_is_named_unless_dead = λ off. absurd (true≢false (sym on ∙ off));
               restart_is_explained = λ at run. inr (on, why);
             };
           }
@@ -353,7 +353,7 @@ module _ (laws : Laws) where
                 accesses_are = refl;
                 stopped = r.stops_and_clears.stops.accesses_are_such.1;
                 waits_in_vain = subst (WaitsForSlot0InVain port) (sym o.accesses_are_such) t.accesses_are_such;
-                command_count_is_full = ap (λ (n : Notes). n.slot0_issued_count) has.other_notes_are_kept ∙ count;
+                slot0_issued_count_is_full = ap (λ (n : Notes). n.slot0_issued_count) has.other_notes_are_kept ∙ count;
               })) (vain_silent a.is_simulated halts.is_simulated.is_simulated)
           restarts token names has halts (inr (page, (brings, a), why)) =
               let b = (told_both laws (λ made. Unit {0}) (Stops port) (λ made. Unit {0}) (λ early late w is. tt) (Recovering PortUnused port) (Controlling CommandRegister AnyUses port)
@@ -383,13 +383,13 @@ module _ (laws : Laws) where
                   splits_outstanding = all_go_again outstanding;
                   failure_is_backed = tt;
                   dead_names_none = λ e. refl;
-                  restart_names_none = λ at is run. absurd cc;
+                  queued_restart_names_none = λ at is run. absurd cc;
                 };
                 leaves = leaves Dead new (goes laws port outstanding queued before after old d r next new t.is_simulated) (has.st_is_clear, fails.stuck_is_backed) silent (silent_others laws port outstanding queued before after old d r next new t.is_simulated);
               };
               tells = record {
                 queued_running_names_one = λ at is run. absurd cc;
-                plain_is_named = λ off set alive. absurd (alive refl);
+                plain_is_named_unless_dead = λ off set alive. absurd (alive refl);
                 restart_is_explained = λ at run. absurd cc;
               };
             }

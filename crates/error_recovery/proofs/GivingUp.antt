@@ -17,7 +17,7 @@ use Rattle.error_recovery.specs.Laws.SlotCondition.{AnyUses, PortUnused}
 use Rattle.error_recovery.specs.Laws.RegisterSet.{CommandRegister}
 use Rattle.error_recovery.specs.Laws.AccessPurpose.{Controlling, Recovering}
 use Rattle.error_recovery.specs.RecoveryParts.{StopGetsStuck}
-use Rattle.error_recovery.specs.Recovery.{StopsForReset, IsRecoveryAccess}
+use Rattle.error_recovery.specs.Recovery.{StopsOrSticksForReset, IsRecoveryAccess}
 use Rattle.error_recovery.proofs.Finishing.{accesses_stuck, all_go_again, mends_stuck}
 use Rattle.error_recovery.proofs.Going.{Goes, goes_over}
 use Rattle.error_recovery.proofs.Quieting.{commands_silent}
@@ -26,7 +26,7 @@ use Rattle.error_recovery.proofs.Whole.{spares_other}
 
 module _ (laws : Laws) (port : Port) (outstanding : ℕ) (queued : Bool) (old new : Device) (on : IsOn old) where
   -- its engine is stuck
-  pub gives_up_stuck : ClearsStAlone (old.port port.0) (new.port port.0) → FailsToStopPort port old new → StopsForReset port outstanding queued (record { failed = None; again = outstanding; next = Dead }) old new
+  pub gives_up_stuck : ClearsStAlone (old.port port.0) (new.port port.0) → FailsToStopPort port old new → StopsOrSticksForReset port outstanding queued (record { failed = None; again = outstanding; next = Dead }) old new
   gives_up_stuck has fails = record {
     handling = mends_stuck laws port outstanding queued old new on gets;
     only_cmd_is_written = subst (All (ReadsPortOrWrites IsCommandRegister port)) (sym (accesses_stuck laws port outstanding queued old new on gets)) (only_commands laws (EngineSticks port) AnyUses port old new sticks);
@@ -47,7 +47,7 @@ module _ (laws : Laws) (port : Port) (outstanding : ℕ) (queued : Bool) (old ne
       }
 
   -- or it was stopped
-  pub gives_up_stopped : (token : stopped_token.Stopped) → token.port ≡ port → PortStops port old new → StopsForReset port outstanding queued (record { failed = None; again = outstanding; next = Restart token }) old new
+  pub gives_up_stopped : (token : stopped_token.Stopped) → token.port ≡ port → PortStops port old new → StopsOrSticksForReset port outstanding queued (record { failed = None; again = outstanding; next = Restart token }) old new
   gives_up_stopped token names halts = record {
     handling = record {
       accesses = t.is_simulated.is_driven.accesses ++ rest.is_simulated.is_driven.accesses;
@@ -56,14 +56,14 @@ module _ (laws : Laws) (port : Port) (outstanding : ℕ) (queued : Bool) (old ne
         slots_after = laws.fragments.parts_join_by_giving_up (Recovering AnyUses port) (Recovering PortUnused port) (λ uses. uses) port.0 old new new t.is_simulated halts.stopped.engine_is_stopped (λ uses free. free) rest.is_simulated;
         tells_engine_outcome = laws.falls_with_later_accesses t.is_simulated.is_driven.accesses rest.is_simulated.is_driven.accesses 0 15 port t.accesses_are_such;
       };
-      tells = record { splits_outstanding = all_go_again outstanding; failure_is_backed = tt; dead_names_none = λ e. absurd cc; restart_names_none = λ at is run. refl };
+      tells = record { splits_outstanding = all_go_again outstanding; failure_is_backed = tt; dead_names_none = λ e. absurd cc; queued_restart_names_none = λ at is run. refl };
       leaves = record {
         ends_as_next = (names, halts.stopped);
         sctl_det_is_kept = went.det;
         sctl_time_is_kept = went.written;
         ie_is_kept = went.enabled;
         no_identify_moves = λ (uses, none, agreed). commands_silent laws port uses old new halts.is_simulated.is_simulated agreed none;
-        other_ports_move_no_page = λ q o apart own (uses, none, agreed).
+        other_ports_move_no_unasked_page = λ q o apart own (uses, none, agreed).
             laws.fragments.unused_slot_gains_no_move (Recovering AnyUses port) (λ uses. uses) uses q o old new tt (spares_other laws port q Ci apart) (spares_other laws port q Sact apart) own none t.is_simulated agreed;
       };
     };
@@ -77,7 +77,7 @@ module _ (laws : Laws) (port : Port) (outstanding : ℕ) (queued : Bool) (old ne
       t = told_commands laws (Stops port) AnyUses port old new halts.is_simulated
 
       rest : IsSimulatedAlong (λ made. made ≡ []) (IsRecoveryAccess port) (λ uses. AllFree uses port.0) new new
-      rest = laws.fragments.no_access_is_simulated (Recovering PortUnused port) new
+      rest = laws.fragments.empty_fragment_is_simulated (Recovering PortUnused port) new
 
       went : Goes port old new
       went = goes_over laws port t.is_simulated.is_driven.accesses old new on t.is_simulated.is_driven.accesses_are_of_kind t.is_simulated.is_driven.all_are_done

@@ -19,7 +19,7 @@ use Rattle.refinement.specs.StartedPort.{ClearsNoStart}
 use Rattle.disk_page.specs.PageRequests.{IsPageAccess}
 use Rattle.error_recovery.specs.Laws.{Laws}
 use Rattle.error_recovery.specs.Laws.RegisterSet.{RecoveryRegisters}
-use Rattle.error_recovery.specs.Recovery.{IsRecoveryRegister, IsRecoveryAccess}
+use Rattle.error_recovery.specs.Recovery.{IsCmdSerrOrIs, IsRecoveryAccess}
 
 -- ---- which registers are spared
 
@@ -30,17 +30,17 @@ asking_spares port r other (Writing q v) is = λ (e : q ≡ Px port r). let both
 asking_spares port r other (Loading at bytes) is = tt
 asking_spares port r other (Storing at bytes) is = tt
 
-not_link : IsRecoveryRegister Sctl → ⊥
+not_link : IsCmdSerrOrIs Sctl → ⊥
 not_link (inl e) = absurd (let k : Sctl ≡ Cmd = e in cc)
 not_link (inr (inl e)) = absurd (let k : Sctl ≡ Serr = e in cc)
 not_link (inr (inr e)) = absurd (let k : Sctl ≡ Is = e in cc)
 
-not_enabled : IsRecoveryRegister Ie → ⊥
+not_enabled : IsCmdSerrOrIs Ie → ⊥
 not_enabled (inl e) = absurd (let k : Ie ≡ Cmd = e in cc)
 not_enabled (inr (inl e)) = absurd (let k : Ie ≡ Serr = e in cc)
 not_enabled (inr (inr e)) = absurd (let k : Ie ≡ Is = e in cc)
 
-not_active : IsRecoveryRegister Sact → ⊥
+not_active : IsCmdSerrOrIs Sact → ⊥
 not_active (inl e) = absurd (let k : Sact ≡ Cmd = e in cc)
 not_active (inr (inl e)) = absurd (let k : Sact ≡ Serr = e in cc)
 not_active (inr (inr e)) = absurd (let k : Sact ≡ Is = e in cc)
@@ -84,7 +84,7 @@ pub record Asks (port : Port) (old new : Device) : Type 0 where
   pub runs : NoPlugEvents port.0 old new → NoFatalErrors port.0 old new → RunsLinked (old.port port.0) → RunsLinked (new.port port.0)
 
 module _ (laws : Laws) where
-  recovering_spares : (port : Port) (r : PortReg) → (IsRecoveryRegister r → ⊥) → r ≢ Ci → (access : Access) → IsRecoveryAccess port access → DoesNotWrite (Px port r) access
+  recovering_spares : (port : Port) (r : PortReg) → (IsCmdSerrOrIs r → ⊥) → r ≢ Ci → (access : Access) → IsRecoveryAccess port access → DoesNotWrite (Px port r) access
   recovering_spares port r not_written other access (inl is) = laws.control_spares_other_registers RecoveryRegisters port r not_written access is
   recovering_spares port r not_written other access (inr is) = asking_spares port r other access is
 
@@ -149,8 +149,8 @@ module _ (laws : Laws) where
         det = (c.control link).0;
         written = (c.control link).1;
         enabled = c.interrupt_enable enabled;
-        undue = λ h. laws.tape.access_makes_no_link_due port access old new on.no_reset h link does;
-        changes = λ h. laws.tape.access_raises_by_disks port access old new on.no_reset h does;
+        undue = λ h. laws.tape.access_but_sctl_write_makes_no_link_due port access old new on.no_reset h link does;
+        changes = λ h. laws.tape.access_raises_link_errors_by_disks port access old new on.no_reset h does;
         linked = λ none h. laws.access_keeps_linked port access old new on.no_reset link none does h;
       }
 

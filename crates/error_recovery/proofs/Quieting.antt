@@ -11,7 +11,7 @@ use Rattle.adapter.specs.Device.{Device, Notes}
 use Rattle.adapter.specs.declared.command.Operation.TheVariants.{Identify}
 use Rattle.refinement.specs.Fragments.{SomeMachineAgreesWith, AnySlotStates, SomeMachineAgrees, ReadsPortOrWrites, IsSimulated, IsSimulatedAlong, NoneWrites, GainsNoMove, IsDrivenBy}
 use Rattle.refinement.specs.Driver.{AllFree}
-use Rattle.refinement.specs.HaltRecovery.{WorksPlainly}
+use Rattle.refinement.specs.HaltRecovery.{WorksOnUnqueuedCommandsOnly}
 use Rattle.refinement.specs.Slots.{Free, Own, SlotStates}
 use Rattle.port_control.specs.Engines.{FailsToStop, EngineSticks, Stops}
 use Rattle.port_control.specs.Ports.{FailsToStopPort, ClearsErrorState, PortStops, ClearsStAlone, IsSerrOrIs, IsStoppedReceiving, IsCommandRegister}
@@ -19,12 +19,12 @@ use Rattle.error_recovery.specs.Laws.{Laws}
 use Rattle.error_recovery.specs.Laws.RegisterSet.{CommandRegister, ErrorRegisters}
 use Rattle.error_recovery.specs.Laws.AccessPurpose.{Controlling, Recovering}
 use Rattle.error_recovery.specs.Laws.SlotCondition.{AnyUses, PortUnused}
-use Rattle.error_recovery.specs.RecoveryParts.{StopGetsStuck, IsOnWithDriverMemory, StopsAndClears, ReadsTfdAndStops}
+use Rattle.error_recovery.specs.RecoveryParts.{StopGetsStuck, IsOnWithPortAndDriverMemory, StopsAndClears, ReadsTfdStopsAndIssuesNone}
 use Rattle.error_recovery.specs.Recovery.{IsRecoveryAccess, IssueNoCommand, PortMayRecover}
 use Rattle.error_recovery.proofs.Going.{Goes, goes_over, plugs_in_parts, spares_active}
 use Rattle.error_recovery.proofs.Stretching.{agreed_free, room_after, told_both, told_commands, told_wider, clears_recover}
 
-reads_and_stops : (port : Port) (v : ℕ) (early late : List Access) → early ≡ Reading (Px port Tfd) v ∷ [] → (Stops port late → Stops port (early ++ late)) → Stops port late → IssueNoCommand port late → ReadsTfdAndStops port v (early ++ late)
+reads_and_stops : (port : Port) (v : ℕ) (early late : List Access) → early ≡ Reading (Px port Tfd) v ∷ [] → (Stops port late → Stops port (early ++ late)) → Stops port late → IssueNoCommand port late → ReadsTfdStopsAndIssuesNone port v (early ++ late)
 reads_and_stops port v early late is since stops none = (
   record { rest = late; accesses_are = ap (λ (made : List Access). made ++ late) is },
   since stops,
@@ -65,13 +65,13 @@ module _ (laws : Laws) where
       no_arm (inr e) = absurd cc
 
   -- plain work goes on over any accesses of a recovery
-  pub plain_over : (port : Port) (uses : SlotStates) (old new : Device) → IsSimulated (IsRecoveryAccess port) AnySlotStates old new → SomeMachineAgrees uses old → WorksPlainly (old.port port.0) → WorksPlainly (new.port port.0)
+  pub plain_over : (port : Port) (uses : SlotStates) (old new : Device) → IsSimulated (IsRecoveryAccess port) AnySlotStates old new → SomeMachineAgrees uses old → WorksOnUnqueuedCommandsOnly (old.port port.0) → WorksOnUnqueuedCommandsOnly (new.port port.0)
   plain_over port uses old new a agreed =
       laws.fragments.works_plainly_still (Recovering AnyUses port) (λ uses. uses) uses port old new tt (spares_active laws port) a agreed
 
   -- also while it is started
   pub commands_plain : (port : Port) (old new : Device) → IsSimulated (ReadsPortOrWrites IsCommandRegister port) (λ uses. AllFree uses port.0) old new → SomeMachineAgreesWith (λ uses. AllFree uses port.0) old →
-      WorksPlainly (old.port port.0) → WorksPlainly (new.port port.0)
+      WorksOnUnqueuedCommandsOnly (old.port port.0) → WorksOnUnqueuedCommandsOnly (new.port port.0)
   commands_plain port old new a (uses, free, agreed) = laws.fragments.works_plainly_still (Controlling CommandRegister PortUnused port) (λ uses. uses) uses port old new free (commanding_arms port) a agreed
 
   pub starting_silent : (port : Port) (old new : Device) → IsSimulated (ReadsPortOrWrites IsCommandRegister port) (λ uses. AllFree uses port.0) old new → SomeMachineAgreesWith (λ uses. AllFree uses port.0) old →
@@ -80,7 +80,7 @@ module _ (laws : Laws) where
       laws.fragments.unused_slot_gains_no_move (Controlling CommandRegister PortUnused port) (λ uses. uses) uses port Identify old new free (commanding_issues port) (commanding_arms port) refl
       (λ own. let e : Free ≡ Own Identify = sym (free 0) ∙ own in absurd cc) a agreed
 
-  module _ (port : Port) (v : ℕ) (old at : Device) (room : IsOnWithDriverMemory port.0 old) (may : PortMayRecover port.0 old) (agreed : SomeMachineAgreesWith AnySlotStates old) (read : Reads (Px port Tfd) v old at) where
+  module _ (port : Port) (v : ℕ) (old at : Device) (room : IsOnWithPortAndDriverMemory port.0 old) (may : PortMayRecover port.0 old) (agreed : SomeMachineAgreesWith AnySlotStates old) (read : Reads (Px port Tfd) v old at) where
     reading : IsSimulatedAlong (λ made. made ≡ Reading (Px port Tfd) v ∷ []) (ReadsPortOrWrites IsCommandRegister port) AnySlotStates old at
     reading = laws.fragments.reads (Controlling CommandRegister AnyUses port) (Px port Tfd) v old at refl read
 
@@ -90,7 +90,7 @@ module _ (laws : Laws) where
     goes : Goes port old at
     goes = goes_over laws port wide.is_simulated.is_driven.accesses old at room.adapter_is_on wide.is_simulated.is_driven.accesses_are_of_kind wide.is_simulated.is_driven.all_are_done
 
-    pub read_room : IsOnWithDriverMemory port.0 at
+    pub read_room : IsOnWithPortAndDriverMemory port.0 at
     read_room = room_after laws (IsRecoveryAccess port) port.0 old at wide.is_simulated.is_driven goes.on room
 
     pub read_agreed : SomeMachineAgreesWith AnySlotStates at
@@ -119,19 +119,19 @@ module _ (laws : Laws) where
     -- ---- or it was stopped
 
     module _ (mid : Device) (has : ClearsStAlone (at.port port.0) (mid.port port.0)) (halts : PortStops port at mid) where
-      stopping : IsSimulatedAlong (ReadsTfdAndStops port v) (ReadsPortOrWrites IsCommandRegister port) AnySlotStates old mid
-      stopping = told_both laws (λ made. made ≡ Reading (Px port Tfd) v ∷ []) (λ made. Stops port made × IssueNoCommand port made) (ReadsTfdAndStops port v)
+      stopping : IsSimulatedAlong (ReadsTfdStopsAndIssuesNone port v) (ReadsPortOrWrites IsCommandRegister port) AnySlotStates old mid
+      stopping = told_both laws (λ made. made ≡ Reading (Px port Tfd) v ∷ []) (λ made. Stops port made × IssueNoCommand port made) (ReadsTfdStopsAndIssuesNone port v)
           (λ early late is stops. reads_and_stops port v early late is (laws.falls_with_earlier_accesses early late 0 15 port) stops.0 stops.1)
           (Controlling CommandRegister AnyUses port) (Controlling CommandRegister AnyUses port) (λ uses. uses) (λ uses. uses) (λ access is. is) (λ uses fits. fits) old at mid reading
           (record { is_simulated = halts.is_simulated.is_simulated; accesses_are_such = (halts.is_simulated.accesses_are_such, unissued (ReadsPortOrWrites IsCommandRegister port) (commanding_issues port) halts.is_simulated.is_simulated.is_driven) })
 
-      stops : IsSimulatedAlong (ReadsTfdAndStops port v) (IsRecoveryAccess port) AnySlotStates old mid
-      stops = told_commands laws (ReadsTfdAndStops port v) AnyUses port old mid stopping
+      stops : IsSimulatedAlong (ReadsTfdStopsAndIssuesNone port v) (IsRecoveryAccess port) AnySlotStates old mid
+      stops = told_commands laws (ReadsTfdStopsAndIssuesNone port v) AnyUses port old mid stopping
 
       goes_mid : Goes port old mid
       goes_mid = goes_over laws port stops.is_simulated.is_driven.accesses old mid room.adapter_is_on stops.is_simulated.is_driven.accesses_are_of_kind stops.is_simulated.is_driven.all_are_done
 
-      pub stopped_room : IsOnWithDriverMemory port.0 mid
+      pub stopped_room : IsOnWithPortAndDriverMemory port.0 mid
       stopped_room = room_after laws (IsRecoveryAccess port) port.0 old mid stops.is_simulated.is_driven goes_mid.on room
 
       stopped_uses : SomeMachineAgrees agreed.0 mid
@@ -174,20 +174,20 @@ module _ (laws : Laws) where
           stopped = mid;
           stops = stops;
           engine_is_stopped = halts.stopped.engine_is_stopped;
-          clears_errors = forgets;
+          issues_none_after_stop = forgets;
           receives = f.receives;
           no_comreset = goes_new.det ∙ stopped_det;
           last_tfd_is = f.last_tfd_is;
           link_was_seen = ap (λ (n : ℕ). n % 16) (f.last_ssts_is_kept ∙ (ap (λ (n : Notes). n.last_ssts) has.other_notes_are_kept ∙ same_link.0)) ∙ may.link_was_seen;
-          link_count_is_kept = f.link_count_is_kept ∙ (ap (λ (n : Notes). n.link_wait_count) has.other_notes_are_kept ∙ same_link.1);
+          link_wait_count_is_kept = f.link_wait_count_is_kept ∙ (ap (λ (n : Notes). n.link_wait_count) has.other_notes_are_kept ∙ same_link.1);
           no_cause_is_set = f.no_cause_is_set;
-          errors_are_clear = record {
-            serr_n_is_clear = λ none. f.errors_are_clear.serr_n_is_clear (plugs_in_parts laws port.0 old mid new goes_mid.grows goes_new.grows none).1;
-            serr_x_is_clear = λ none. f.errors_are_clear.serr_x_is_clear (laws.tape.no_disk_comes_in_parts port.0 old mid new goes_mid.grows.0 goes_new.grows.0 goes_mid.grows.1 goes_new.grows.1 none).1;
+          serr_shows_only_new_plugs = record {
+            serr_n_is_clear = λ none. f.serr_shows_only_new_plugs.serr_n_is_clear (plugs_in_parts laws port.0 old mid new goes_mid.grows goes_new.grows none).1;
+            serr_x_is_clear = λ none. f.serr_shows_only_new_plugs.serr_x_is_clear (laws.tape.no_disk_comes_in_parts port.0 old mid new goes_mid.grows.0 goes_new.grows.0 goes_mid.grows.1 goes_new.grows.1 none).1;
           };
           is_clean_to_start = f.is_clean_to_start;
           machine_is_related = free;
-          works_plainly = λ plain. plain_over port agreed.0 mid new forgets.is_simulated stopped_uses (plain_over port agreed.0 old mid stops.is_simulated agreed.2 plain);
+          plain_port_stays_plain = λ plain. plain_over port agreed.0 mid new forgets.is_simulated stopped_uses (plain_over port agreed.0 old mid stops.is_simulated agreed.2 plain);
           no_identify_moves = λ (uses, none, here).
               laws.no_moves_compose port.0 Identify old mid new (commands_silent port uses old mid stopping.is_simulated here none)
               (clears_silent port uses mid new followed (laws.fragments.some_machine_agrees (Recovering AnyUses port) (λ uses. uses) uses old mid tt stops.is_simulated here) none);

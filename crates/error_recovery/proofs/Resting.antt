@@ -17,7 +17,7 @@ use Rattle.refinement.specs.Fragments.{TapeGrows, GainsNoMove}
 use Rattle.refinement.specs.PreservedParts.{DoesNotWrite}
 use Rattle.refinement.specs.Slots.{IsMove}
 use Rattle.disk_page.specs.PageRequests.{BringsLastPage}
-use Rattle.error_recovery.specs.Evidence.{BringsLog, HasFailed}
+use Rattle.error_recovery.specs.Evidence.{BringsLastLogPage, HasFailed}
 use Rattle.error_recovery.specs.Laws.{Laws}
 use Rattle.error_recovery.specs.Laws.SlotCondition.{AnyUses}
 use Rattle.error_recovery.specs.Laws.AccessPurpose.{Recovering}
@@ -37,7 +37,7 @@ longer old new (gained, is) = let n = ap (λ (es : List Entry). length es) is �
 
 -- the last page of the log that came is the last that a longer stretch brought, where none came later
 pub brings_log : (port : Port) (old start asked new : Device) (page : List ℕ) → TapeGrows old start → TapeGrows old asked → BringsLastPage port.0 ReadLog (length start.tape) page asked → GainsNoMove port.0 ReadLog asked new →
-    BringsLog port old new page
+    BringsLastLogPage port old new page
 brings_log port old start asked new page early whole b (gained, later, none) =
     let w = b.page_stands in
     let le = longer old start early in

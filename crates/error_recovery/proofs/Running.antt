@@ -15,7 +15,7 @@ use Rattle.refinement.specs.PortFacts.{RecordsFaults, IsFaultOf, IsFaulted}
 use Rattle.refinement.specs.PreservedParts.{IsPlugEvent}
 use Rattle.refinement.specs.Slots.{IsOver}
 use Rattle.disk_page.specs.PageRequests.{LeavesPortWhileAsking}
-use Rattle.port_control.specs.Ports.{RunsWithoutCommands}
+use Rattle.port_control.specs.Ports.{RunsInPlaceWithoutCommands}
 use Rattle.error_recovery.specs.Evidence.{GainsSinceStart, ShowsFatal, HidesNoTrouble}
 use Rattle.error_recovery.specs.Laws.{Laws}
 use Rattle.error_recovery.specs.RecoveryParts.{StartsAgain, IsStoppedAndCleared}
@@ -82,7 +82,7 @@ shows_trouble port old start new set a = record {
   plug_is_shown = λ g. set_unless_clear (new.port port.0).serr_n (λ clear. let n = (a.disk clear).1 in gained_since (IsPlugEvent port.0) port.0 old start new set n.new_entries n.tape_is n.no_such_entry g);
 }
 
-pub no_command : (port : ℕ) (p : DevicePort) → RunsWithoutCommands port p → HasNoCommand p
+pub no_command : (port : ℕ) (p : DevicePort) → RunsInPlaceWithoutCommands port p → HasNoCommand p
 no_command port p runs slot = record { is_not_issued = runs.ci_is_clear slot; is_not_taken = runs.none_is_taken slot }
 
 -- ST was set at such a moment
@@ -91,7 +91,7 @@ since_set port old at new grows set =
     let n = ap (λ (es : List Entry). length es) grows.1 ∙ length-append old.tape grows.0 in omega (arith, n, set)
 
 -- a port that runs with no command, and had its log read
-pub asked_running : (laws : Laws) (port : ℕ) (start new : Device) → RunsWithoutCommands port (start.port port) → LeavesPortWhileAsking port start new → IsOver (new.port port) 0 → RunsWithoutCommands port (new.port port)
+pub asked_running : (laws : Laws) (port : ℕ) (start new : Device) → RunsInPlaceWithoutCommands port (start.port port) → LeavesPortWhileAsking port start new → IsOver (new.port port) 0 → RunsInPlaceWithoutCommands port (new.port port)
 asked_running laws port start new runs l over =
     let none = laws.asking_leaves_no_command port start new l (no_command port (start.port port) runs) over in
     record {
@@ -112,7 +112,7 @@ module _ (laws : Laws) (port : Port) (outstanding : ℕ) (queued : Bool) (before
     nothing_came Is g =
         let n = ap (λ (es : List Entry). length es) g.tape_grows ∙ length-append old.tape (g.before ++ g.entry ∷ g.later) in
         let m = length-append g.before (g.entry ∷ g.later) in
-        let set = s.st_set_is_last in
+        let set = s.tape_is_as_at_st_set in
         let since = g.came_since_start in
         omega (arith, n, m, set, since)
 
@@ -120,12 +120,12 @@ module _ (laws : Laws) (port : Port) (outstanding : ℕ) (queued : Bool) (before
     runs_plain is = record {
       runs = s.runs;
       faults_are_on_record = s.faults_are_on_record;
-      st_set_in_call = since_set port old new new whole.grows (s.st_set_is_last);
-      link_count_is_kept = ap (λ (n : Notes). n.link_wait_count) s.other_notes_are_kept.1 ∙ r.stops_and_clears.link_count_is_kept;
+      st_set_in_call = since_set port old new new whole.grows (s.tape_is_as_at_st_set);
+      link_wait_count_is_kept = ap (λ (n : Notes). n.link_wait_count) s.other_notes_are_kept.1 ∙ r.stops_and_clears.link_wait_count_is_kept;
       queued_halt_ends = λ on. absurd (true≢false (sym on ∙ is));
-      works_plainly = λ _ plain. commands_plain laws port d new s.starts r.stops_and_clears.machine_is_related (r.stops_and_clears.works_plainly plain);
+      plain_port_stays_plain = λ _ plain. commands_plain laws port d new s.starts r.stops_and_clears.machine_is_related (r.stops_and_clears.plain_port_stays_plain plain);
       is_not_log_only = λ plain log.
-          let w = commands_plain laws port d new s.starts r.stops_and_clears.machine_is_related (r.stops_and_clears.works_plainly (plain is)) in
+          let w = commands_plain laws port d new s.starts r.stops_and_clears.machine_is_related (r.stops_and_clears.plain_port_stays_plain (plain is)) in
           let e : LogOnly ≡ NotHalted = ap halt_after_start (sym log) ∙ w.start_ends_halt in absurd cc;
       hides_no_trouble = record {
         fault_is_shown = λ g. absurd (nothing_came (IsFaultOf port.0) g);
@@ -134,12 +134,12 @@ module _ (laws : Laws) (port : Port) (outstanding : ℕ) (queued : Bool) (before
       };
       port_runs_well = λ none calm linked plain.
           let n = plugs_in_parts laws port.0 old d new first.grows then.grows none in
-          let up = laws.linked_plain_port_is_up (d.port port.0) (first.linked n.0 linked) (r.stops_and_clears.works_plainly (plain is)) in
+          let up = laws.linked_plain_port_is_up (d.port port.0) (first.linked n.0 linked) (r.stops_and_clears.plain_port_stays_plain (plain is)) in
           laws.started_quiet_port_runs_well (new.port port.0) (s.port_is_started up n.1)
           (record {
-            serr_n_is_clear = s.errors_change_by_disks.serr_n_rises_by_plug_events n.1 (r.stops_and_clears.errors_are_clear.serr_n_is_clear n.0);
-            serr_x_is_clear = s.errors_change_by_disks.serr_x_rises_by_disk_coming (laws.tape.no_plug_event_no_disk port.0 d new n.1) (r.stops_and_clears.errors_are_clear.serr_x_is_clear (laws.tape.no_plug_event_no_disk port.0 old d n.0));
-            no_error_bit_is_set = λ place from to. s.no_cause_rises place (r.stops_and_clears.no_cause_is_set place (omega (arith, to)));
+            serr_n_is_clear = s.errors_change_by_disks.serr_n_rises_by_plug_events n.1 (r.stops_and_clears.serr_shows_only_new_plugs.serr_n_is_clear n.0);
+            serr_x_is_clear = s.errors_change_by_disks.serr_x_rises_by_disk_coming (laws.tape.no_plug_event_no_disk port.0 d new n.1) (r.stops_and_clears.serr_shows_only_new_plugs.serr_x_is_clear (laws.tape.no_plug_event_no_disk port.0 old d n.0));
+            bits_27_to_30_are_clear = λ place from to. s.no_cause_rises place (r.stops_and_clears.no_cause_is_set place (omega (arith, to)));
           });
     }
 
@@ -147,7 +147,7 @@ module _ (laws : Laws) (port : Port) (outstanding : ℕ) (queued : Bool) (before
 
   module _ (start new : Device) (s : StartsAgain port d start) (then : Goes port d start) (l : LeavesPortWhileAsking port.0 start new) (a : Asks port start new) (later : Goes port start new)
       (over : IsOver (new.port port.0) 0) (running : (new.port port.0).halt ≡ NotHalted) where
-    runs : RunsWithoutCommands port.0 (new.port port.0)
+    runs : RunsInPlaceWithoutCommands port.0 (new.port port.0)
     runs = asked_running laws port.0 start new s.runs l over
 
     recorded : RecordsFaults new.tape (new.port port.0) port.0
@@ -175,23 +175,23 @@ module _ (laws : Laws) (port : Port) (outstanding : ℕ) (queued : Bool) (before
     runs_queued is = record {
       runs = runs;
       faults_are_on_record = recorded;
-      st_set_in_call = since_set port old start new (laws.tape.growth_is_transitive old d start first.grows then.grows) (ap (λ (n : Notes). n.st_set_at) l.other_notes_are_kept ∙ s.st_set_is_last);
-      link_count_is_kept = ap (λ (n : Notes). n.link_wait_count) l.other_notes_are_kept ∙ (ap (λ (n : Notes). n.link_wait_count) s.other_notes_are_kept.1 ∙ r.stops_and_clears.link_count_is_kept);
+      st_set_in_call = since_set port old start new (laws.tape.growth_is_transitive old d start first.grows then.grows) (ap (λ (n : Notes). n.st_set_at) l.other_notes_are_kept ∙ s.tape_is_as_at_st_set);
+      link_wait_count_is_kept = ap (λ (n : Notes). n.link_wait_count) l.other_notes_are_kept ∙ (ap (λ (n : Notes). n.link_wait_count) s.other_notes_are_kept.1 ∙ r.stops_and_clears.link_wait_count_is_kept);
       queued_halt_ends = λ _. running;
-      works_plainly = λ off. absurd (true≢false (sym is ∙ off));
+      plain_port_stays_plain = λ off. absurd (true≢false (sym is ∙ off));
       is_not_log_only = λ plain log. let e : LogOnly ≡ NotHalted = sym log ∙ running in absurd cc;
-      hides_no_trouble = shows_trouble port old start new (ap (λ (n : Notes). n.st_set_at) l.other_notes_are_kept ∙ s.st_set_is_last) a;
+      hides_no_trouble = shows_trouble port old start new (ap (λ (n : Notes). n.st_set_at) l.other_notes_are_kept ∙ s.tape_is_as_at_st_set) a;
       port_runs_well = λ none calm linked plain.
           let n = plugs_in_parts laws port.0 old d new first.grows (laws.tape.growth_is_transitive d start new then.grows later.grows) none in
           let m = plugs_in_parts laws port.0 d start new then.grows later.grows n.1 in
           let unbroken : NoFatalErrors port.0 start new = record {
             new_entries = later.grows.0;
             tape_is = later.grows.1;
-            no_such_entry = none_since (IsFatalErrorOf port.0) port.0 old start new (laws.tape.growth_is_transitive old d start first.grows then.grows) (ap (λ (n : Notes). n.st_set_at) l.other_notes_are_kept ∙ s.st_set_is_last) calm [] later.grows.0 later.grows.1;
+            no_such_entry = none_since (IsFatalErrorOf port.0) port.0 old start new (laws.tape.growth_is_transitive old d start first.grows then.grows) (ap (λ (n : Notes). n.st_set_at) l.other_notes_are_kept ∙ s.tape_is_as_at_st_set) calm [] later.grows.0 later.grows.1;
           } in
           let c = later.changes (then.undue undue) in
-          laws.runs_well (new.port port.0) (a.runs m.1 unbroken (s.link_stays_up (first.linked n.0 linked) m.0)) running unflagged
-          (c.serr_n_rises_by_plug_events m.1 (s.errors_change_by_disks.serr_n_rises_by_plug_events m.0 (r.stops_and_clears.errors_are_clear.serr_n_is_clear n.0)))
-          (c.serr_x_rises_by_disk_coming (laws.tape.no_plug_event_no_disk port.0 start new m.1) (s.errors_change_by_disks.serr_x_rises_by_disk_coming (laws.tape.no_plug_event_no_disk port.0 d start m.0) (r.stops_and_clears.errors_are_clear.serr_x_is_clear (laws.tape.no_plug_event_no_disk port.0 old d n.0))))
+          laws.runs_well (new.port port.0) (a.runs m.1 unbroken (s.link_stays_up_without_plug_events (first.linked n.0 linked) m.0)) running unflagged
+          (c.serr_n_rises_by_plug_events m.1 (s.errors_change_by_disks.serr_n_rises_by_plug_events m.0 (r.stops_and_clears.serr_shows_only_new_plugs.serr_n_is_clear n.0)))
+          (c.serr_x_rises_by_disk_coming (laws.tape.no_plug_event_no_disk port.0 start new m.1) (s.errors_change_by_disks.serr_x_rises_by_disk_coming (laws.tape.no_plug_event_no_disk port.0 d start m.0) (r.stops_and_clears.serr_shows_only_new_plugs.serr_x_is_clear (laws.tape.no_plug_event_no_disk port.0 old d n.0))))
           (a.raises unbroken (λ place from to. s.no_cause_rises place (r.stops_and_clears.no_cause_is_set place (omega (arith, to)))));
     }

@@ -15,7 +15,7 @@ use Rattle.adapter.specs.declared.tape.Fault as tape_fault
 use Rattle.refinement.specs.Fragments.{TapeGrows, GainsNoMove}
 use Rattle.refinement.specs.PreservedParts.{DoesNotWrite}
 use Rattle.refinement.specs.Slots.{IsMove}
-use Rattle.error_recovery.specs.Evidence.{BringsLog, HasFailed}
+use Rattle.error_recovery.specs.Evidence.{BringsLastLogPage, HasFailed}
 use Rattle.error_recovery.specs.Laws.{Laws}
 
 module _ (laws : Laws) where
@@ -51,7 +51,7 @@ module _ (laws : Laws) where
         port_is = h.port_is;
       }
 
-pub log_stays : (port : Port) (start old new end : Device) (page : List ℕ) → TapeGrows start old → GainsNoMove port.0 ReadLog new end → BringsLog port old new page → BringsLog port start end page
+pub log_stays : (port : Port) (start old new end : Device) (page : List ℕ) → TapeGrows start old → GainsNoMove port.0 ReadLog new end → BringsLastLogPage port old new page → BringsLastLogPage port start end page
 log_stays port start old new end page (early, first) (late, last, none) b = record {
   new_entries = early ++ (b.new_entries ++ late);
   tape_grows = last

@@ -28,9 +28,9 @@ module _ (laws : Laws) where
         starts = followed;
         runs = s.runs;
         other_notes_are_kept = s.other_notes_are_kept;
-        st_set_is_last = s.st_set_is_last;
+        tape_is_as_at_st_set = s.tape_is_as_at_st_set;
         port_is_started = s.port_is_started;
-        link_stays_up = s.link_stays_up;
+        link_stays_up_without_plug_events = s.link_stays_up_without_plug_events;
         faults_are_on_record = s.faults_are_on_record may.is_clean_to_start s.runs.st_is_set;
         no_cause_rises = s.no_cause_rises;
         errors_change_by_disks = s.errors_change_by_disks may.is_clean_to_start.no_link_is_due;

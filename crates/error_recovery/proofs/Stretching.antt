@@ -19,8 +19,8 @@ use Rattle.port_control.specs.Ports.{IsSerrOrIs, IsCommandRegister}
 use Rattle.error_recovery.specs.Laws.{Laws, AccessPurpose, slot_uses_for, accesses_for, slot_uses_meeting, SlotCondition}
 use Rattle.error_recovery.specs.Laws.RegisterSet.{CommandRegister, ErrorRegisters, RecoveryRegisters}
 use Rattle.error_recovery.specs.Laws.AccessPurpose.{Controlling, Recovering}
-use Rattle.error_recovery.specs.RecoveryParts.{IsOnWithDriverMemory}
-use Rattle.error_recovery.specs.Recovery.{IsRecoveryRegister, IsRecoveryAccess}
+use Rattle.error_recovery.specs.RecoveryParts.{IsOnWithPortAndDriverMemory}
+use Rattle.error_recovery.specs.Recovery.{IsCmdSerrOrIs, IsRecoveryAccess}
 
 -- accesses of any kind
 pub any : (May : Access → Type 0) (old new : Device) → IsDrivenBy May old new → IsDrivenBy AnyAccess old new
@@ -45,10 +45,10 @@ module _ (laws : Laws) where
 
   -- ---- of the kind of recovery
 
-  commanding : (r : PortReg) → IsCommandRegister r → IsRecoveryRegister r
+  commanding : (r : PortReg) → IsCommandRegister r → IsCmdSerrOrIs r
   commanding r is = inl is
 
-  clearing : (r : PortReg) → IsSerrOrIs r → IsRecoveryRegister r
+  clearing : (r : PortReg) → IsSerrOrIs r → IsCmdSerrOrIs r
   clearing r is = inr is
 
   pub commands_recover : (port : Port) (access : Access) → ReadsPortOrWrites IsCommandRegister port access → IsRecoveryAccess port access
@@ -75,7 +75,7 @@ module _ (laws : Laws) where
 
   -- ---- what stays
 
-  pub room_after : (May : Access → Type 0) (port : ℕ) (old new : Device) → IsDrivenBy May old new → IsOn new → IsOnWithDriverMemory port old → IsOnWithDriverMemory port new
+  pub room_after : (May : Access → Type 0) (port : ℕ) (old new : Device) → IsDrivenBy May old new → IsOn new → IsOnWithPortAndDriverMemory port old → IsOnWithPortAndDriverMemory port new
   room_after May port old new driven on r =
       let same : SameAdapter old new = laws.accesses_keep_adapter old new (any May old new driven) in
       record {

@@ -5,7 +5,7 @@ use Rattle.std.proofs.lemmas.List.Elements.{All-append}
 use Rattle.ata_types.specs.declared.Port.{Port}
 use Rattle.adapter.specs.Access.{Access}
 use Rattle.adapter.specs.Device.{Device}
-use Rattle.refinement.specs.Acts.{AnySlots, ActsByDeviceAlone, Performs}
+use Rattle.refinement.specs.Acts.{AnySlots, ActsByDeviceAlone, AccessesAreSimulatedByActs}
 use Rattle.adapter.specs.declared.command.Operation.{Operation}
 use Rattle.hba_regs.specs.declared.reg.PortReg.{PortReg}
 use Rattle.hba_regs.specs.declared.reg.PortReg.TheVariants.{Ci, Sact}
@@ -38,7 +38,7 @@ module _ (laws : Laws) (port : Port) (outstanding : ℕ) (queued : Bool) (before
   -- ---- what came since the port was stopped
 
   pub quieted_told : IsSimulatedAlongChangingUses (IssueNoCommand port) (IsRecoveryAccess port) (λ uses. AllFree uses port.0) (λ uses. uses) r.stops_and_clears.stopped d
-  quieted_told = told_wider laws (IssueNoCommand port) (Recovering AnyUses port) (Recovering PortUnused port) (λ uses. uses) r.stops_and_clears.stopped d (λ access is. is) (λ uses free. tt) r.stops_and_clears.clears_errors
+  quieted_told = told_wider laws (IssueNoCommand port) (Recovering AnyUses port) (Recovering PortUnused port) (λ uses. uses) r.stops_and_clears.stopped d (λ access is. is) (λ uses free. tt) r.stops_and_clears.issues_none_after_stop
 
   abbrev pub quieted : IsSimulated (IsRecoveryAccess port) (λ uses. AllFree uses port.0) r.stops_and_clears.stopped d
   quieted = quieted_told.is_simulated
@@ -62,7 +62,7 @@ module _ (laws : Laws) (port : Port) (outstanding : ℕ) (queued : Bool) (before
     abbrev pub total : List Access
     total = first ++ b.is_driven.accesses
 
-    pub performs : Performs total AnySlots (λ s. record (slots_with_all_parked port.0 s) { slot_states = next (slots_with_all_parked port.0 s).slot_states }) ActsByDeviceAlone old new
+    pub performs : AccessesAreSimulatedByActs total AnySlots (λ s. record (slots_with_all_parked port.0 s) { slot_states = next (slots_with_all_parked port.0 s).slot_states }) ActsByDeviceAlone old new
     performs = laws.fragments.parts_join_by_giving_up (Recovering AnyUses port) (Recovering PortUnused port) next port.0 old r.stops_and_clears.stopped new r.stops_and_clears.stops.is_simulated r.stops_and_clears.engine_is_stopped (λ uses free. free) b
 
     pub only : All (IsRecoveryAccess port) total
@@ -84,7 +84,7 @@ module _ (laws : Laws) (port : Port) (outstanding : ℕ) (queued : Bool) (before
     silent_others q o apart own (uses, none, agreed) =
         let stopped = laws.fragments.some_machine_agrees (Recovering AnyUses port) (λ uses. uses) uses old r.stops_and_clears.stopped tt r.stops_and_clears.stops.is_simulated agreed in
         let k : DriverState = driver_state_of uses stopped.parked r.stops_and_clears.stopped in
-        let left : (with_all_parked k port.0).slot_states q.0 ≡ uses q.0 = (laws.given_up_others k port.0 q.0 apart).0 in
+        let left : (with_all_parked k port.0).slot_states q.0 ≡ uses q.0 = (laws.given_up_leaves_other_ports k port.0 q.0 apart).0 in
         laws.no_moves_compose q.0 o old r.stops_and_clears.stopped new
         (laws.fragments.unused_slot_gains_no_move (Recovering AnyUses port) (λ uses. uses) uses q o old r.stops_and_clears.stopped tt (spares_other laws port q Ci apart) (spares_other laws port q Sact apart) own none r.stops_and_clears.stops.is_simulated agreed)
         (laws.fragments.unused_slot_gains_no_move (Recovering PortUnused port) next (with_all_parked k port.0).slot_states q o r.stops_and_clears.stopped new (laws.given_up_free k port.0) (spares_other laws port q Ci apart) (spares_other laws port q Sact apart) own

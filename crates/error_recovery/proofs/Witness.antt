@@ -12,7 +12,7 @@ use Rattle.adapter.specs.Memory.{changed}
 use Rattle.refinement.specs.Relation.{port_at}
 use Rattle.refinement.specs.Fragments.{SomeMachineAgrees}
 use Rattle.refinement.specs.PortFacts.{RecordsFaults, IsFaulted}
-use Rattle.refinement.specs.RecoveryWitness.{FaultIsSeen}
+use Rattle.refinement.specs.RecoveryWitness.{CommandMayHaveFailedBySstsRead}
 use Rattle.refinement.specs.TwoReadsWitness.{TwoReadsWitness, armed_uses, second_id, two_issued, two_reads_driver_state}
 use Rattle.refinement.specs.Slots.{Free, Serves, SlotState, SlotStates, set_slot_state}
 use Rattle.refinement.specs.ReadWitness.{FirstReadWitness, first_id, first_slot_states}
@@ -20,7 +20,7 @@ use Rattle.port_control.specs.Ports.{programmed_bases}
 use Rattle.error_recovery.specs.Laws.{Laws}
 use Rattle.error_recovery.specs.Laws.SlotCondition.{AnyUses}
 use Rattle.error_recovery.specs.Laws.AccessPurpose.{Recovering}
-use Rattle.error_recovery.specs.RecoveryParts.{IsOnWithDriverMemory}
+use Rattle.error_recovery.specs.RecoveryParts.{IsOnWithPortAndDriverMemory}
 use Rattle.error_recovery.specs.Recovery.{PlainIsSlot0, IsRecoveryAccess, PortMayRecover}
 use Rattle.error_recovery.specs.Witness.{MayRecoverWitness}
 use Rattle.error_recovery.proofs.Going.{goes_over}
@@ -30,7 +30,7 @@ use Rattle.error_recovery.proofs.Stretching.{room_after}
 
 -- Port 0 runs with its areas in their places, COMRESET isn't being sent, and its faults are on record.
 record RunsPlaced (d : Device) : Type 0 where
-  room : IsOnWithDriverMemory 0 d
+  room : IsOnWithPortAndDriverMemory 0 d
   st : (d.port 0).st ≡ true
   cr : (d.port 0).cr ≡ true
   fre : (d.port 0).fre ≡ true
@@ -38,8 +38,8 @@ record RunsPlaced (d : Device) : Type 0 where
   det : (d.port 0).sctl_det ≡ 0
   recorded : RecordsFaults d.tape (d.port 0) 0
 
-module _ (laws : Laws) (old : Device) (slot : ℕ) (halt : Halt) (runs : RunsPlaced old) (f : FaultIsSeen old slot halt) where
-  seen_room : IsOnWithDriverMemory 0 f.seen
+module _ (laws : Laws) (old : Device) (slot : ℕ) (halt : Halt) (runs : RunsPlaced old) (f : CommandMayHaveFailedBySstsRead old slot halt) where
+  seen_room : IsOnWithPortAndDriverMemory 0 f.seen
   seen_room =
       let a = (laws.fragments.reads (Recovering AnyUses (port_at 0)) (Px (port_at 0) Ssts) 3 old f.seen (inl refl) f.sees).is_simulated.is_driven in
       room_after laws (IsRecoveryAccess (port_at 0)) 0 old f.seen a (goes_over laws (port_at 0) a.accesses old f.seen runs.room.adapter_is_on a.accesses_are_of_kind a.all_are_done).on runs.room
@@ -100,7 +100,7 @@ first_alone plain slot low set = ⊎_elim
 module _ (laws : Laws)
     (here : (uses : SlotStates) (port slot : ℕ) (u : SlotState) → set_slot_state uses port slot u port slot ≡ u)
     (others : (uses : SlotStates) (port slot : ℕ) (u : SlotState) (other_port other_slot : ℕ) → (other_port ≡ port → other_slot ≡ slot → ⊥) → set_slot_state uses port slot u other_port other_slot ≡ uses other_port other_slot) where
-  pub plain_may_be_asked : FaultIsSeen first_read_device 0 HaltedPlain → FirstReadWitness → MayRecoverWitness false
+  pub plain_may_be_asked : CommandMayHaveFailedBySstsRead first_read_device 0 HaltedPlain → FirstReadWitness → MayRecoverWitness false
   plain_may_be_asked f k = record {
     device = f.seen;
     adapter_is_on = (seen_room laws first_read_device 0 HaltedPlain first_runs f).adapter_is_on;
@@ -122,7 +122,7 @@ module _ (laws : Laws)
     is_outstanding = ap (λ (slot : ℕ). bit 1 slot) f.fault_is_of_slot.1;
   }
 
-  pub queued_may_be_asked : FaultIsSeen two_issued 1 HaltedQueued → TwoReadsWitness → MayRecoverWitness true
+  pub queued_may_be_asked : CommandMayHaveFailedBySstsRead two_issued 1 HaltedQueued → TwoReadsWitness → MayRecoverWitness true
   queued_may_be_asked f k = record {
     device = f.seen;
     adapter_is_on = (seen_room laws two_issued 1 HaltedQueued two_run f).adapter_is_on;

@@ -18,7 +18,7 @@ use Rattle.refinement.specs.Slots.{IsMove}
 -- ---- evidence
 
 -- A moment of the call up to which PxCMD of the port wasn't written.
-pub record IsBeforeStop (port : Port) (accesses : List Access) (old at new : Device) : Type 0 where
+pub record IsBeforeFirstCmdWrite (port : Port) (accesses : List Access) (old at new : Device) : Type 0 where
   pub early : List Access
   pub late : List Access
   pub accesses_are : accesses ≡ early ++ late
@@ -30,12 +30,12 @@ pub record IsBeforeStop (port : Port) (accesses : List Access) (old at new : Dev
 -- written in it.
 pub record HasFailed (port : Port) (accesses : List Access) (old new : Device) (fault : tape_fault.Fault) : Type 0 where
   pub device_before_stop : Device
-  pub cmd_is_unwritten : IsBeforeStop port accesses old device_before_stop new
+  pub cmd_is_unwritten : IsBeforeFirstCmdWrite port accesses old device_before_stop new
   pub fault_is_told : Contains (drop (old.port port.0).notes.st_set_at device_before_stop.tape) (entry.Fault fault)
   pub port_is : fault.port.0 ≡ port.0
 
 -- The last page of the log that the port's disk sent, after the tape was so long.
-pub record BringsLog (port : Port) (old new : Device) (page : List ℕ) : Type 0 where
+pub record BringsLastLogPage (port : Port) (old new : Device) (page : List ℕ) : Type 0 where
   pub new_entries : List Entry
   pub tape_grows : new.tape ≡ old.tape ++ new_entries
   pub before : List Entry

@@ -22,16 +22,16 @@ use Rattle.refinement.specs.Driver.{AllFree, DriverState, DriverRelation}
 use Rattle.refinement.specs.Errors.{ErrorBitsRiseByErrors, NoFaults, NoFatalErrors}
 use Rattle.refinement.specs.PortFacts.{IsFaulted, IsEngineStopped, RecordsFaultsIfSt, RunsWell, ShowsFault, ShowsNoTrouble}
 use Rattle.refinement.specs.GivingUp.{with_all_parked}
-use Rattle.refinement.specs.PreservedParts.{LeavesControls, NoPlugEvents, SameAdapter, DoesNotWrite}
-use Rattle.refinement.specs.PortNotes.{LeavesNotes}
-use Rattle.refinement.specs.HaltRecovery.{IsLinked, RunsLinked, WorksPlainly}
+use Rattle.refinement.specs.PreservedParts.{ControlsChangeOnlyByTheirWrites, NoPlugEvents, SameAdapter, DoesNotWrite}
+use Rattle.refinement.specs.PortNotes.{ReadingNotesChangeByReadOrSctlWriteOnly}
+use Rattle.refinement.specs.HaltRecovery.{IsLinked, RunsLinked, WorksOnUnqueuedCommandsOnly}
 use Rattle.refinement.specs.Slots.{Free, IsOver, Own, SlotStates, set_slot_state}
 use Rattle.refinement.specs.StartedPort.{ClearsNoStart, IsStarted, IsUpForStart}
 use Rattle.command_table.specs.TableStores.{IsUnused}
 use Rattle.disk_page.specs.PageRequests.{IsPageAccess, LeavesPortWhileAsking, WaitsForSlot0InVain}
 use Rattle.port_control.specs.Engines.{FailsToStop, EngineFalls, EngineSticks}
 use Rattle.port_control.specs.Ports.{IsSerrOrIs, IsCommandRegister}
-use Rattle.error_recovery.specs.Recovery.{IsRecoveryRegister, IsRecoveryAccess}
+use Rattle.error_recovery.specs.Recovery.{IsCmdSerrOrIs, IsRecoveryAccess}
 
 -- ---- kinds of accesses
 
@@ -45,7 +45,7 @@ pub data RegisterSet : Type 0 where
 abbrev pub registers_of : RegisterSet → PortReg → Type 0
 registers_of CommandRegister = IsCommandRegister
 registers_of ErrorRegisters = IsSerrOrIs
-registers_of RecoveryRegisters = IsRecoveryRegister
+registers_of RecoveryRegisters = IsCmdSerrOrIs
 registers_of AllButCi = λ r. r ≢ Ci
 
 -- the uses of slots that fit: any, or with none of the port's slots used
@@ -84,9 +84,9 @@ pub record Laws : Type 0 where
       → PortRegisterRead port.0 r v old new
   pub tape : TapeLaws
   pub access_controls : (port : Port) (access : Access) (old new : Device) → old.hr ≡ false → Does access old new
-      → LeavesControls access port (old.port port.0) (new.port port.0)
+      → ControlsChangeOnlyByTheirWrites access port (old.port port.0) (new.port port.0)
   pub access_notes : (port : Port) (access : Access) (old new : Device) → Does access old new
-      → LeavesNotes access port (old.port port.0).notes (new.port port.0).notes
+      → ReadingNotesChangeByReadOrSctlWriteOnly access port (old.port port.0).notes (new.port port.0).notes
   pub read_keeps_fault_record : (port : ℕ) (r : Reg) (v : ℕ) (old new : Device) → Reads r v old new
       → RecordsFaultsIfSt old.tape (old.port port) port → RecordsFaultsIfSt new.tape (new.port port) port
   -- errors
@@ -109,7 +109,7 @@ pub record Laws : Type 0 where
   pub access_runs_linked : (port : Port) (access : Access) (old new : Device) → old.hr ≡ false
       → ClearsNoStart port access → DoesNotWrite (Px port Sctl) access → NoPlugEvents port.0 old new
       → NoFatalErrors port.0 old new → Does access old new → RunsLinked (old.port port.0) → RunsLinked (new.port port.0)
-  pub linked_plain_port_is_up : (p : DevicePort) → IsLinked p → WorksPlainly p → IsUpForStart p
+  pub linked_plain_port_is_up : (p : DevicePort) → IsLinked p → WorksOnUnqueuedCommandsOnly p → IsUpForStart p
   pub started_quiet_port_runs_well : (p : DevicePort) → IsStarted p → ShowsNoTrouble p → RunsWell p
   pub runs_well : (p : DevicePort) → RunsLinked p → p.halt ≡ NotHalted → p.is 30 ≡ false → p.serr_n ≡ false
       → p.serr_x ≡ false → ((place : ℕ) → 27 ≤ place → place ≤ 29 → p.is place ≡ false) → RunsWell p
@@ -134,7 +134,7 @@ pub record Laws : Type 0 where
       → IsEngineStopped (k.device.port port)
       → DriverRelation m (with_all_parked k port)
   pub given_up_free : (k : DriverState) (port : ℕ) → AllFree (with_all_parked k port).slot_states port
-  pub given_up_others : (k : DriverState) (port other : ℕ) → other ≢ port
+  pub given_up_leaves_other_ports : (k : DriverState) (port other : ℕ) → other ≢ port
       → ((with_all_parked k port).slot_states other ≡ k.slot_states other)
       × ((with_all_parked k port).awaiting_disposition other ≡ k.awaiting_disposition other)
   pub slot_has_state_set : (uses : SlotStates) (port slot : ℕ) (o : Operation)

@@ -14,23 +14,23 @@ use Rattle.adapter.specs.Rules.{IsOn, HasPort}
 use Rattle.adapter.specs.declared.command.Operation.{Operation}
 use Rattle.adapter.specs.declared.command.Operation.TheVariants.{Identify, ReadLog}
 use Rattle.adapter.specs.declared.tape.Fault as tape_fault
-use Rattle.refinement.specs.Acts.{AnySlots, ActsByDeviceAlone, DriverSlots, Performs}
+use Rattle.refinement.specs.Acts.{AnySlots, ActsByDeviceAlone, DriverSlots, AccessesAreSimulatedByActs}
 use Rattle.refinement.specs.Fragments.{SomeMachineAgreesWith, ReadsPortOrWrites, GainsNoMove}
 use Rattle.refinement.specs.Errors.{IsFatalErrorOf}
 use Rattle.refinement.specs.PortFacts.{RecordsFaults, IsFaulted, RunsWell}
 use Rattle.refinement.specs.GivingUp.{slots_with_all_parked}
 use Rattle.refinement.specs.PreservedParts.{NoPlugEvents, DoesNotWrite}
-use Rattle.refinement.specs.HaltRecovery.{IsLinked, WorksPlainly}
+use Rattle.refinement.specs.HaltRecovery.{IsLinked, WorksOnUnqueuedCommandsOnly}
 use Rattle.refinement.specs.Slots.{Free, Own, SlotStates, client_operation_of, set_slot_state}
 use Rattle.disk_page.specs.PageRequests.{IsPageAccess, WaitsForSlot0InVain}
 use Rattle.identify.specs.ErrorLog.{NamesQueuedCommand, NamesNoQueuedCommand}
 use Rattle.identify.specs.declared.error_log.FailedSlot.{FailedSlot}
 use Rattle.port_control.specs.Engines.{EngineSticks, Stops}
-use Rattle.port_control.specs.Ports.{IsSerrOrIs, RunsWithoutCommands, IsStopped, BacksFault, ShowsIdle, IsCommandRegister, programmed_bases}
+use Rattle.port_control.specs.Ports.{IsSerrOrIs, RunsInPlaceWithoutCommands, IsStopped, BacksFault, ShowsIdle, IsCommandRegister, programmed_bases}
 use Rattle.port_control.specs.declared.PortFault.TheVariants.{EngineStuck}
 use Rattle.port_control.specs.declared.Running as running_token
 use Rattle.port_control.specs.declared.Stopped as stopped_token
-use Rattle.error_recovery.specs.Evidence.{BringsLog, GainsSinceStart, HasFailed, HidesNoTrouble}
+use Rattle.error_recovery.specs.Evidence.{BringsLastLogPage, GainsSinceStart, HasFailed, HidesNoTrouble}
 use Rattle.error_recovery.specs.declared.Next.{Next}
 use Rattle.error_recovery.specs.declared.Next.TheVariants.{Running, Restart, Dead}
 use Rattle.error_recovery.specs.declared.Recovered.{Recovered}
@@ -69,27 +69,28 @@ pub record PortMayRecover (port : ℕ) (d : Device) : Type 0 where
 -- ---- what is done
 
 -- PxCMD, PxSERR and PxIS
-abbrev pub IsRecoveryRegister : PortReg → Type 0
-IsRecoveryRegister r = IsCommandRegister r ⊎ IsSerrOrIs r
+abbrev pub IsCmdSerrOrIs : PortReg → Type 0
+IsCmdSerrOrIs r = IsCommandRegister r ⊎ IsSerrOrIs r
 
 -- it reads a register of the port, writes one of these three, or asks for the log: by slot 0's header and table, bit 0
 -- of PxCI, and a load of the scratch frame
 abbrev pub IsRecoveryAccess : Port → Access → Type 0
-IsRecoveryAccess port access = ReadsPortOrWrites IsRecoveryRegister port access ⊎ IsPageAccess port access
+IsRecoveryAccess port access = ReadsPortOrWrites IsCmdSerrOrIs port access ⊎ IsPageAccess port access
 
 -- slot 0 has a command of the driver's own
-abbrev pub with_own : ℕ → Operation → DriverSlots → DriverSlots
-with_own port o s = record s { slot_states = set_slot_state s.slot_states port 0 (Own o) }
+abbrev pub with_own_command_in_slot_0 : ℕ → Operation → DriverSlots → DriverSlots
+with_own_command_in_slot_0 port o s = record s { slot_states = set_slot_state s.slot_states port 0 (Own o) }
 
 -- Each slot of the port was given up once the port had stopped, and the requests that they served are parked; the
 -- device alone made steps. Of a dead port the slots are as they were, or READ LOG EXT may be in slot 0 still.
 abbrev pub SlotsAfterRecovery : ℕ → Next → List Access → Device → Device → Type 0
 SlotsAfterRecovery port Dead accesses old new =
-    Performs accesses AnySlots (λ s. s) ActsByDeviceAlone old new
-    ⊎ (Performs accesses AnySlots (slots_with_all_parked port) ActsByDeviceAlone old new
-    ⊎ Performs accesses AnySlots (λ s. with_own port ReadLog (slots_with_all_parked port s)) ActsByDeviceAlone old new)
+    AccessesAreSimulatedByActs accesses AnySlots (λ s. s) ActsByDeviceAlone old new
+    ⊎ (AccessesAreSimulatedByActs accesses AnySlots (slots_with_all_parked port) ActsByDeviceAlone old new
+    ⊎ AccessesAreSimulatedByActs accesses AnySlots (λ s. with_own_command_in_slot_0 port ReadLog
+    (slots_with_all_parked port s)) ActsByDeviceAlone old new)
 SlotsAfterRecovery port _ accesses old new =
-    Performs accesses AnySlots (slots_with_all_parked port) ActsByDeviceAlone old new
+    AccessesAreSimulatedByActs accesses AnySlots (slots_with_all_parked port) ActsByDeviceAlone old new
 
 -- the accesses tell that the port was stopped; or that its engine is stuck
 abbrev pub TellsEngineOutcome : Port → Next → List Access → Type 0
@@ -107,7 +108,7 @@ IsNamedSlot (Some failed) slot = slot ≡ failed.slot.0
 pub record SplitsOutstanding (outstanding : ℕ) (failed : Option FailedSlot) (again : ℕ) : Type 0 where
   pub each_is_in_one : (slot : ℕ) → slot < 32 → bit outstanding slot ≡ true → IsNamedSlot failed slot
       ⊎ (bit again slot ≡ true)
-  pub none_is_in_both : (slot : ℕ) → slot < 32 → bit again slot ≡ true → (bit outstanding slot ≡ true)
+  pub again_is_outstanding_and_unnamed : (slot : ℕ) → slot < 32 → bit again slot ≡ true → (bit outstanding slot ≡ true)
       × (IsNamedSlot failed slot → ⊥)
 
 -- A plain command that is named rests on a fault of its slot, with this status and error.
@@ -129,7 +130,7 @@ pub record RestsOnLog (port : Port) (outstanding : ℕ) (accesses : List Access)
   pub fault : tape_fault.Fault
   pub has_failed : HasFailed port accesses old new fault
   pub last_log_page : List ℕ
-  pub brings : BringsLog port old new last_log_page
+  pub brings : BringsLastLogPage port old new last_log_page
   pub tells : NamesQueuedCommand last_log_page failed.slot.0 failed.status failed.error
 
 abbrev pub BacksFailure : Bool → Port → ℕ → List Access → Device → Device → Option FailedSlot → Type 0
@@ -139,7 +140,7 @@ BacksFailure false port outstanding accesses old new
 BacksFailure true port outstanding accesses old new (Some failed) = RestsOnLog port outstanding accesses old new failed
 
 -- the page names a slot that isn't outstanding
-pub record NamesUnknownSlot (outstanding : ℕ) (page : List ℕ) : Type 0 where
+pub record NamesSlotNotOutstanding (outstanding : ℕ) (page : List ℕ) : Type 0 where
   pub tag : ℕ
   pub status : ℕ
   pub error : ℕ
@@ -159,7 +160,7 @@ pub record StopsThenWaits (port : Port) (accesses : List Access) (new : Device) 
   pub accesses_are : accesses ≡ early ++ late
   pub stopped : Stops port early
   pub waits_in_vain : WaitsForSlot0InVain port late
-  pub command_count_is_full : (new.port port.0).notes.slot0_issued_count ≡ MOST_READINGS
+  pub slot0_issued_count_is_full : (new.port port.0).notes.slot0_issued_count ≡ MOST_READINGS
 
 -- Why a port has to be booted: BSY or DRQ is what was read last of PxTFD, and no command was issued of which they could
 -- be. Or, where queued commands are outstanding, the log named none of them: once the port had stopped, the last 64
@@ -168,8 +169,8 @@ abbrev pub ExplainsRestart : Bool → Port → ℕ → List Access → Device �
 ExplainsRestart queued port outstanding accesses old new =
     (IssueNoCommand port accesses × (ShowsIdle (new.port port.0).notes.last_tfd → ⊥))
     ⊎ ((queued ≡ true) × (StopsThenWaits port accesses new
-    ⊎ ((page : List ℕ) × BringsLog port old new page
-    × (NamesNoQueuedCommand page ⊎ NamesUnknownSlot outstanding page))))
+    ⊎ ((page : List ℕ) × BringsLastLogPage port old new page
+    × (NamesNoQueuedCommand page ⊎ NamesSlotNotOutstanding outstanding page))))
 
 -- ---- how it ends
 
@@ -179,17 +180,18 @@ ExplainsRestart queued port outstanding accesses old new =
 -- And where the link was up, no disk went or came, and no fatal error came since ST was set, the port runs well; one
 -- without queued commands, if it worked on plain ones alone.
 pub record RunsAgain (queued : Bool) (port : ℕ) (old new : Device) : Type 0 where
-  pub runs : RunsWithoutCommands port (new.port port)
+  pub runs : RunsInPlaceWithoutCommands port (new.port port)
   pub faults_are_on_record : RecordsFaults new.tape (new.port port) port
   pub st_set_in_call : length old.tape ≤ (new.port port).notes.st_set_at
-  pub link_count_is_kept : (new.port port).notes.link_wait_count ≡ (old.port port).notes.link_wait_count
+  pub link_wait_count_is_kept : (new.port port).notes.link_wait_count ≡ (old.port port).notes.link_wait_count
   pub queued_halt_ends : queued ≡ true → (new.port port).halt ≡ NotHalted
-  pub works_plainly : queued ≡ false → WorksPlainly (old.port port) → WorksPlainly (new.port port)
-  pub is_not_log_only : (queued ≡ false → WorksPlainly (old.port port)) → (new.port port).halt ≢ LogOnly
+  pub plain_port_stays_plain : queued ≡ false → WorksOnUnqueuedCommandsOnly (old.port port)
+      → WorksOnUnqueuedCommandsOnly (new.port port)
+  pub is_not_log_only : (queued ≡ false → WorksOnUnqueuedCommandsOnly (old.port port)) → (new.port port).halt ≢ LogOnly
   pub hides_no_trouble : HidesNoTrouble port old new
   pub port_runs_well : NoPlugEvents port old new → (GainsSinceStart (IsFatalErrorOf port) port old new → ⊥)
       → IsLinked (old.port port)
-      → (queued ≡ false → WorksPlainly (old.port port)) → RunsWell (new.port port)
+      → (queued ≡ false → WorksOnUnqueuedCommandsOnly (old.port port)) → RunsWell (new.port port)
 
 -- It is as `next` says: it runs; it is stopped, so that it can be booted; or its engine was awaited in vain.
 abbrev pub EndsAsNext : Bool → Port → Next → Device → Device → Type 0
@@ -213,7 +215,8 @@ pub record TellsOutstanding (port : Port) (outstanding : ℕ) (queued : Bool) (r
   pub splits_outstanding : SplitsOutstanding outstanding result.failed result.again
   pub failure_is_backed : BacksFailure queued port outstanding accesses old new result.failed
   pub dead_names_none : result.next ≡ Dead → result.failed ≡ None
-  pub restart_names_none : (token : stopped_token.Stopped) → queued ≡ true → result.next ≡ Restart token → result.failed
+  pub queued_restart_names_none : (token : stopped_token.Stopped) → queued ≡ true → result.next ≡ Restart token
+      → result.failed
       ≡ None
 
 -- What a recovery tells besides: whom it names, and why the port has to be booted. Where queued commands are
@@ -222,7 +225,7 @@ pub record TellsRecovery (port : Port) (outstanding : ℕ) (queued : Bool) (resu
     (old new : Device) : Type 0 where
   pub queued_running_names_one : (token : running_token.Running) → queued ≡ true → result.next ≡ Running token
       → result.failed ≢ None
-  pub plain_is_named : queued ≡ false → bit outstanding 0 ≡ true → result.next ≢ Dead → result.failed ≢ None
+  pub plain_is_named_unless_dead : queued ≡ false → bit outstanding 0 ≡ true → result.next ≢ Dead → result.failed ≢ None
   pub restart_is_explained : (token : stopped_token.Stopped) → result.next ≡ Restart token
       → ExplainsRestart queued port outstanding accesses old new
 
@@ -236,7 +239,7 @@ pub record IsLeftByRecovery (port : Port) (queued : Bool) (next : Next) (old new
   pub ie_is_kept : (new.port port.0).ie ≡ (old.port port.0).ie
   pub no_identify_moves : SomeMachineAgreesWith (λ uses. uses port.0 0 ≡ Own Identify → ⊥) old
       → GainsNoMove port.0 Identify old new
-  pub other_ports_move_no_page : (q : Port) (o : Operation) → q.0 ≢ port.0 → client_operation_of o ≡ None
+  pub other_ports_move_no_unasked_page : (q : Port) (o : Operation) → q.0 ≢ port.0 → client_operation_of o ≡ None
       → SomeMachineAgreesWith (λ uses. uses q.0 0 ≡ Own o → ⊥) old → GainsNoMove q.0 o old new
 
 -- What becomes of a port that had trouble: by one list of accesses it was stopped, and runs again, or has to be booted,
@@ -256,7 +259,7 @@ pub record Recovers (port : Port) (outstanding : ℕ) (queued : Bool) (result : 
 
 -- All that is promised of a port that is stopped for a reset: PxCMD alone was written, nobody is named, and it doesn't
 -- run.
-pub record StopsForReset (port : Port) (outstanding : ℕ) (queued : Bool) (result : Recovered)
+pub record StopsOrSticksForReset (port : Port) (outstanding : ℕ) (queued : Bool) (result : Recovered)
     (old new : Device) : Type 0 where
   pub handling : RecoversOrStops port outstanding queued result old new
   pub only_cmd_is_written : All (ReadsPortOrWrites IsCommandRegister port) handling.accesses

@@ -16,21 +16,21 @@ use Rattle.refinement.specs.Driver.{AllFree}
 use Rattle.refinement.specs.Errors.{LinkErrorsRiseByDisks}
 use Rattle.refinement.specs.PortFacts.{RecordsFaults, IsEngineStopped, IsCleanToStart}
 use Rattle.refinement.specs.PreservedParts.{NoPlugEvents}
-use Rattle.refinement.specs.HaltRecovery.{IsLinked, RunsLinked, WorksPlainly}
+use Rattle.refinement.specs.HaltRecovery.{IsLinked, RunsLinked, WorksOnUnqueuedCommandsOnly}
 use Rattle.refinement.specs.StartedPort.{IsStarted, IsUpForStart}
 use Rattle.refinement.specs.Slots.{Own}
 use Rattle.disk_page.specs.PageRequests.{LeavesPortWhileAsking, ReadsPage}
 use Rattle.identify.specs.ErrorLog.{NamesQueuedCommand, NamesNoQueuedCommand}
 use Rattle.identify.specs.declared.error_log.FailedSlot.{FailedSlot}
 use Rattle.port_control.specs.Engines.{EngineSticks, Stops}
-use Rattle.port_control.specs.Ports.{SerrShowsOnlyNewPlugs, RunsWithoutCommands, IsStoppedReceiving, SameButStart, BacksFault, ShowsIdle, IsCommandRegister}
+use Rattle.port_control.specs.Ports.{SerrShowsOnlyNewPlugs, RunsInPlaceWithoutCommands, IsStoppedReceiving, SameSctlAndNotesButCmdAndStart, BacksFault, ShowsIdle, IsCommandRegister}
 use Rattle.port_control.specs.declared.PortFault.TheVariants.{EngineStuck}
-use Rattle.error_recovery.specs.Recovery.{PlainUsesSlot0, PlainIsSlot0, IsRecoveryAccess, IssueNoCommand, PortMayRecover, NamesUnknownSlot, Recovers}
+use Rattle.error_recovery.specs.Recovery.{PlainUsesSlot0, PlainIsSlot0, IsRecoveryAccess, IssueNoCommand, PortMayRecover, NamesSlotNotOutstanding, Recovers}
 use Rattle.error_recovery.specs.declared.Recovered.{Recovered}
 use Rattle.error_recovery.specs.declared.StoppedAndCleared.{StoppedAndCleared}
 
 -- the adapter is on and has the port and memory for the driver's frames
-pub record IsOnWithDriverMemory (port : ℕ) (d : Device) : Type 0 where
+pub record IsOnWithPortAndDriverMemory (port : ℕ) (d : Device) : Type 0 where
   pub adapter_is_on : IsOn d
   pub has_port : HasPort d port
   pub driver_memory_fits : DRIVER_BYTES ≤ d.memory_size
@@ -43,28 +43,30 @@ pub record ReadsTaskFileFirst (port : Port) (shown : ℕ) (accesses : List Acces
   pub accesses_are : accesses ≡ Reading (Px port Tfd) shown ∷ rest
 
 -- so it was, and the port was stopped; no command was issued
-abbrev pub ReadsTfdAndStops : Port → ℕ → List Access → Type 0
-ReadsTfdAndStops port shown accesses = ReadsTaskFileFirst port shown accesses × Stops port accesses
+abbrev pub ReadsTfdStopsAndIssuesNone : Port → ℕ → List Access → Type 0
+ReadsTfdStopsAndIssuesNone port shown accesses = ReadsTaskFileFirst port shown accesses × Stops port accesses
     × IssueNoCommand port accesses
 
 -- The port's task file was read, the port was stopped, its errors were forgotten, and the task file was read again. It
 -- receives FISes, is quiet, and tells nothing of before.
 pub record StopsAndClears (port : Port) (before after : ℕ) (old new : Device) : Type 0 where
-  pub is_on_with_driver_memory : IsOnWithDriverMemory port.0 new
+  pub is_on_with_driver_memory : IsOnWithPortAndDriverMemory port.0 new
   pub stopped : Device
-  pub stops : IsSimulatedAlong (ReadsTfdAndStops port before) (IsRecoveryAccess port) AnySlotStates old stopped
+  pub stops : IsSimulatedAlong (ReadsTfdStopsAndIssuesNone port before)
+      (IsRecoveryAccess port) AnySlotStates old stopped
   pub engine_is_stopped : IsEngineStopped (stopped.port port.0)
-  pub clears_errors : IsSimulatedAlong (IssueNoCommand port) (IsRecoveryAccess port) AnySlotStates stopped new
+  pub issues_none_after_stop : IsSimulatedAlong (IssueNoCommand port) (IsRecoveryAccess port) AnySlotStates stopped new
   pub receives : IsStoppedReceiving port.0 (new.port port.0)
   pub no_comreset : (new.port port.0).sctl_det ≡ 0
   pub last_tfd_is : (new.port port.0).notes.last_tfd ≡ after
   pub link_was_seen : (new.port port.0).notes.last_ssts % 16 ≡ 3
-  pub link_count_is_kept : (new.port port.0).notes.link_wait_count ≡ (old.port port.0).notes.link_wait_count
+  pub link_wait_count_is_kept : (new.port port.0).notes.link_wait_count ≡ (old.port port.0).notes.link_wait_count
   pub no_cause_is_set : (place : ℕ) → place < 32 → (new.port port.0).is place ≡ false
-  pub errors_are_clear : SerrShowsOnlyNewPlugs port.0 old new
+  pub serr_shows_only_new_plugs : SerrShowsOnlyNewPlugs port.0 old new
   pub is_clean_to_start : IsCleanToStart (new.port port.0)
   pub machine_is_related : SomeMachineAgreesWith (λ uses. AllFree uses port.0) new
-  pub works_plainly : WorksPlainly (old.port port.0) → WorksPlainly (new.port port.0)
+  pub plain_port_stays_plain : WorksOnUnqueuedCommandsOnly (old.port port.0)
+      → WorksOnUnqueuedCommandsOnly (new.port port.0)
   pub no_identify_moves : SomeMachineAgreesWith (λ uses. uses port.0 0 ≡ Own Identify → ⊥) old
       → GainsNoMove port.0 Identify old new
 
@@ -81,7 +83,7 @@ pub record StopGetsStuck (port : Port) (old new : Device) : Type 0 where
 -- ST may be set: what was read last was a device with a link, neither busy nor asking for a transfer, and no slot of
 -- the port is used.
 pub record MayStartAgain (port : ℕ) (d : Device) : Type 0 where
-  pub is_on_with_driver_memory : IsOnWithDriverMemory port d
+  pub is_on_with_driver_memory : IsOnWithPortAndDriverMemory port d
   pub receives : IsStoppedReceiving port (d.port port)
   pub link_was_seen : (d.port port).notes.last_ssts % 16 ≡ 3
   pub disk_was_idle : ShowsIdle (d.port port).notes.last_tfd
@@ -92,13 +94,14 @@ pub record MayStartAgain (port : ℕ) (d : Device) : Type 0 where
 -- it runs so; and it is started, if no halt is left. What it told of trouble is as it was, but for disks that went or
 -- came.
 pub record StartsAgain (port : Port) (old new : Device) : Type 0 where
-  pub is_on_with_driver_memory : IsOnWithDriverMemory port.0 new
+  pub is_on_with_driver_memory : IsOnWithPortAndDriverMemory port.0 new
   pub starts : IsSimulated (ReadsPortOrWrites IsCommandRegister port) (λ uses. AllFree uses port.0) old new
-  pub runs : RunsWithoutCommands port.0 (new.port port.0)
-  pub other_notes_are_kept : SameButStart (old.port port.0) (new.port port.0)
-  pub st_set_is_last : (new.port port.0).notes.st_set_at ≡ length new.tape
+  pub runs : RunsInPlaceWithoutCommands port.0 (new.port port.0)
+  pub other_notes_are_kept : SameSctlAndNotesButCmdAndStart (old.port port.0) (new.port port.0)
+  pub tape_is_as_at_st_set : (new.port port.0).notes.st_set_at ≡ length new.tape
   pub port_is_started : IsUpForStart (old.port port.0) → NoPlugEvents port.0 old new → IsStarted (new.port port.0)
-  pub link_stays_up : IsLinked (old.port port.0) → NoPlugEvents port.0 old new → RunsLinked (new.port port.0)
+  pub link_stays_up_without_plug_events : IsLinked (old.port port.0) → NoPlugEvents port.0 old new
+      → RunsLinked (new.port port.0)
   pub faults_are_on_record : RecordsFaults new.tape (new.port port.0) port.0
   pub no_cause_rises : (place : ℕ) → (old.port port.0).is place ≡ false → (new.port port.0).is place ≡ false
   pub errors_change_by_disks : LinkErrorsRiseByDisks port.0 old new
@@ -137,7 +140,7 @@ ReadsLog port outstanding (Some failed) old new = (page : List ℕ) × ReadsPage
     × NamesQueuedCommand page failed.slot.0 failed.status failed.error × (bit outstanding failed.slot.0 ≡ true)
 ReadsLog port outstanding None old new = ReadsPage port ReadLog None old new
     ⊎ ((page : List ℕ) × ReadsPage port ReadLog (Some page) old new
-    × (NamesNoQueuedCommand page ⊎ NamesUnknownSlot outstanding page))
+    × (NamesNoQueuedCommand page ⊎ NamesSlotNotOutstanding outstanding page))
 
 -- The log was asked for. The port runs still, without a halt where a slot is named, and no other command of the
 -- driver's own was sent.

@@ -14,7 +14,7 @@ use Rattle.refinement.specs.Fragments.{SomeMachineAgreesWith, AnySlotStates}
 use Rattle.refinement.specs.Slots.{Serves}
 use Rattle.port_control.specs.declared.Stopped as stopped_token
 use Rattle.error_recovery.specs.Evidence.{ShowsFatal}
-use Rattle.error_recovery.specs.Recovery.{PlainUsesSlot0, StopsForReset, PlainIsSlot0, PortMayRecover}
+use Rattle.error_recovery.specs.Recovery.{PlainUsesSlot0, StopsOrSticksForReset, PlainIsSlot0, PortMayRecover}
 use Rattle.error_recovery.specs.declared.Next.TheVariants.{Restart}
 
 -- Of port 0 all is so that recovery asks. A command has failed on it, a plain one in slot 0, or a queued one in slot 1,
@@ -50,6 +50,6 @@ pub record StopWitness : Type 0 where
   pub stopped : Device
   pub token : stopped_token.Stopped
   pub stops_for_reset : (queued : Bool)
-      → StopsForReset (port_at 0) outstanding queued
+      → StopsOrSticksForReset (port_at 0) outstanding queued
       (record { failed = None; again = outstanding; next = Restart token })
       device stopped

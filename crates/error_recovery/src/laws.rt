@@ -4,7 +4,7 @@ ghost use Rattle.ata_types.specs.{declared.Port.{Port}, declared.memory.TheConst
 ghost use Rattle.hba_regs.specs.{declared.reg.PortReg.TheVariants.{Cmd, Ie, Sact, Sctl}, declared.reg.Reg.TheVariants.{Ghc, Px}};
 ghost use Rattle.adapter.specs.{Access.{Access, DoesAll}, Access.Access.{Loading, Storing}, Device.{Device, DevicePort}, Rules.{IsOn}, declared.command.Operation.TheVariants.{ReadLog}, declared.tape.Fault.{Fault}};
 ghost use Rattle.refinement.specs.{Fragments.{TapeGrows, SparesOtherPorts, GainsNoMove}, PreservedParts.{DoesNotWrite}};
-ghost use Rattle.error_recovery.specs.{Evidence.{BringsLog, HasFailed, ShowsFatal}, Recovery.{IsRecoveryAccess}, Witness.{MayRecoverWitness, StopWitness}};
+ghost use Rattle.error_recovery.specs.{Evidence.{BringsLastLogPage, HasFailed, ShowsFatal}, Recovery.{IsRecoveryAccess}, Witness.{MayRecoverWitness, StopWitness}};
 
 use super::prerequisites::law_prerequisites;
 use adapter::laws::law_accesses_compose;
@@ -12,7 +12,7 @@ use refinement::laws::{
     law_a_first_read_agrees, law_setting_changes_one_slot, law_two_queued_reads_agree,
     law_writing_cmd_is_permitted,
 };
-use refinement::recovery_witnesses::law_a_fault_is_seen;
+use refinement::recovery_witnesses::law_a_command_may_have_failed;
 
 /// Recovery touches no register of another port, nor another port's bit of IS: so what is said of such accesses
 /// (`SparesOtherPorts`) is so of each of its own. They write no register of the adapter's own, and of the port's none
@@ -45,7 +45,8 @@ pub fn law_what_stands_behind_a_fault_stays()
         → DoesAll early start old → DoesAll late new end → HasFailed port part old new fault
         → HasFailed port (early ++ (part ++ late)) start end fault }
     ensures log { (port : Port) (start old new end : Device) (page : List ℕ) → TapeGrows start old
-        → GainsNoMove port.0 ReadLog new end → BringsLog port old new page → BringsLog port start end page }
+        → GainsNoMove port.0 ReadLog new end → BringsLastLogPage port old new page
+        → BringsLastLogPage port start end page }
 {
     law_accesses_compose();
     law_prerequisites();
@@ -61,7 +62,7 @@ pub fn law_a_port_may_be_recovered()
     ensures plain { MayRecoverWitness false }
     ensures queued { MayRecoverWitness true }
 {
-    law_a_fault_is_seen();
+    law_a_command_may_have_failed();
     law_a_first_read_agrees();
     law_two_queued_reads_agree();
     law_setting_changes_one_slot();

@@ -12,7 +12,7 @@ ghost use Rattle.hba_regs.specs.Bits.{bit};
 ghost use Rattle.adapter.specs.{Device.{Device}, Rules.{IsOn, HasPort}, AccessBounds.{MakesAtMost}};
 ghost use Rattle.refinement.specs.{Fragments.{SomeMachineAgreesWith, AnySlotStates}, Driver.{AllFree}};
 ghost use Rattle.disk_page.specs.{PageRequests.{PortMayAskForPage}, Costs.{PAGE_ACCESSES}};
-ghost use Rattle.error_recovery.specs.{RecoveryParts.{AsksForLog, StopGetsStuck, StartsAgain, IsOnWithDriverMemory, MayStartAgain, StopsAndClears, MayFinishRecovery, FinishesRecovery}, Recovery.{StopsForReset, IsNamedSlot, MayHandleError, PortMayRecover, SplitsOutstanding, Recovers}, Costs.{FINISH_QUEUED_ACCESSES, STOP_AND_CLEAR_ACCESSES, RECOVER_ACCESSES}};
+ghost use Rattle.error_recovery.specs.{RecoveryParts.{AsksForLog, StopGetsStuck, StartsAgain, IsOnWithPortAndDriverMemory, MayStartAgain, StopsAndClears, MayFinishRecovery, FinishesRecovery}, Recovery.{StopsOrSticksForReset, IsNamedSlot, MayHandleError, PortMayRecover, SplitsOutstanding, Recovers}, Costs.{FINISH_QUEUED_ACCESSES, STOP_AND_CLEAR_ACCESSES, RECOVER_ACCESSES}};
 ghost use Rattle.port_control.specs.Costs.{START_ACCESSES, STOP_ACCESSES};
 
 pub mod laws;
@@ -63,7 +63,7 @@ struct StoppedAndCleared {
 
 /// Reads PxTFD, stops the port, has it forget its errors, and reads PxTFD again. `None` where the engine is stuck.
 fn stop_and_clear<A: Adapter>(adapter: &mut A, port: Port) -> Option<StoppedAndCleared>
-    requires room { IsOnWithDriverMemory port.0 (A.device adapter.old) }
+    requires room { IsOnWithPortAndDriverMemory port.0 (A.device adapter.old) }
     requires may { PortMayRecover port.0 (A.device adapter.old) }
     requires some_machine_agrees { SomeMachineAgreesWith AnySlotStates (A.device adapter.old) }
     ensures adapter_is_on { IsOn (A.device adapter.new) }
@@ -99,7 +99,7 @@ fn start_again<A: Adapter>(adapter: &mut A, stopped: Stopped) -> Running
 
 /// Which of the outstanding queued commands failed, as the disk's log tells.
 fn read_log<A: Adapter>(adapter: &mut A, port: Port, outstanding: u32) -> Option<FailedSlot>
-    requires room { IsOnWithDriverMemory port.0 (A.device adapter.old) }
+    requires room { IsOnWithPortAndDriverMemory port.0 (A.device adapter.old) }
     requires may { PortMayAskForPage port.0 (A.device adapter.old) }
     requires some_machine_agrees { SomeMachineAgreesWith (λ uses. AllFree uses port.0) (A.device adapter.old) }
     ensures adapter_is_on { IsOn (A.device adapter.new) }
@@ -255,7 +255,8 @@ pub fn stop_for_reset<A: Adapter>(adapter: &mut A, port: Port, outstanding: u32)
     requires has_port { HasPort (A.device adapter.old) port.0 }
     requires machine_is_related { SomeMachineAgreesWith AnySlotStates (A.device adapter.old) }
     ensures adapter_is_on { IsOn (A.device adapter.new) }
-    ensures stops_for_reset { (queued : Bool) → StopsForReset port outstanding queued result (A.device adapter.old)
+    ensures stops_for_reset { (queued : Bool)
+        → StopsOrSticksForReset port outstanding queued result (A.device adapter.old)
         (A.device adapter.new) }
     ensures cost { MakesAtMost STOP_ACCESSES (A.access_count adapter.old) (A.access_count adapter.new) }
 {

@@ -4,14 +4,16 @@ ghost use Rattle.error_recovery.specs.Laws.{Laws};
 use adapter::laws::law_port_register_accesses;
 use disk_page::laws::{law_asking_is_of_one_port, law_what_is_told_of_waits_stays};
 use port_control::laws::law_what_is_told_of_engines_stays;
-use refinement::access_kinds::{law_controls_are_of_a_port, law_fragment_prerequisites};
+use refinement::access_kinds::{
+    law_fragment_prerequisites, law_port_register_accesses_are_of_port,
+};
 use refinement::fragments::{
     law_other_ports_are_untouched, law_tape_prerequisites, law_unused_slots_are_silent,
 };
 use refinement::giving_up::{law_fault_is_outstanding, law_slots_are_given_up};
 use refinement::laws::law_setting_changes_one_slot;
 use refinement::port_facts::{
-    law_adapter_stays, law_cleared_stays, law_controls_stay, law_errors_are_shown,
+    law_adapter_stays, law_clear_error_bits_stay_clear, law_controls_stay, law_errors_are_shown,
     law_fault_is_found, law_faults_are_recorded, law_notes_stay, law_plug_events_are_found,
     law_running_well_is_found,
 };
@@ -27,7 +29,7 @@ pub fn law_prerequisites()
 {
     law_port_register_accesses();
     law_adapter_stays();
-    law_cleared_stays();
+    law_clear_error_bits_stay_clear();
     law_controls_stay();
     law_errors_are_shown();
     law_fault_is_found();
@@ -38,7 +40,7 @@ pub fn law_prerequisites()
     law_fault_is_outstanding();
     law_slots_are_given_up();
     law_fragment_prerequisites::<Brand>();
-    law_controls_are_of_a_port::<Brand>();
+    law_port_register_accesses_are_of_port::<Brand>();
     law_setting_changes_one_slot();
     law_plain_work_stays();
     law_faults_show_before_the_end();

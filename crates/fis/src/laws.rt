@@ -42,7 +42,7 @@ pub fn round_trip_pio_setup(fis: &PioSetup) -> Option<PioSetup>
 }
 
 /// No value has two spellings in bytes. This function does nothing.
-pub fn law_encodings_are_unique()
+pub fn law_each_value_has_at_most_one_encoding()
     ensures command { (c : Command) (a b : List ℕ) → AreBytes a → AreBytes b → EncodesCommand a c → EncodesCommand b c
         → a ≡ b }
     ensures device_to_host { (d : DeviceToHost) (a b : List ℕ) → AreBytes a → AreBytes b → EncodesDeviceToHost a d

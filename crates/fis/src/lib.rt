@@ -5,9 +5,9 @@
 //! those of what a disk sends.
 #![tactic(auto)]
 
-ghost use Rattle.std.specs.{Prelude.{◌≡◌, ◌<◌, ◌≤◌, ◌^◌, ◌↔◌, IsTrue, IfSome, Some, length}, Int.RustNames.{bit_and}};
+ghost use Rattle.std.specs.{Prelude.{Bool, ◌≡◌, ◌<◌, ◌≤◌, ◌^◌, ◌↔◌, IsTrue, IfSome, Some, length}, Int.RustNames.{bit_and}};
 ghost use Rattle.adapter.specs.{Encoding.{AreZero, EncodesCommand}, declared.command.Command.{Command}};
-ghost use Rattle.fis.specs.{declared.DeviceToHost.{DeviceToHost}, declared.PioSetup.{PioSetup}, declared.SetDeviceBits.{SetDeviceBits}, Encoding.{lba_at, EncodesDeviceToHost, EncodesPioSetup, EncodesSetDeviceBits}};
+ghost use Rattle.fis.specs.{declared.DeviceToHost.{DeviceToHost}, declared.PioSetup.{PioSetup}, declared.SetDeviceBits.{SetDeviceBits}, Encoding.{lba_at, placed_bit, EncodesDeviceToHost, EncodesPioSetup, EncodesSetDeviceBits}};
 
 pub mod laws;
 
@@ -55,11 +55,12 @@ pub struct PioSetup {
     pub transfer_count: u16,
 }
 
-const HOST_TO_DEVICE: u8 = 0x27;
+/// The types of the FISes.
+const H2D: u8 = 0x27;
 
-const DEVICE_TO_HOST: u8 = 0x34;
+const D2H: u8 = 0x34;
 
-const SET_DEVICE_BITS: u8 = 0xa1;
+const SDB: u8 = 0xa1;
 
 const PIO_SETUP: u8 = 0x5f;
 
@@ -73,13 +74,13 @@ const TAG_BYTES: usize = 8;
 const SETUP_BYTES: usize = 20;
 
 /// The bits of byte 1: C of a command, I of what the device sends, and D of a PIO Setup FIS.
-const COMMAND_BIT: u8 = 0x80;
+const C_BIT: u8 = 0x80;
 
-const INTERRUPT_BIT: u8 = 0x40;
+const I_BIT: u8 = 0x40;
 
-const TO_HOST_BIT: u8 = 0x20;
+const D_BIT: u8 = 0x20;
 
-const BOTH_BITS: u8 = INTERRUPT_BIT + TO_HOST_BIT;
+const BOTH_BITS: u8 = I_BIT + D_BIT;
 
 /// The status bits that a Set Device Bits FIS leaves alone.
 const UNSET_STATUS: u8 = 0x88;
@@ -107,6 +108,18 @@ fn lba_of(bytes: &[u8]) -> u64
         + (u64::from(LittleEndian::read_u24(&bytes[8..])) << 24)
 }
 
+/// Whether byte 1 of a FIS has I; none where it has another bit.
+fn interrupt_of(byte: u8) -> Option<bool>
+    ensures found { IfSome result (λ i. byte ≡ placed_bit i 6) }
+    ensures complete { (i : Bool) → byte ≡ placed_bit i 6 → result ≡ Some i }
+{
+    match byte {
+        I_BIT => Some(true),
+        0 => Some(false),
+        _ => None,
+    }
+}
+
 /// A command as a Register FIS from host to device (Serial ATA; AHCI 1.3.1, 4.2.3.1). Its LBA is below 2^48.
 pub fn encode_h2d(command: &Command) -> [u8; 20]
     requires { command.now.lba < 2 ^ 48 }
@@ -115,27 +128,11 @@ pub fn encode_h2d(command: &Command) -> [u8; 20]
     let features = command.features.to_le_bytes();
     let lba = command.lba.to_le_bytes();
     let count = command.count.to_le_bytes();
+    let Command { code, device, .. } = *command;
+    let [low, high] = features;
     [
-        HOST_TO_DEVICE,
-        COMMAND_BIT,
-        command.code,
-        features[0],
-        lba[0],
-        lba[1],
-        lba[2],
-        command.device,
-        lba[3],
-        lba[4],
-        lba[5],
-        features[1],
-        count[0],
-        count[1],
-        0,
-        0,
-        0,
-        0,
-        0,
-        0,
+        H2D, C_BIT, code, low, lba[0], lba[1], lba[2], device, lba[3], lba[4], lba[5], high,
+        count[0], count[1], 0, 0, 0, 0, 0, 0,
     ]
 }
 
@@ -145,8 +142,8 @@ pub fn decode_h2d(bytes: &[u8]) -> Option<Command>
     ensures complete { (c : Command) → EncodesCommand bytes.now c → result ≡ Some c }
 {
     if bytes.len() != COMMAND_BYTES
-        || bytes[0] != HOST_TO_DEVICE
-        || bytes[1] != COMMAND_BIT
+        || bytes[0] != H2D
+        || bytes[1] != C_BIT
         || !are_zero(bytes, 14, COMMAND_BYTES)
     {
         return None;
@@ -167,27 +164,16 @@ pub fn encode_d2h(fis: &DeviceToHost) -> [u8; 20]
 {
     let lba = fis.lba.to_le_bytes();
     let count = fis.count.to_le_bytes();
+    let flags = if fis.interrupt { I_BIT } else { 0 };
+    let DeviceToHost {
+        status,
+        error,
+        device,
+        ..
+    } = *fis;
     [
-        DEVICE_TO_HOST,
-        if fis.interrupt { INTERRUPT_BIT } else { 0 },
-        fis.status,
-        fis.error,
-        lba[0],
-        lba[1],
-        lba[2],
-        fis.device,
-        lba[3],
-        lba[4],
-        lba[5],
-        0,
-        count[0],
-        count[1],
-        0,
-        0,
-        0,
-        0,
-        0,
-        0,
+        D2H, flags, status, error, lba[0], lba[1], lba[2], device, lba[3], lba[4], lba[5], 0,
+        count[0], count[1], 0, 0, 0, 0, 0, 0,
     ]
 }
 
@@ -197,17 +183,13 @@ pub fn decode_d2h(bytes: &[u8]) -> Option<DeviceToHost>
     ensures complete { (d : DeviceToHost) → EncodesDeviceToHost bytes.now d → result ≡ Some d }
 {
     if bytes.len() != REGISTER_BYTES
-        || bytes[0] != DEVICE_TO_HOST
+        || bytes[0] != D2H
         || bytes[11] != 0
         || !are_zero(bytes, 14, REGISTER_BYTES)
     {
         return None;
     }
-    let interrupt = match bytes[1] {
-        INTERRUPT_BIT => true,
-        0 => false,
-        _ => return None,
-    };
+    let interrupt = interrupt_of(bytes[1])?;
     Some(DeviceToHost {
         interrupt,
         status: bytes[2],
@@ -225,8 +207,8 @@ pub fn encode_set_device_bits(fis: &SetDeviceBits) -> [u8; 8]
 {
     let tags = fis.tags.to_le_bytes();
     [
-        SET_DEVICE_BITS,
-        if fis.interrupt { INTERRUPT_BIT } else { 0 },
+        SDB,
+        if fis.interrupt { I_BIT } else { 0 },
         fis.status,
         fis.error,
         tags[0],
@@ -241,14 +223,10 @@ pub fn decode_set_device_bits(bytes: &[u8]) -> Option<SetDeviceBits>
     ensures found { IfSome result (EncodesSetDeviceBits bytes.now) }
     ensures complete { (s : SetDeviceBits) → EncodesSetDeviceBits bytes.now s → result ≡ Some s }
 {
-    if bytes.len() != TAG_BYTES || bytes[0] != SET_DEVICE_BITS || bytes[2] & UNSET_STATUS != 0 {
+    if bytes.len() != TAG_BYTES || bytes[0] != SDB || bytes[2] & UNSET_STATUS != 0 {
         return None;
     }
-    let interrupt = match bytes[1] {
-        INTERRUPT_BIT => true,
-        0 => false,
-        _ => return None,
-    };
+    let interrupt = interrupt_of(bytes[1])?;
     Some(SetDeviceBits {
         interrupt,
         status: bytes[2],
@@ -264,30 +242,20 @@ pub fn encode_pio_setup(fis: &PioSetup) -> [u8; 20]
 {
     let lba = fis.lba.to_le_bytes();
     let count = fis.count.to_le_bytes();
-    let transfer_count = fis.transfer_count.to_le_bytes();
-    let interrupt = if fis.interrupt { INTERRUPT_BIT } else { 0 };
-    let to_host = if fis.to_host { TO_HOST_BIT } else { 0 };
+    let moved = fis.transfer_count.to_le_bytes();
+    let interrupt = if fis.interrupt { I_BIT } else { 0 };
+    let to_host = if fis.to_host { D_BIT } else { 0 };
+    let flags = interrupt + to_host;
+    let PioSetup {
+        status,
+        error,
+        device,
+        ending_status: ending,
+        ..
+    } = *fis;
     [
-        PIO_SETUP,
-        interrupt + to_host,
-        fis.status,
-        fis.error,
-        lba[0],
-        lba[1],
-        lba[2],
-        fis.device,
-        lba[3],
-        lba[4],
-        lba[5],
-        0,
-        count[0],
-        count[1],
-        0,
-        fis.ending_status,
-        transfer_count[0],
-        transfer_count[1],
-        0,
-        0,
+        PIO_SETUP, flags, status, error, lba[0], lba[1], lba[2], device, lba[3], lba[4], lba[5], 0,
+        count[0], count[1], 0, ending, moved[0], moved[1], 0, 0,
     ]
 }
 
@@ -306,8 +274,8 @@ pub fn decode_pio_setup(bytes: &[u8]) -> Option<PioSetup>
     }
     let (interrupt, to_host) = match bytes[1] {
         BOTH_BITS => (true, true),
-        INTERRUPT_BIT => (true, false),
-        TO_HOST_BIT => (false, true),
+        I_BIT => (true, false),
+        D_BIT => (false, true),
         0 => (false, false),
         _ => return None,
     };

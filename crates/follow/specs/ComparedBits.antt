@@ -8,21 +8,21 @@ use Rattle.follow.specs.declared.differences.KnownDifference.{KnownDifference}
 use Rattle.follow.specs.declared.differences.KnownDifference.TheVariants.{OtherCapabilities, FurtherPorts, AlwaysAhci, InterruptCauses, StatusWithoutFault, FailedSlots, UntakenSlots}
 
 -- the bits of a port's register that `PortShows` of the crate `adapter` names (of an address, once it was written)
-abbrev pub named_port_bits : PortReg → ℕ
-named_port_bits Cmd = 0xc011
-named_port_bits Tfd = 0xffff
-named_port_bits Ssts = 0xf
-named_port_bits Sctl = 0xf
-named_port_bits Serr = 0x4010000
-named_port_bits Is = 0x7840004b
-named_port_bits Ie = 0x7840004b
-named_port_bits Sig = 0xffffffff
-named_port_bits Ci = 0xffffffff
-named_port_bits Sact = 0xffffffff
-named_port_bits Clb = 0xffffffff
-named_port_bits Clbu = 0xffffffff
-named_port_bits Fb = 0xffffffff
-named_port_bits Fbu = 0xffffffff
+abbrev pub modelled_port_bits : PortReg → ℕ
+modelled_port_bits Cmd = 0xc011
+modelled_port_bits Tfd = 0xffff
+modelled_port_bits Ssts = 0xf
+modelled_port_bits Sctl = 0xf
+modelled_port_bits Serr = 0x4010000
+modelled_port_bits Is = 0x7840004b
+modelled_port_bits Ie = 0x7840004b
+modelled_port_bits Sig = 0xffffffff
+modelled_port_bits Ci = 0xffffffff
+modelled_port_bits Sact = 0xffffffff
+modelled_port_bits Clb = 0xffffffff
+modelled_port_bits Clbu = 0xffffffff
+modelled_port_bits Fb = 0xffffffff
+modelled_port_bits Fbu = 0xffffffff
 
 -- those of any register that `Shows` names, but for IS, whose bits follow causes that are known to differ
 abbrev pub named_bits : Reg → ℕ
@@ -30,7 +30,7 @@ named_bits Cap = 0xffffffff
 named_bits Pi = 0xffffffff
 named_bits Vs = 0xffffffff
 named_bits Ghc = 0x80000003
-named_bits (Px port r) = named_port_bits r
+named_bits (Px port r) = modelled_port_bits r
 named_bits _ = 0
 
 -- the bits of a known difference, where these slots of its port are known to differ
@@ -64,8 +64,8 @@ abbrev pub compared_bits : Reg → ℕ → ℕ
 compared_bits r slots = bits_without (named_bits r) (difference_of r) slots
 
 -- two values of a register agree, where these slots of its port are known to differ
-abbrev pub MatchesUpToKnown : Reg → (slots model_value peer_value : ℕ) → Type 0
-MatchesUpToKnown r slots model_value peer_value = bit_and model_value (compared_bits r slots)
+abbrev pub MatchesUpToKnownDifferences : Reg → (slots model_value peer_value : ℕ) → Type 0
+MatchesUpToKnownDifferences r slots model_value peer_value = bit_and model_value (compared_bits r slots)
     ≡ bit_and peer_value (compared_bits r slots)
 
 -- each known difference has a place

@@ -16,11 +16,11 @@ abbrev pub GoesOnBySteps : Device → Device → Type 0
 GoesOnBySteps old new = (start : Device) → Steps start old → Steps start new
 
 -- the slots by which the known difference of a register goes, of its port
-abbrev pub differing_slots : Reg → DifferingSlotMasks → ℕ
-differing_slots (Px port Sact) d = slice_index d.untaken port.0
-differing_slots (Px port Tfd) d = slice_index d.plain port.0
-differing_slots (Px port r) d = slice_index d.failed port.0
-differing_slots r d = 0
+abbrev pub slots_behind_difference : Reg → DifferingSlotMasks → ℕ
+slots_behind_difference (Px port Sact) d = slice_index d.untaken port.0
+slots_behind_difference (Px port Tfd) d = slice_index d.plain port.0
+slots_behind_difference (Px port r) d = slice_index d.failed port.0
+slots_behind_difference r d = 0
 
 -- Of the slots that are noted by port, this one of this port is among the new ones if it was, or if it is added, and
 -- each other one if it was.

@@ -1,6 +1,6 @@
 // Which bits of a register are compared, and which differences are known.
 ghost use Rattle.std.specs.Prelude.{◌≡◌, ◌↔◌, ◌<◌, IsTrue, false, slice_index_or, slice_set, true};
-ghost use Rattle.follow.specs.ComparedBits.{MatchesUpToKnown, difference_bits, compared_bits, difference_of, named_bits, named_port_bits, difference_index, shown_difference};
+ghost use Rattle.follow.specs.ComparedBits.{MatchesUpToKnownDifferences, difference_bits, compared_bits, difference_of, named_bits, modelled_port_bits, difference_index, shown_difference};
 
 use hba_regs::{PortReg, Reg};
 use std::fmt;
@@ -101,8 +101,8 @@ impl KnownDifference {
 
 /// The bits of a port's register that the definitions name: what a reading shows of the others is open, and the server
 /// doesn't use it.
-fn named_port_bits(r: PortReg) -> u32
-    ensures { result ≡ named_port_bits r }
+fn modelled_port_bits(r: PortReg) -> u32
+    ensures { result ≡ modelled_port_bits r }
 {
     match r {
         PortReg::Cmd => 0x0000_c011,
@@ -124,7 +124,7 @@ fn named(r: Reg) -> u32
         Reg::Cap | Reg::Pi | Reg::Vs => u32::MAX,
         Reg::Ghc => 0x8000_0003,
         Reg::Is | Reg::Cap2 | Reg::Bohc => 0,
-        Reg::Px(_, r) => named_port_bits(r),
+        Reg::Px(_, r) => modelled_port_bits(r),
     }
 }
 
@@ -140,8 +140,8 @@ fn compared(r: Reg, slots: u32) -> u32
 
 /// Whether two values of a register agree, where these slots of its port are known to differ: those whose commands
 /// failed, of PxTFD the plain ones of these, and of PxSACT those that were not taken before a queued one failed.
-pub fn matches_up_to_known(r: Reg, slots: u32, shown: u32, said: u32) -> bool
-    ensures { IsTrue result ↔ MatchesUpToKnown r slots shown said }
+pub fn matches_up_to_known_differences(r: Reg, slots: u32, shown: u32, said: u32) -> bool
+    ensures { IsTrue result ↔ MatchesUpToKnownDifferences r slots shown said }
 {
     let bits = compared(r, slots);
     shown & bits == said & bits

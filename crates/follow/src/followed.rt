@@ -1,9 +1,9 @@
 // The model, followed beside its peer.
 ghost use Rattle.std.specs.Prelude.{◌≡◌, ◌+◌, ◌<◌, ◌||◌, IfSome, None, is_some, slice_index, true};
 ghost use Rattle.adapter.specs.{Access.{Reads}, Rules.{MayRead}};
-ghost use Rattle.follow.specs.{ComparedBits.{MatchesUpToKnown, shown_difference}, DifferingSlots.{NotesSlot, GoesOnBySteps, NotesFailed, with_difference_met, differing_slots}};
+ghost use Rattle.follow.specs.{ComparedBits.{MatchesUpToKnownDifferences, shown_difference}, DifferingSlots.{NotesSlot, GoesOnBySteps, NotesFailed, with_difference_met, slots_behind_difference}};
 
-use crate::differences::{MetDifferences, matches_up_to_known, shown_difference_of};
+use crate::differences::{MetDifferences, matches_up_to_known_differences, shown_difference_of};
 use crate::divergence::Divergence;
 use crate::peer::{Peer, PeerFault};
 use adapter::laws::{law_step_lists_keep_what_steps_keep, law_steps_compose};
@@ -58,7 +58,7 @@ impl DifferingSlotMasks {
 
     /// Those of a register.
     fn of(&self, r: Reg) -> u32
-        ensures { result ≡ differing_slots r self.now }
+        ensures { result ≡ slots_behind_difference r self.now }
     {
         match r {
             Reg::Px(port, PortReg::Sact) => slots_at(&self.untaken, port),
@@ -469,7 +469,7 @@ impl<A: Inspectable, P: Peer> Followed<A, P> {
             PortReg::Tfd => self.follow_task_file(port, TaskFile(shown), TaskFile(said)),
             PortReg::Cmd => {
                 self.commands[usize::from(port.0)] = said;
-                if !matches_up_to_known(Reg::Px(port, r), 0, shown, said) {
+                if !matches_up_to_known_differences(Reg::Px(port, r), 0, shown, said) {
                     // An engine fell: the model's falls before its reading.
                     let _released = self.go(DeviceStep::Release(port));
                 }
@@ -588,10 +588,10 @@ impl<A: Inspectable, P: Peer> Followed<A, P> {
         requires told { said ≡ None → is_some self.old.divergence ≡ true }
         ensures model { self.new.model ≡ self.old.model }
         ensures alike { self.new.divergence ≡ None
-            → MatchesUpToKnown r (differing_slots r self.new.differing) shown self.new.said }
+            → MatchesUpToKnownDifferences r (slots_behind_difference r self.new.differing) shown self.new.said }
         ensures passed { self.new.divergence ≡ None → self.new.met_differences.met
             ≡ with_difference_met (shown_difference r
-            (differing_slots r self.new.differing) shown self.new.said) self.old.met_differences.met }
+            (slots_behind_difference r self.new.differing) shown self.new.said) self.old.met_differences.met }
     {
         let Some(said) = said else {
             return;
@@ -601,7 +601,7 @@ impl<A: Inspectable, P: Peer> Followed<A, P> {
             return;
         }
         let slots = self.differing.of(r);
-        if !matches_up_to_known(r, slots, shown, said) {
+        if !matches_up_to_known_differences(r, slots, shown, said) {
             self.divergence = Some(Divergence::Register {
                 register: r,
                 shown,
@@ -701,7 +701,7 @@ impl<A: Inspectable, P: Peer> Adapter for Followed<A, P> {
         ensures reads { Reads r result (A.device self.old.model) (A.device self.new.model) }
         ensures counted { A.access_count self.new.model ≡ A.access_count self.old.model + 1 }
         ensures alike { self.new.divergence ≡ None
-            → MatchesUpToKnown r (differing_slots r self.new.differing) result self.new.said }
+            → MatchesUpToKnownDifferences r (slots_behind_difference r self.new.differing) result self.new.said }
     {
         law_steps_compose();
         law_step_lists_keep_what_steps_keep();

@@ -9,18 +9,18 @@ use Rattle.adapter.specs.Access.{Access, Reads}
 use Rattle.adapter.specs.Access.Access.{Reading, Writing, Loading, Storing}
 use Rattle.adapter.specs.Device.{Device, DevicePort}
 use Rattle.adapter.specs.Rules.{HasPort, IsOn}
-use Rattle.refinement.specs.Fragments.{AnySlotStates, ReadsPortOrWrites, IsDrivenBy, IsSimulated, IsSimulatedAlong, LeavesPort}
+use Rattle.refinement.specs.Fragments.{AnySlotStates, ReadsPortOrWrites, IsDrivenBy, IsSimulated, IsSimulatedAlong, OnlyDeviceChangesPort}
 use Rattle.refinement.specs.Driver.{AllFree}
 use Rattle.identify.specs.declared.wanted.Wanted.{Wanted}
 use Rattle.identify.specs.declared.wanted.Wanted.TheVariants.{Nothing}
 use Rattle.port_control.specs.Engines.{Stops, StopsBothEngines}
 use Rattle.port_control.specs.Ports.{IsSerrOrIs, IsStopped, BacksFault, IsCommandRegister}
 use Rattle.port_control.specs.declared.PortFault.TheVariants.{NoDevice}
-use Rattle.port_boot.specs.States.{IsBootTo, IsBootable, IsBootAccess}
+use Rattle.port_boot.specs.States.{IsBootTo, IsOnWithPortMemoryAndFreeSlots, IsBootAccess}
 use Rattle.host_boot.specs.Reboots.{RebootsPort, RebootsIfPresent, BootsStopped, IsCapPiOrBootAccess}
 use Rattle.host_boot.specs.Laws.{Laws}
 use Rattle.host_boot.specs.Laws.AccessPurpose.{Clearing, Rebooting, ReadingCapAndPi}
-use Rattle.host_boot.specs.TakeOver.{BootsAndTellsEngines, StopsAndBootsPort, ReadyHaltOfTaken, ReadsCapOrPi, BacksProbeResult, WroteSctl}
+use Rattle.host_boot.specs.TakeOver.{BootsPortOrSticksShowingEnginesIfServed, BootsPortOrSticksIfServed, ReadyQueuedHaltIsOfTaken, ReadsCapOrPi, BacksProbeResult, WroteSctlUnlessUnservedOrDead}
 use Rattle.host_boot.specs.declared.Booted.{Booted}
 use Rattle.host_boot.specs.declared.ProbeResult.{ProbeResult}
 use Rattle.host_boot.specs.declared.ProbeResult.TheVariants.{Unserved, Ready, Unready}
@@ -30,19 +30,19 @@ use Rattle.host_boot.proofs.Stretching.{by_then, driven_as, same_over}
 use Rattle.host_boot.proofs.Taking.{boots_same}
 
 -- a port that is left to the device stays stopped
-stopped_on : (old new : DevicePort) → LeavesPort old new → IsStopped old → IsStopped new
+stopped_on : (old new : DevicePort) → OnlyDeviceChangesPort old new → IsStopped old → IsStopped new
 stopped_on old new l is = record {
   engine_is_stopped = record {
-    st_is_clear = l.port_is_kept_by_device.st_stays_clear is.engine_is_stopped.st_is_clear;
-    cr_is_clear = l.port_is_kept_by_device.cr_stays_clear is.engine_is_stopped.cr_is_clear;
-    no_command_is_issued = λ slot. l.port_is_kept_by_device.ci_stays_clear slot (is.engine_is_stopped.no_command_is_issued slot);
-    no_command_is_taken = l.port_is_kept_by_device.stays_without_commands is.engine_is_stopped.cr_is_clear is.engine_is_stopped.no_command_is_taken;
+    st_is_clear = l.bits_only_fall.st_stays_clear is.engine_is_stopped.st_is_clear;
+    cr_is_clear = l.bits_only_fall.cr_stays_clear is.engine_is_stopped.cr_is_clear;
+    no_command_is_issued = λ slot. l.bits_only_fall.ci_stays_clear slot (is.engine_is_stopped.no_command_is_issued slot);
+    no_command_is_taken = l.bits_only_fall.none_stays_taken_while_cr_is_clear is.engine_is_stopped.cr_is_clear is.engine_is_stopped.no_command_is_taken;
   };
-  sact_is_clear = λ slot. l.port_is_kept_by_device.sact_stays_clear slot (is.sact_is_clear slot);
+  sact_is_clear = λ slot. l.bits_only_fall.sact_stays_clear slot (is.sact_is_clear slot);
 }
 
 -- what halts a port that is ready then
-pub found_halts : (wanted : Wanted) (port : Port) (old new : Device) (found : ProbeResult) → BootsStopped wanted port found old new → ReadyHaltOfTaken found port.0 new
+pub found_halts : (wanted : Wanted) (port : Port) (old new : Device) (found : ProbeResult) → BootsStopped wanted port found old new → ReadyQueuedHaltIsOfTaken found port.0 new
 found_halts wanted port old new found b info is = (subst (λ (f : ProbeResult). BootsStopped wanted port f old new) is b).halt_is_of_taken
 
 -- looking at a port is of its boot
@@ -75,7 +75,7 @@ module _ (laws : Laws) where
   -- ---- when the adapter is taken over: the port was stopped before
 
   module _ (port : Port) (old mid : Device) (stops : IsSimulatedAlong (Stops port) (ReadsPortOrWrites IsCommandRegister port) AnySlotStates old mid) (wanted : Wanted) (new : Device) where
-    pub found_boots : (found : ProbeResult) → BootsStopped wanted port found mid new → BootsAndTellsEngines port found old new
+    pub found_boots : (found : ProbeResult) → BootsStopped wanted port found mid new → BootsPortOrSticksShowingEnginesIfServed port found old new
     found_boots Unserved b = absurd b
     found_boots (Ready info) b = then_boot laws port old mid stops new b.boots
     found_boots (Unready state) b = then_boot_to laws port old mid stops new state b.boots
@@ -85,20 +85,20 @@ module _ (laws : Laws) where
     found_stands (Ready info) b wants there = ((wants, (still_there port old new (boots_same laws port old new (Ready info) (found_boots (Ready info) b)) there).1), b.ready)
     found_stands (Unready state) b wants there = ((wants, (still_there port old new (boots_same laws port old new (Unready state) (found_boots (Unready state) b)) there).1), b.state_is_backed)
 
-    pub found_reset : (found : ProbeResult) → BootsStopped wanted port found mid new → WroteSctl found port.0 (length old.tape) new
+    pub found_reset : (found : ProbeResult) → BootsStopped wanted port found mid new → WroteSctlUnlessUnservedOrDead found port.0 (length old.tape) new
     found_reset Unserved b = absurd b
     found_reset (Ready info) b = since_stop laws port old mid stops _ b.sctl_written_in_boot
     found_reset (Unready state) b = ended_since laws port old mid stops new state b.sctl_written_in_boot
 
-    pub found_way : (found : ProbeResult) → BootsStopped wanted port found mid new → StopsAndBootsPort port found old new
+    pub found_way : (found : ProbeResult) → BootsStopped wanted port found mid new → BootsPortOrSticksIfServed port found old new
     found_way Unserved b = absurd b
     found_way (Ready info) b = (mid, stops.is_simulated.is_driven, b.boots.is_simulated.is_driven, b.brings_ready, b.shows_only_new_errors)
     found_way (Unready state) b = (
       mid,
       stops.is_simulated.is_driven,
       laws.boot_on_way_is_driven port state mid new b.boots,
-      b.ends_before_start,
-      b.ends_after_start,
+      b.unstarted_state_ends_before_start,
+      b.stopped_state_ends_after_start,
       λ dead. boot_sticks (StopsBothEngines port) port old new (subst (λ (s : ShownState). IsBootTo (StopsBothEngines port) port s old new) dead (then_boot_to laws port old mid stops new state b.boots)),
     )
 
@@ -116,10 +116,10 @@ module _ (laws : Laws) where
       pub asked_starts : IsSimulated (IsCapPiOrBootAccess port) (λ uses. AllFree uses port.0) old asked
       asked_starts = (laws.fragments.is_of_wider_kind ReadingCapAndPi (Rebooting port) (λ uses. uses) (λ access is. inl is) (λ uses free. tt) old asked asked_followed).is_simulated
 
-      pub asked_bootable : IsBootable port old → IsBootable port asked
+      pub asked_bootable : IsOnWithPortMemoryAndFreeSlots port old → IsOnWithPortMemoryAndFreeSlots port asked
       asked_bootable b = bootable_over laws ReadingCapAndPi port old asked (λ uses free. tt) asked_followed b.has_port b.driver_memory_fits b.machine_is_related (cap_on laws v old asked b.adapter_is_on asks)
 
-      pub asked_stopped : LeavesPort (old.port port.0) (asked.port port.0) → IsStopped (old.port port.0) → IsStopped (asked.port port.0)
+      pub asked_stopped : OnlyDeviceChangesPort (old.port port.0) (asked.port port.0) → IsStopped (old.port port.0) → IsStopped (asked.port port.0)
       asked_stopped = stopped_on (old.port port.0) (asked.port port.0)
 
       pub asked_boots : (booted : Booted) (wanted : Wanted) (new : Device) → BootsStopped wanted port booted.found asked new → booted.slot_count ≡ field v 8 5 + 1 → booted.supports_ncq ≡ bit v 30 →
@@ -132,7 +132,7 @@ module _ (laws : Laws) where
         pub seen_starts : IsSimulated (IsCapPiOrBootAccess port) (λ uses. AllFree uses port.0) old seen
         seen_starts = (laws.fragments.fragments_join (Rebooting port) (Clearing port) (λ uses. uses) (λ uses. uses) (clearing_of_start port) (λ uses free. tt) old asked seen asked_starts looks).is_simulated
 
-        pub seen_bootable : IsOn seen → IsBootable port asked → IsBootable port seen
+        pub seen_bootable : IsOn seen → IsOnWithPortMemoryAndFreeSlots port asked → IsOnWithPortMemoryAndFreeSlots port seen
         seen_bootable on b = bootable_over laws (Clearing port) port asked seen (λ uses free. tt) looks b.has_port b.driver_memory_fits b.machine_is_related on
 
         -- it shows a device, and is booted

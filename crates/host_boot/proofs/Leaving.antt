@@ -10,25 +10,25 @@ use Rattle.adapter.specs.Idle.{IsIdlePort}
 use Rattle.adapter.specs.KeptBySteps.{KeepsOverSteps, KeepsOutsideReset}
 use Rattle.adapter.specs.Steps.{Steps}
 use Rattle.adapter.specs.declared.command.Operation.TheVariants.{Identify}
-use Rattle.refinement.specs.Fragments.{LeavesPort, GainsNoMove}
+use Rattle.refinement.specs.Fragments.{OnlyDeviceChangesPort, GainsNoMove}
 use Rattle.refinement.specs.PreservedParts.{SameAdapter}
 use Rattle.identify.specs.Wanted.{serial_of}
 use Rattle.identify.specs.declared.wanted.Wanted.{Wanted}
-use Rattle.host_boot.specs.TakeOver.{IsServed, LeavesFoundPort, BacksProbeResult, StillBacksProbeResult, WroteSctl}
+use Rattle.host_boot.specs.TakeOver.{IsServed, KeepsWhatBacksProbeResult, BacksProbeResult, StillBacksProbeResult, WroteSctlUnlessUnservedOrDead}
 use Rattle.host_boot.specs.declared.ProbeResult.{ProbeResult}
 use Rattle.host_boot.specs.declared.ProbeResult.TheVariants.{Unserved, Ready, Unready}
 use Rattle.host_boot.specs.Laws.{ProbeResultLaws, Laws}
 
-module _ (old new : device.DevicePort) (l : LeavesPort old new) where
+module _ (old new : device.DevicePort) (l : OnlyDeviceChangesPort old new) where
   pub idle_on : IsIdlePort old → IsIdlePort new
   idle_on i = record {
-    st_is_clear = l.port_is_kept_by_device.st_stays_clear i.st_is_clear;
-    cr_is_clear = l.port_is_kept_by_device.cr_stays_clear i.cr_is_clear;
-    fre_is_clear = l.port_is_kept_by_device.fre_stays_clear i.fre_is_clear;
-    fr_is_clear = l.port_is_kept_by_device.fr_stays_clear i.fr_is_clear;
-    ci_is_clear = λ slot. l.port_is_kept_by_device.ci_stays_clear slot (i.ci_is_clear slot);
-    sact_is_clear = λ slot. l.port_is_kept_by_device.sact_stays_clear slot (i.sact_is_clear slot);
-    none_is_taken = l.port_is_kept_by_device.stays_without_commands i.cr_is_clear i.none_is_taken;
+    st_is_clear = l.bits_only_fall.st_stays_clear i.st_is_clear;
+    cr_is_clear = l.bits_only_fall.cr_stays_clear i.cr_is_clear;
+    fre_is_clear = l.bits_only_fall.fre_stays_clear i.fre_is_clear;
+    fr_is_clear = l.bits_only_fall.fr_stays_clear i.fr_is_clear;
+    ci_is_clear = λ slot. l.bits_only_fall.ci_stays_clear slot (i.ci_is_clear slot);
+    sact_is_clear = λ slot. l.bits_only_fall.sact_stays_clear slot (i.sact_is_clear slot);
+    none_is_taken = l.bits_only_fall.none_stays_taken_while_cr_is_clear i.cr_is_clear i.none_is_taken;
   }
 
 module _ (port : ℕ) (old new : Device) (same : SameAdapter old new) (wanted : Wanted) where
@@ -49,8 +49,8 @@ boots_begin wanted Unserved port d h = h
 boots_begin wanted (Ready info) port d (is, ready) = (is, ready.has_fit_disk)
 boots_begin wanted (Unready state) port d h = h
 
-module _ (port : ℕ) (old new : Device) (l : LeavesPort (old.port port) (new.port port)) where
-  pub reset_on : (found : ProbeResult) (since : ℕ) → WroteSctl found port since old → WroteSctl found port since new
+module _ (port : ℕ) (old new : Device) (l : OnlyDeviceChangesPort (old.port port) (new.port port)) where
+  pub reset_on : (found : ProbeResult) (since : ℕ) → WroteSctlUnlessUnservedOrDead found port since old → WroteSctlUnlessUnservedOrDead found port since new
   reset_on Unserved since is = is
   reset_on (Ready info) since is = subst (λ (k : Notes). since ≤ k.sctl_written_at) (sym l.notes) is
   reset_on (Unready Absent) since is = subst (λ (k : Notes). since ≤ k.sctl_written_at) (sym l.notes) is
@@ -62,7 +62,7 @@ module _ (port : ℕ) (old new : Device) (l : LeavesPort (old.port port) (new.po
 module _ (laws : ProbeResultLaws) where
   -- ---- what stands behind it
 
-  module _ (port : ℕ) (old new : Device) (l : LeavesPort (old.port port) (new.port port)) where
+  module _ (port : ℕ) (old new : Device) (l : OnlyDeviceChangesPort (old.port port) (new.port port)) where
     pub stands_on : SameAdapter old new → (wanted : Wanted) (found : ProbeResult) → (found ≢ Unready Dead → GainsNoMove port Identify old new)
         → BacksProbeResult wanted found port old → BacksProbeResult wanted found port new
     stands_on same wanted Unserved silent (not, idle) = (λ is. not (served_back port old new same wanted is), idle_on (old.port port) (new.port port) l idle)
@@ -70,7 +70,7 @@ module _ (laws : ProbeResultLaws) where
     stands_on same wanted (Unready state) silent (is, ends) =
         (served_on port old new same wanted is, laws.state_stays_backed (serial_of wanted) state port old new l (λ other. silent (λ e. other (let k : Unready state ≡ Unready Dead = e in cc))) ends)
 
-  pub still_on : (wanted : Wanted) (found : ProbeResult) (port : ℕ) (old new : Device) → SameAdapter old new → LeavesFoundPort found (old.port port) (new.port port) →
+  pub still_on : (wanted : Wanted) (found : ProbeResult) (port : ℕ) (old new : Device) → SameAdapter old new → KeepsWhatBacksProbeResult found (old.port port) (new.port port) →
       (found ≢ Unready Dead → GainsNoMove port Identify old new) → StillBacksProbeResult wanted found port old → StillBacksProbeResult wanted found port new
   still_on wanted Unserved port old new same left silent h = stands_on port old new left same wanted Unserved silent h
   still_on wanted (Ready info) port old new same left silent (is, disk) =
@@ -84,17 +84,17 @@ module _ (laws : Laws) where
   steps_same old new s = let k : KeepsOverSteps old new = laws.steps_keep_adapter_and_notes _ _ s in record { telling = k.telling_is_kept; memory_size = k.memory_size_is_kept; cap = k.cap_is_kept; pi = k.pi_is_kept }
 
   module _ (old : Device) (off : old.hr ≡ false) (port : ℕ) where
-    pub steps_leave : (mid : Device) → Steps old mid → LeavesPort (old.port port) (mid.port port)
+    pub steps_leave : (mid : Device) → Steps old mid → OnlyDeviceChangesPort (old.port port) (mid.port port)
     steps_leave mid s =
         let k : KeepsOverSteps old mid = laws.steps_keep_adapter_and_notes _ _ s in
         let c : KeepsOutsideReset old mid = k.keeps_outside_reset off in
-        record { port_is_kept_by_device = k.ports_are_kept port; controls = c.controls_are_kept port; notes = k.notes_are_kept port }
+        record { bits_only_fall = k.port_bits_only_fall port; controls = c.controls_are_kept port; notes = k.notes_are_kept port }
 
-    pub cap_leaves : (v : ℕ) (new : Device) → Reads Cap v old new → LeavesPort (old.port port) (new.port port)
-    cap_leaves v new call = subst (λ (d : Device). LeavesPort (old.port port) (d.port port)) (sym call.effect) (steps_leave call.at_access call.steps)
+    pub cap_leaves : (v : ℕ) (new : Device) → Reads Cap v old new → OnlyDeviceChangesPort (old.port port) (new.port port)
+    cap_leaves v new call = subst (λ (d : Device). OnlyDeviceChangesPort (old.port port) (d.port port)) (sym call.effect) (steps_leave call.at_access call.steps)
 
-    pub pi_leaves : (v : ℕ) (new : Device) → Reads Pi v old new → LeavesPort (old.port port) (new.port port)
-    pi_leaves v new call = subst (λ (d : Device). LeavesPort (old.port port) (d.port port)) (sym call.effect) (steps_leave call.at_access call.steps)
+    pub pi_leaves : (v : ℕ) (new : Device) → Reads Pi v old new → OnlyDeviceChangesPort (old.port port) (new.port port)
+    pi_leaves v new call = subst (λ (d : Device). OnlyDeviceChangesPort (old.port port) (d.port port)) (sym call.effect) (steps_leave call.at_access call.steps)
 
-    pub ghc_leaves : (v : ℕ) (new : Device) → Writes Ghc v old new → LeavesPort (old.port port) (new.port port)
-    ghc_leaves v new call = subst (λ (d : Device). LeavesPort (old.port port) (d.port port)) (sym call.effect) (steps_leave call.at_access call.steps)
+    pub ghc_leaves : (v : ℕ) (new : Device) → Writes Ghc v old new → OnlyDeviceChangesPort (old.port port) (new.port port)
+    ghc_leaves v new call = subst (λ (d : Device). OnlyDeviceChangesPort (old.port port) (d.port port)) (sym call.effect) (steps_leave call.at_access call.steps)

@@ -15,8 +15,8 @@ use Rattle.refinement.specs.Fragments.{IsDrivenBy, SparesOtherPorts, NoneWrites}
 use Rattle.refinement.specs.PortFacts.{RecordsFaultsIfSt, RunsWell, Undisturbed}
 use Rattle.refinement.specs.Fragments.{TapeGrows}
 use Rattle.identify.specs.declared.DiskInfo.{DiskInfo}
-use Rattle.port_boot.specs.States.{IsBootAccess, StaysRunning, ShownDiskIsIn}
-use Rattle.host_boot.specs.TakeOver.{SwitchesOnAndBoots, StopsAndBootsPort, StopsAndBootsEachPort, ReadsCapOrPi, probe_result_of}
+use Rattle.port_boot.specs.States.{IsBootAccess, StaysRunningIfUndisturbed, ShownDiskIsIn}
+use Rattle.host_boot.specs.TakeOver.{SwitchesOnBootsAndEnablesInterrupts, BootsPortOrSticksIfServed, BootsEachServedPortOrSticks, ReadsCapOrPi, probe_result_of}
 use Rattle.host_boot.specs.declared.ProbeResult.{ProbeResult}
 use Rattle.host_boot.specs.declared.ProbeResult.TheVariants.{Unserved, Ready, Unready}
 use Rattle.host_boot.specs.Laws.{Laws}
@@ -43,7 +43,7 @@ module _ (laws : Laws) where
   pub other_spares : (port : Port) (r : PortReg) → NoneWrites (IsOfOther port.0) (Px port r)
   other_spares port r access (at, other, is) = laws.one_port_spares_registers at port r other access is
 
-  others_run : (port : Port) (old new : Device) → IsOn old → IsDrivenBy (IsOfOther port.0) old new → StaysRunning port.0 old new
+  others_run : (port : Port) (old new : Device) → IsOn old → IsDrivenBy (IsOfOther port.0) old new → StaysRunningIfUndisturbed port.0 old new
   others_run port old new on driven =
       let spares = λ (r : Reg) (each : NoneWrites (IsOfOther port.0) r). All-weaker (IsOfOther port.0) (DoesNotWrite r) each driven.accesses driven.accesses_are_of_kind in
       laws.runs_on_after_accesses port driven.accesses old new on driven.all_are_done (spares Ghc (λ access (at, other, is). laws.one_port_spares_ghc at access is)) (spares (Px port Sctl) (other_spares port Sctl)) (spares (Px port Cmd) (other_spares port Cmd))
@@ -56,19 +56,19 @@ module _ (laws : Laws) where
 
   -- ---- the way of a port
 
-  through_driven : (port : Port) (found : ProbeResult) (old new : Device) → StopsAndBootsPort port found old new → IsDrivenBy (SparesOtherPorts port) old new
+  through_driven : (port : Port) (found : ProbeResult) (old new : Device) → BootsPortOrSticksIfServed port found old new → IsDrivenBy (SparesOtherPorts port) old new
   through_driven port Unserved old new same = subst (λ (d : Device). IsDrivenBy (SparesOtherPorts port) old d) (sym same) (by_none (SparesOtherPorts port) old)
   through_driven port (Ready info) old new (stopped, stop, boot, ready, news) =
       by_then laws (stop_driven laws port old stopped stop) (driven_as (IsBootAccess port) (SparesOtherPorts port) stopped new (laws.boot_access_is_of_port port) boot)
   through_driven port (Unready state) old new (stopped, stop, boot, early, late, sticks) =
       by_then laws (stop_driven laws port old stopped stop) (driven_as (IsBootAccess port) (SparesOtherPorts port) stopped new (laws.boot_access_is_of_port port) boot)
 
-  through_well : (port : Port) (info : DiskInfo) (old new : Device) → StopsAndBootsPort port (Ready info) old new → Undisturbed port.0 old new → RunsWell (new.port port.0)
+  through_well : (port : Port) (info : DiskInfo) (old new : Device) → BootsPortOrSticksIfServed port (Ready info) old new → Undisturbed port.0 old new → RunsWell (new.port port.0)
   through_well port info old new (stopped, stop, boot, ready, news) calm =
       news.port_runs_well (calm_in_parts laws port.0 old stopped new (tape_over laws (SparesOtherPorts port) old stopped (stop_driven laws port old stopped stop)) (tape_over laws (IsBootAccess port) stopped new boot) calm).1
 
   -- of ports one after another
-  go_driven : (n first : ℕ) (ports : List ProbeResult) (old new : Device) → n ≤ first → StopsAndBootsEachPort first ports old new → IsDrivenBy (IsOfFrom n) old new
+  go_driven : (n first : ℕ) (ports : List ProbeResult) (old new : Device) → n ≤ first → BootsEachServedPortOrSticks first ports old new → IsDrivenBy (IsOfFrom n) old new
   go_driven n first [] old new less same = subst (λ (d : Device). IsDrivenBy (IsOfFrom n) old d) (sym same) (by_none (IsOfFrom n) old)
   go_driven n first (found ∷ rest) old new less (mid, way, more) =
       by_then laws (driven_as (SparesOtherPorts (port_at first)) (IsOfFrom n) old mid (λ access is. (port_at first, less, is)) (through_driven (port_at first) found old mid way))
@@ -78,12 +78,12 @@ module _ (laws : Laws) where
   from_spares_ghc n access (at, less, is) = laws.one_port_spares_ghc at access is
 
   -- the one that was found ready runs well once it was booted, and after the others were
-  go_well : (port : Port) (info : DiskInfo) (first : ℕ) (ports : List ProbeResult) (k : ℕ) (old new : Device) → port.0 ≡ first + k → slice_index_or ports k Unserved ≡ Ready info → IsOn old → StopsAndBootsEachPort first ports old new →
+  go_well : (port : Port) (info : DiskInfo) (first : ℕ) (ports : List ProbeResult) (k : ℕ) (old new : Device) → port.0 ≡ first + k → slice_index_or ports k Unserved ≡ Ready info → IsOn old → BootsEachServedPortOrSticks first ports old new →
       Undisturbed port.0 old new → RunsWell (new.port port.0)
   go_well port info first [] k old new at is on way calm = absurd (let e : Unserved ≡ Ready info = is in cc)
   go_well port info first (found ∷ rest) zero old new at is on (mid, way, more) calm =
       let same : port_at first ≡ port = ap port_at (sym (at ∙ (omega arith))) in
-      let its : StopsAndBootsPort port (Ready info) old mid = subst (λ (p : Port). StopsAndBootsPort p (Ready info) old mid) same (subst (λ (f : ProbeResult). StopsAndBootsPort (port_at first) f old mid) is way) in
+      let its : BootsPortOrSticksIfServed port (Ready info) old mid = subst (λ (p : Port). BootsPortOrSticksIfServed p (Ready info) old mid) same (subst (λ (f : ProbeResult). BootsPortOrSticksIfServed (port_at first) f old mid) is way) in
       let early = through_driven (port_at first) found old mid way in
       let late = go_driven (first + 1) (first + 1) rest mid new (omega arith) more in
       let parts = calm_in_parts laws port.0 old mid new (tape_over laws (SparesOtherPorts (port_at first)) old mid early) (tape_over laws (IsOfFrom (first + 1)) mid new late) calm in
@@ -99,13 +99,13 @@ module _ (laws : Laws) where
   -- ---- what lasts, whatever goes wrong
 
   -- What holds once a port went its way, and lasts over accesses of other ports, holds once they all went theirs.
-  go_last : (P : Device → Type 0) (port : Port) (its : ProbeResult) → its ≢ Unserved → ((old new : Device) → IsOn old → StopsAndBootsPort port its old new → P new)
+  go_last : (P : Device → Type 0) (port : Port) (its : ProbeResult) → its ≢ Unserved → ((old new : Device) → IsOn old → BootsPortOrSticksIfServed port its old new → P new)
       → ((old new : Device) → IsOn old → IsDrivenBy (IsOfOther port.0) old new → P old → P new)
-      → (first : ℕ) (ports : List ProbeResult) (k : ℕ) (old new : Device) → port.0 ≡ first + k → slice_index_or ports k Unserved ≡ its → IsOn old → StopsAndBootsEachPort first ports old new → P new
+      → (first : ℕ) (ports : List ProbeResult) (k : ℕ) (old new : Device) → port.0 ≡ first + k → slice_index_or ports k Unserved ≡ its → IsOn old → BootsEachServedPortOrSticks first ports old new → P new
   go_last P port its served through lasting first [] k old new at is on way = absurd (served (sym is))
   go_last P port its served through lasting first (found ∷ rest) zero old new at is on (mid, way, more) =
       let same : port_at first ≡ port = ap port_at (sym (at ∙ (omega arith))) in
-      let own : StopsAndBootsPort port its old mid = subst (λ (p : Port). StopsAndBootsPort p its old mid) same (subst (λ (f : ProbeResult). StopsAndBootsPort (port_at first) f old mid) is way) in
+      let own : BootsPortOrSticksIfServed port its old mid = subst (λ (p : Port). BootsPortOrSticksIfServed p its old mid) same (subst (λ (f : ProbeResult). BootsPortOrSticksIfServed (port_at first) f old mid) is way) in
       let early = through_driven (port_at first) found old mid way in
       let late = go_driven (first + 1) (first + 1) rest mid new (omega arith) more in
       lasting mid new (on_over laws (SparesOtherPorts (port_at first)) old mid early (laws.one_port_spares_ghc (port_at first)) on)
@@ -115,7 +115,7 @@ module _ (laws : Laws) where
       let early = through_driven (port_at first) found old mid way in
       go_last P port its served through lasting (first + 1) rest k mid new (omega (arith, at)) is (on_over laws (SparesOtherPorts (port_at first)) old mid early (laws.one_port_spares_ghc (port_at first)) on) more
 
-  pub taken_well : (port : Port) (info : DiskInfo) (ports : List ProbeResult) (old new : Device) → IsIdle old → probe_result_of ports port.0 ≡ Ready info → SwitchesOnAndBoots ports old new → Undisturbed port.0 old new → RunsWell (new.port port.0)
+  pub taken_well : (port : Port) (info : DiskInfo) (ports : List ProbeResult) (old new : Device) → IsIdle old → probe_result_of ports port.0 ≡ Ready info → SwitchesOnBootsAndEnablesInterrupts ports old new → Undisturbed port.0 old new → RunsWell (new.port port.0)
   taken_well port info ports old new idle is way calm =
       let on : IsOn way.device_switched_on = laws.ghc_write_switches_on 0x80000000 old way.device_switched_on idle.no_reset refl refl way.switches in
       let surveyed : IsOn way.device_after_survey = on_over laws ReadsCapOrPi way.device_switched_on way.device_after_survey way.surveys survey_spares_ghc on in
@@ -123,16 +123,16 @@ module _ (laws : Laws) where
       let booted : IsOn way.device_after_boots = on_over laws (IsOfFrom 0) way.device_after_survey way.device_after_boots driven (from_spares_ghc 0) surveyed in
       let before : TapeGrows old way.device_after_survey = laws.tape.growth_is_transitive old way.device_switched_on way.device_after_survey (laws.tape.access_grows (Writing Ghc 0x80000000) old way.device_switched_on way.switches) (tape_over laws ReadsCapOrPi way.device_switched_on way.device_after_survey way.surveys) in
       let boots : TapeGrows way.device_after_survey way.device_after_boots = tape_over laws (IsOfFrom 0) way.device_after_survey way.device_after_boots driven in
-      let last : StaysRunning port.0 way.device_after_boots new = laws.runs_on_after_access port (Writing Ghc 0x80000002) way.device_after_boots new booted (λ (e : Ghc ≡ Px port Sctl). absurd cc) (λ (e : Ghc ≡ Px port Cmd). absurd cc) way.enables_interrupts in
+      let last : StaysRunningIfUndisturbed port.0 way.device_after_boots new = laws.runs_on_after_access port (Writing Ghc 0x80000002) way.device_after_boots new booted (λ (e : Ghc ≡ Px port Sctl). absurd cc) (λ (e : Ghc ≡ Px port Cmd). absurd cc) way.enables_interrupts in
       let ending : TapeGrows way.device_after_boots new = laws.tape.access_grows (Writing Ghc 0x80000002) way.device_after_boots new way.enables_interrupts in
       let parts = calm_in_parts laws port.0 old way.device_after_boots new (laws.tape.growth_is_transitive old way.device_after_survey way.device_after_boots before boots) ending calm in
       let within = calm_in_parts laws port.0 old way.device_after_survey way.device_after_boots before boots parts.0 in
       laws.stays_well_if_undisturbed port.0 way.device_after_boots new last parts.1 (go_well port info 0 ports port.0 way.device_after_survey way.device_after_boots (omega arith) is surveyed way.boots within.1)
 
   -- and once the adapter was let interrupt, if that leaves it
-  pub taken_last : (P : Device → Type 0) (port : Port) (its : ProbeResult) → its ≢ Unserved → ((old new : Device) → IsOn old → StopsAndBootsPort port its old new → P new)
+  pub taken_last : (P : Device → Type 0) (port : Port) (its : ProbeResult) → its ≢ Unserved → ((old new : Device) → IsOn old → BootsPortOrSticksIfServed port its old new → P new)
       → ((old new : Device) → IsOn old → IsDrivenBy (IsOfOther port.0) old new → P old → P new) → ((old new : Device) → IsOn old → Writes Ghc 0x80000002 old new → P old → P new)
-      → (ports : List ProbeResult) (old new : Device) → IsIdle old → probe_result_of ports port.0 ≡ its → SwitchesOnAndBoots ports old new → P new
+      → (ports : List ProbeResult) (old new : Device) → IsIdle old → probe_result_of ports port.0 ≡ its → SwitchesOnBootsAndEnablesInterrupts ports old new → P new
   taken_last P port its served through lasting enabling ports old new idle is way =
       let on : IsOn way.device_switched_on = laws.ghc_write_switches_on 0x80000000 old way.device_switched_on idle.no_reset refl refl way.switches in
       let surveyed : IsOn way.device_after_survey = on_over laws ReadsCapOrPi way.device_switched_on way.device_after_survey way.surveys survey_spares_ghc on in
@@ -140,7 +140,7 @@ module _ (laws : Laws) where
       let booted : IsOn way.device_after_boots = on_over laws (IsOfFrom 0) way.device_after_survey way.device_after_boots driven (from_spares_ghc 0) surveyed in
       enabling way.device_after_boots new booted way.enables_interrupts (go_last P port its served through lasting 0 ports port.0 way.device_after_survey way.device_after_boots (omega arith) is surveyed way.boots)
 
-  pub taken_recorded : (port : Port) (info : DiskInfo) (ports : List ProbeResult) (old new : Device) → IsIdle old → probe_result_of ports port.0 ≡ Ready info → SwitchesOnAndBoots ports old new → RecordsFaultsIfSt new.tape (new.port port.0) port.0
+  pub taken_recorded : (port : Port) (info : DiskInfo) (ports : List ProbeResult) (old new : Device) → IsIdle old → probe_result_of ports port.0 ≡ Ready info → SwitchesOnBootsAndEnablesInterrupts ports old new → RecordsFaultsIfSt new.tape (new.port port.0) port.0
   taken_recorded port info =
       taken_last (λ d. RecordsFaultsIfSt d.tape (d.port port.0) port.0) port (Ready info) (λ e. absurd (let z : Ready info ≡ Unserved = e in cc))
       (λ old new on its. its.4.faults_are_on_record)
@@ -148,7 +148,7 @@ module _ (laws : Laws) where
       (λ old new on does h. (laws.runs_on_after_access port (Writing Ghc 0x80000002) old new on (λ (e : Ghc ≡ Px port Sctl). absurd cc) (λ (e : Ghc ≡ Px port Cmd). absurd cc) does).faults_are_on_record h)
 
   -- where it shows a device, a disk is in
-  pub taken_own : (port : Port) (info : DiskInfo) (ports : List ProbeResult) (old new : Device) → IsIdle old → probe_result_of ports port.0 ≡ Ready info → SwitchesOnAndBoots ports old new → ShownDiskIsIn (new.port port.0)
+  pub taken_own : (port : Port) (info : DiskInfo) (ports : List ProbeResult) (old new : Device) → IsIdle old → probe_result_of ports port.0 ≡ Ready info → SwitchesOnBootsAndEnablesInterrupts ports old new → ShownDiskIsIn (new.port port.0)
   taken_own port info =
       taken_last (λ d. ShownDiskIsIn (d.port port.0)) port (Ready info) (λ e. absurd (let z : Ready info ≡ Unserved = e in cc))
       (λ old new on its. laws.ready_boot_has_shown_disk_in port its.0 new its.3)

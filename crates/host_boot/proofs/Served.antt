@@ -76,8 +76,8 @@ module _ (laws : Laws) where
           b.device_after_survey,
           by_none (ReadsPortOrWrites IsCommandRegister port) b.device_after_survey,
           booted_driven laws wanted port (Unready state) b.device_after_survey new boots,
-          boots.ends_before_start,
-          boots.ends_after_start,
+          boots.unstarted_state_ends_before_start,
+          boots.stopped_state_ends_after_start,
           λ dead. boot_sticks (StopsOnWay port Dead) port b.device_after_survey new (subst (λ (s : PortState). IsBootTo (StopsOnWay port s) port s b.device_after_survey new) dead boots.boots),
         )
 

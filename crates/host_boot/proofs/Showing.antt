@@ -20,7 +20,7 @@ use Rattle.port_control.specs.Ports.{FindsLinkAndClearsErrors, FindsSignature, H
 use Rattle.port_control.specs.declared.PortFault.{PortFault}
 use Rattle.port_control.specs.declared.PortFault.TheVariants.{NoDevice, Busy, EngineStuck, NotAta}
 use Rattle.port_boot.specs.States.{EndsBeforeStart, EndsAfterStart, IsStateOfFault}
-use Rattle.host_boot.specs.TakeOver.{FoundUnusableDevice, SwitchesOnAndBoots, StopsAndBootsPort, probe_result_of}
+use Rattle.host_boot.specs.TakeOver.{FoundUnusableDevice, SwitchesOnBootsAndEnablesInterrupts, BootsPortOrSticksIfServed, probe_result_of}
 use Rattle.host_boot.specs.declared.ProbeResult.{ProbeResult}
 use Rattle.host_boot.specs.declared.ProbeResult.TheVariants.{Unserved, Unready}
 use Rattle.host_boot.proofs.Running.{IsOfOther, other_spares, taken_last}
@@ -62,7 +62,7 @@ module _ (laws : Laws) where
     gently_over (access ∷ accesses) old new on all (mid, does, rest) h =
         let gentle = All-head (IsGentle port) access accesses all in
         let later = laws.access_keeps_adapter_on access old mid on (λ v is. absurd (subst (DoesNotWrite Ghc) is gentle.0 refl)) does in
-        gently_over accesses mid new later (All-tail (IsGentle port) access accesses all) rest (laws.shown_device_stays port access old mid on.no_reset gentle.1 does h)
+        gently_over accesses mid new later (All-tail (IsGentle port) access accesses all) rest (laws.disk_in_stays_shown_over_access port access old mid on.no_reset gentle.1 does h)
 
     pub gently : (old new : Device) → IsOn old → IsDrivenBy (IsGentle port) old new → Shown old → Shown new
     gently old new on driven = gently_over driven.accesses old new on driven.accesses_are_of_kind driven.all_are_done
@@ -141,7 +141,7 @@ module _ (laws : Laws) where
             (by_then laws (until_gentle port Tfd ShowsIdle f.linked f.idle f.waits) (read_gentle port Sig 0x101 f.idle b f.reads))
 
     -- where a disk was found that isn't served, its way ends so
-    pub way_shown : (state : PortState) (old new : Device) → FoundUnusableDevice state → IsOn old → StopsAndBootsPort port (Unready state) old new → Shown new
+    pub way_shown : (state : PortState) (old new : Device) → FoundUnusableDevice state → IsOn old → BootsPortOrSticksIfServed port (Unready state) old new → Shown new
     way_shown Foreign old new bad on (stopped, stop, boot, early, late, sticks) =
         late_shown stopped new (on_over laws (SparesOtherPorts port) old stopped (stop_driven laws port old stopped stop) (laws.one_port_spares_ghc port) on) (late tt)
     way_shown (Unfit n) old new bad on (stopped, stop, boot, early, late, sticks) = ⊎_elim
@@ -160,11 +160,11 @@ module _ (laws : Laws) where
 
   -- and so it is once all were booted
   pub taken_shown : (port : Port) (state : PortState) (ports : List ProbeResult) (old new : Device) → IsIdle old → FoundUnusableDevice state → probe_result_of ports port.0 ≡ Unready state
-      → SwitchesOnAndBoots ports old new → ShowsDiskIfIn (new.port port.0)
+      → SwitchesOnBootsAndEnablesInterrupts ports old new → ShowsDiskIfIn (new.port port.0)
   taken_shown port state ports old new idle bad is way =
       taken_last laws (λ d. ShowsDiskIfIn (d.port port.0)) port (Unready state) (λ e. absurd (let z : Unready state ≡ Unserved = e in cc))
       (λ a b on through. way_shown port state a b bad on through)
       (λ a b on driven h. gently port a b on
       (driven_as (IsOfOther port.0) (IsGentle port) a b (λ access is. (laws.one_port_spares_ghc is.0 access is.2, other_spares laws port Sctl access is)) driven) h)
-      (λ a b on does h. laws.shown_device_stays port (Writing Ghc 0x80000002) a b on.no_reset (λ (e : Ghc ≡ Px port Sctl). absurd cc) does h)
+      (λ a b on does h. laws.disk_in_stays_shown_over_access port (Writing Ghc 0x80000002) a b on.no_reset (λ (e : Ghc ≡ Px port Sctl). absurd cc) does h)
       ports old new idle is way

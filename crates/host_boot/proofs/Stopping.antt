@@ -16,8 +16,8 @@ use Rattle.refinement.specs.Slots.{Own, SlotStates, set_slot_state}
 use Rattle.refinement.specs.PreservedParts.{SameAdapter}
 use Rattle.port_control.specs.Engines.{FailsToStop, Stops, StopsBothEngines, StopsReceiving, EngineSticks}
 use Rattle.port_control.specs.Ports.{IsCommandRegister}
-use Rattle.port_boot.specs.States.{IsBoot, IsBootTo, IsBootable, IsBootAccess, StopsOnWay}
-use Rattle.host_boot.specs.TakeOver.{SticksOnWay, TellsEngines, WroteSctl}
+use Rattle.port_boot.specs.States.{IsBoot, IsBootTo, IsOnWithPortMemoryAndFreeSlots, IsBootAccess, StopsOnWay}
+use Rattle.host_boot.specs.TakeOver.{EngineSticksDuringBoot, ShowsEnginesStoppedOrStuck, WroteSctlUnlessUnservedOrDead}
 use Rattle.host_boot.specs.declared.ProbeResult.{ProbeResult}
 use Rattle.host_boot.specs.declared.ProbeResult.TheVariants.{Unserved, Ready, Unready}
 use Rattle.host_boot.specs.Laws.{Laws, AccessPurpose, slot_uses_for, accesses_for}
@@ -29,14 +29,14 @@ pub still_there : (port : Port) (old new : Device) → SameAdapter old new → H
 still_there port old new same there = (there.0, ap (λ (pi : ℕ). bit pi port.0) same.pi ∙ there.1)
 
 -- a boot to a dead port tells of the engine that is stuck
-pub boot_sticks : (TapeTells : List Access → Type 0) (port : Port) (old new : Device) → IsBootTo TapeTells port Dead old new → SticksOnWay port old new
+pub boot_sticks : (TapeTells : List Access → Type 0) (port : Port) (old new : Device) → IsBootTo TapeTells port Dead old new → EngineSticksDuringBoot port old new
 boot_sticks TapeTells port old new (inl b) = record { driven = b.is_simulated.is_driven; sticks = b.accesses_are_such }
 boot_sticks TapeTells port old new (inr b) = record { driven = b.is_simulated.is_driven; sticks = b.accesses_are_such }
 
 module _ (laws : Laws) where
   -- a port may be booted after accesses that leave its slots as they are
   pub bootable_over : (kind : AccessPurpose) (port : Port) (old new : Device) → ((uses : SlotStates) → AllFree uses port.0 → slot_uses_for kind uses) → IsSimulated (accesses_for kind) (slot_uses_for kind) old new →
-      HasPort old port.0 → DRIVER_BYTES ≤ old.memory_size → SomeMachineAgreesWith (λ uses. AllFree uses port.0) old → IsOn new → IsBootable port new
+      HasPort old port.0 → DRIVER_BYTES ≤ old.memory_size → SomeMachineAgreesWith (λ uses. AllFree uses port.0) old → IsOn new → IsOnWithPortMemoryAndFreeSlots port new
   bootable_over kind port old new fits f there room a on =
       let same = same_over laws (accesses_for kind) old new f.is_driven in
       record {
@@ -54,7 +54,7 @@ module _ (laws : Laws) where
   stuck_boots port old mid f = told_more (FailsToStop port) (EngineSticks port) (IsBootAccess port) (λ uses. AllFree uses port.0) (λ uses. uses) old mid (laws.failed_stop_sticks port) (stop_boots (FailsToStop port) port old mid f)
 
   module _ (port : Port) (old mid : Device) (stops : IsSimulatedAlong (Stops port) (ReadsPortOrWrites IsCommandRegister port) AnySlotStates old mid) where
-    pub bootable : HasPort old port.0 → DRIVER_BYTES ≤ old.memory_size → SomeMachineAgreesWith (λ uses. AllFree uses port.0) old → IsOn mid → IsBootable port mid
+    pub bootable : HasPort old port.0 → DRIVER_BYTES ≤ old.memory_size → SomeMachineAgreesWith (λ uses. AllFree uses port.0) old → IsOn mid → IsOnWithPortMemoryAndFreeSlots port mid
     bootable there room agreed on = bootable_over (Commanding port) port old mid (λ uses free. tt) stops.is_simulated there room agreed on
 
     pub since_stop : (since : ℕ) → length mid.tape ≤ since → length old.tape ≤ since
@@ -85,7 +85,7 @@ module _ (laws : Laws) where
       then_boot_to Foreign f = both (StopsOnWay port Foreign) (λ accesses is. is.0) f
       then_boot_to (Unfit n) f = both (StopsOnWay port (Unfit n)) (λ accesses is. is.0) f
 
-      pub ended_since : (state : PortState) → (state ≢ Dead → length mid.tape ≤ (new.port port.0).notes.sctl_written_at) → WroteSctl (Unready state) port.0 (length old.tape) new
+      pub ended_since : (state : PortState) → (state ≢ Dead → length mid.tape ≤ (new.port port.0).notes.sctl_written_at) → WroteSctlUnlessUnservedOrDead (Unready state) port.0 (length old.tape) new
       ended_since Dead is = tt
       ended_since Absent is = since_stop _ (is (λ e. absurd cc))
       ended_since ReadyState is = since_stop _ (is (λ e. absurd cc))
@@ -101,7 +101,7 @@ module _ (laws : Laws) where
   both_since port early late is = (laws.fall_holds_with_earlier early late 0 15 port is.0, laws.fall_holds_with_earlier early late 4 14 port is.1)
 
   -- what one property goes on with, and the other, they tell of each port
-  tells_on : (port : Port) (found : ProbeResult) (a b : List Access) → (StopsBothEngines port a → StopsBothEngines port b) → (EngineSticks port a → EngineSticks port b) → TellsEngines port found a → TellsEngines port found b
+  tells_on : (port : Port) (found : ProbeResult) (a b : List Access) → (StopsBothEngines port a → StopsBothEngines port b) → (EngineSticks port a → EngineSticks port b) → ShowsEnginesStoppedOrStuck port found a → ShowsEnginesStoppedOrStuck port found b
   tells_on port Unserved a b both stick is = tt
   tells_on port (Ready info) a b both stick is = both is
   tells_on port (Unready Dead) a b both stick is = stick is
@@ -110,8 +110,8 @@ module _ (laws : Laws) where
   tells_on port (Unready Foreign) a b both stick is = both is
   tells_on port (Unready (Unfit n)) a b both stick is = both is
 
-  pub tells_then : (port : Port) (found : ProbeResult) (early late : List Access) → TellsEngines port found early → TellsEngines port found (early ++ late)
+  pub tells_then : (port : Port) (found : ProbeResult) (early late : List Access) → ShowsEnginesStoppedOrStuck port found early → ShowsEnginesStoppedOrStuck port found (early ++ late)
   tells_then port found early late = tells_on port found early (early ++ late) (both_then port early late) (laws.sticking_holds_with_later early late port)
 
-  pub tells_since : (port : Port) (found : ProbeResult) (early late : List Access) → TellsEngines port found late → TellsEngines port found (early ++ late)
+  pub tells_since : (port : Port) (found : ProbeResult) (early late : List Access) → ShowsEnginesStoppedOrStuck port found late → ShowsEnginesStoppedOrStuck port found (early ++ late)
   tells_since port found early late = tells_on port found late (early ++ late) (both_since port early late) (laws.sticking_holds_with_earlier early late port)

@@ -20,7 +20,7 @@ use Rattle.adapter.specs.Rules.{IsOn}
 use Rattle.adapter.specs.declared.command.Operation.{Operation}
 use Rattle.adapter.specs.declared.command.Operation.TheVariants.{Identify}
 use Rattle.refinement.specs.Relation.{port_at}
-use Rattle.refinement.specs.Fragments.{AnySlotStates, SomeMachineAgrees, IsDrivenBy, IsSimulated, IsSimulatedChangingUses, SparesOtherPorts, IsSimulatedAlongChangingUses, SameSlotStates, LeavesPort, NoneWrites, GainsNoMove, DeviceStepsKeepSlots}
+use Rattle.refinement.specs.Fragments.{AnySlotStates, SomeMachineAgrees, IsDrivenBy, IsSimulated, IsSimulatedChangingUses, SparesOtherPorts, IsSimulatedAlongChangingUses, SameSlotStates, OnlyDeviceChangesPort, NoneWrites, GainsNoMove, DeviceStepsKeepUnwrittenPortSlots}
 use Rattle.refinement.specs.Driver.{AllFree}
 use Rattle.refinement.specs.Halting.{HaltOfTakenIfSt}
 use Rattle.refinement.specs.PreservedParts.{SameAdapter, DoesNotWrite}
@@ -29,7 +29,7 @@ use Rattle.identify.specs.declared.wanted.Wanted.{Wanted}
 use Rattle.identify.specs.declared.wanted.Wanted.TheVariants.{Nothing}
 use Rattle.port_control.specs.Engines.{StopsBothEngines}
 use Rattle.port_boot.specs.States.{IsBoot, IsBootTo, IsBootAccess}
-use Rattle.host_boot.specs.TakeOver.{BootsAndTellsEngines, SwitchesOnAndBoots, ReadyHaltOfTaken, IsUnusedOrDead, IsHostAccess, IsTakeOverAccess, LeavesPorts, BacksProbeResult, TakesOver, TellsEngines, WroteSctl, probe_result_of, unused_slots, wanted_of}
+use Rattle.host_boot.specs.TakeOver.{BootsPortOrSticksShowingEnginesIfServed, SwitchesOnBootsAndEnablesInterrupts, ReadyQueuedHaltIsOfTaken, IsUnusedOrIdentifyOfDeadPort, IsHostAccess, IsTakeOverAccess, OnlyDeviceChangesPorts, BacksProbeResult, TakesOver, ShowsEnginesStoppedOrStuck, WroteSctlUnlessUnservedOrDead, probe_result_of, unused_slots, wanted_of}
 use Rattle.host_boot.specs.declared.Host.{Host}
 use Rattle.host_boot.specs.declared.ProbeResult.{ProbeResult}
 use Rattle.host_boot.specs.declared.ProbeResult.TheVariants.{Unserved, Ready, Unready}
@@ -48,7 +48,7 @@ GoesTo May first uses old new = IsSimulatedChangingUses May (SameSlotStates firs
 
 -- what they tell of the first ports
 abbrev TellsFirst : List ProbeResult → ℕ → List Access → Type 0
-TellsFirst ports n accesses = (port : ℕ) → port < n → TellsEngines (port_at port) (probe_result_of ports port) accesses
+TellsFirst ports n accesses = (port : ℕ) → port < n → ShowsEnginesStoppedOrStuck (port_at port) (probe_result_of ports port) accesses
 
 -- So many ports were booted, as they were found, and the others are idle still.
 pub record IsUnderway (wanted : List Wanted) (ports : List ProbeResult) (n : ℕ) (start d : Device) : Type 0 where
@@ -56,13 +56,13 @@ pub record IsUnderway (wanted : List Wanted) (ports : List ProbeResult) (n : ℕ
   pub same : SameAdapter start d
   pub long : length ports ≡ 4
   pub uses : SlotStates
-  pub left : (port slot : ℕ) → IsUnusedOrDead ports uses port slot
+  pub left : (port slot : ℕ) → IsUnusedOrIdentifyOfDeadPort ports uses port slot
   pub free : (port slot : ℕ) → n ≤ port → uses port slot ≡ Free
   pub told : IsSimulatedAlongChangingUses (TellsFirst ports n) (IsTakeOverAccess wanted) (SameSlotStates unused_slots) (λ _. uses) start d
   pub agreed : SomeMachineAgrees uses d
   pub stands : (port : ℕ) → port < n → BacksProbeResult (wanted_of wanted port) (probe_result_of ports port) port d
-  pub reset : (port : ℕ) → port < n → WroteSctl (probe_result_of ports port) port (length start.tape) d
-  pub halts : (port : ℕ) → port < n → ReadyHaltOfTaken (probe_result_of ports port) port d
+  pub reset : (port : ℕ) → port < n → WroteSctlUnlessUnservedOrDead (probe_result_of ports port) port (length start.tape) d
+  pub halts : (port : ℕ) → port < n → ReadyQueuedHaltIsOfTaken (probe_result_of ports port) port d
   pub idle : (port : ℕ) → n ≤ port → IsIdlePort (d.port port)
 
 host_spares : (q : Port) (r : PortReg) → NoneWrites IsHostAccess (Px q r)
@@ -81,7 +81,7 @@ host_spares q r (Writing (Px p x) v) is = absurd is
 module _ (laws : Laws) where
   -- what halts a port is of a taken command still, over what was followed without a write of its PxCMD, where it was found ready
   still_halts : (May : Access → Type 0) (Fits : SlotStates → Type 0) (next : SlotStates → SlotStates) (uses : SlotStates) (q : ℕ) (old new : Device) → NoneWrites May (Px (port_at q) Cmd) → Fits uses
-      → IsSimulatedChangingUses May Fits next old new → SomeMachineAgrees uses old → (wanted : Wanted) (found : ProbeResult) → BacksProbeResult wanted found q new → ReadyHaltOfTaken found q old → ReadyHaltOfTaken found q new
+      → IsSimulatedChangingUses May Fits next old new → SomeMachineAgrees uses old → (wanted : Wanted) (found : ProbeResult) → BacksProbeResult wanted found q new → ReadyQueuedHaltIsOfTaken found q old → ReadyQueuedHaltIsOfTaken found q new
   still_halts May Fits next uses q old new spares fits f a wanted found stands halts info is =
       let slots : DriverSlots = record { slot_states = uses; awaiting_disposition = a.parked } in
       let c = f.acts_reach slots a.machine a.reached a.driver_relation fits in
@@ -96,7 +96,7 @@ module _ (laws : Laws) where
     goes_on old new a = record {
       is_driven = a.is_driven;
       acts_reach = λ s m reached x is.
-          subst (λ (u : SlotStates). ActsReach a.is_driven.accesses (driver_state_of_slots s old) m (driver_state_of_slots (record s { slot_states = u }) new) (DeviceStepsKeepSlots (IsTakeOverAccess wanted) s.slot_states)) is (a.acts_reach s m reached x tt);
+          subst (λ (u : SlotStates). ActsReach a.is_driven.accesses (driver_state_of_slots s old) m (driver_state_of_slots (record s { slot_states = u }) new) (DeviceStepsKeepUnwrittenPortSlots (IsTakeOverAccess wanted) s.slot_states)) is (a.acts_reach s m reached x tt);
     }
 
     -- and then others, with what is told of both
@@ -108,7 +108,7 @@ module _ (laws : Laws) where
 
   module _ (wanted : List Wanted) (ports : List ProbeResult) (port : Port) (below : port.0 < 4) (start old new : Device) (found : ProbeResult)
       (u : IsUnderway wanted ports port.0 start old) (on : IsOn new) (stands : BacksProbeResult (wanted_of wanted port.0) found port.0 new)
-      (reset : WroteSctl found port.0 (length old.tape) new) (halts : ReadyHaltOfTaken found port.0 new) where
+      (reset : WroteSctlUnlessUnservedOrDead found port.0 (length old.tape) new) (halts : ReadyQueuedHaltIsOfTaken found port.0 new) where
     abbrev Later : Type 0
     Later = IsUnderway wanted (slice_set ports port.0 found) (port.0 + 1) start new
 
@@ -119,7 +119,7 @@ module _ (laws : Laws) where
     other_is q other = get_or-set_other ports port.0 q found Unserved other
 
     -- what was used before it, is
-    was_left : (q slot : ℕ) → q ≢ port.0 → IsUnusedOrDead (slice_set ports port.0 found) u.uses q slot
+    was_left : (q slot : ℕ) → q ≢ port.0 → IsUnusedOrIdentifyOfDeadPort (slice_set ports port.0 found) u.uses q slot
     was_left q slot other = elim (u.left q slot) [
       | inl free ↦ inl free
       | inr (head, own, dead) ↦ inr (head, own, other_is q other ∙ dead)
@@ -131,7 +131,7 @@ module _ (laws : Laws) where
 
     module _ (driven : IsDrivenBy (IsBootAccess port) old new)
         (quiet : (q : Port) → q.0 ≢ port.0 → (u.uses q.0 0 ≡ Own Identify → ⊥) → GainsNoMove q.0 Identify old new) where
-      alone : (q : ℕ) → q ≢ port.0 → LeavesPort (old.port q) (new.port q)
+      alone : (q : ℕ) → q ≢ port.0 → OnlyDeviceChangesPort (old.port q) (new.port q)
       alone q other = laws.other_ports_are_left port q old new other u.on (driven_as (IsBootAccess port) (SparesOtherPorts port) old new (laws.boot_access_is_of_port port) driven)
 
       pub later_same : SameAdapter start new
@@ -164,7 +164,7 @@ module _ (laws : Laws) where
           let n : length old.tape ≡ length start.tape + length g.0 = ap (λ es. length es) g.1 ∙ length-append start.tape g.0 in
           omega (arith, n)
 
-      since_start : (f : ProbeResult) → WroteSctl f port.0 (length old.tape) new → WroteSctl f port.0 (length start.tape) new
+      since_start : (f : ProbeResult) → WroteSctlUnlessUnservedOrDead f port.0 (length old.tape) new → WroteSctlUnlessUnservedOrDead f port.0 (length start.tape) new
       since_start Unserved is = is
       since_start (Ready info) is = le_trans longer is
       since_start (Unready Absent) is = le_trans longer is
@@ -173,14 +173,14 @@ module _ (laws : Laws) where
       since_start (Unready (Unfit n)) is = le_trans longer is
       since_start (Unready Dead) is = is
 
-      pub later_reset : (q : ℕ) → q < port.0 + 1 → WroteSctl (probe_result_of (slice_set ports port.0 found) q) q (length start.tape) new
+      pub later_reset : (q : ℕ) → q < port.0 + 1 → WroteSctlUnlessUnservedOrDead (probe_result_of (slice_set ports port.0 found) q) q (length start.tape) new
       later_reset q less = elim (cases_eq q port.0) [
         | inl e ↦
-            let P : ℕ → Type 0 = λ k. WroteSctl (probe_result_of (slice_set ports port.0 found) k) k (length start.tape) new in
-            let Q : ProbeResult → Type 0 = λ f. WroteSctl f port.0 (length start.tape) new in
+            let P : ℕ → Type 0 = λ k. WroteSctlUnlessUnservedOrDead (probe_result_of (slice_set ports port.0 found) k) k (length start.tape) new in
+            let Q : ProbeResult → Type 0 = λ f. WroteSctlUnlessUnservedOrDead f port.0 (length start.tape) new in
             subst P (sym e) (subst Q (sym here_is) (since_start found reset))
         | inr other ↦
-            let Q : ProbeResult → Type 0 = λ f. WroteSctl f q (length start.tape) new in
+            let Q : ProbeResult → Type 0 = λ f. WroteSctlUnlessUnservedOrDead f q (length start.tape) new in
             subst Q (sym (other_is q other)) (reset_on q old new (alone q other) (probe_result_of ports q) (length start.tape) (u.reset q (omega (arith, less, other))))
       ]
 
@@ -195,14 +195,14 @@ module _ (laws : Laws) where
     -- ---- what is told of engines
 
     -- of those before it, and of its own
-    later_engines : (early late : List Access) → TellsFirst ports port.0 early → TellsEngines port found late → TellsFirst (slice_set ports port.0 found) (port.0 + 1) (early ++ late)
+    later_engines : (early late : List Access) → TellsFirst ports port.0 early → ShowsEnginesStoppedOrStuck port found late → TellsFirst (slice_set ports port.0 found) (port.0 + 1) (early ++ late)
     later_engines early late before here q less = elim (cases_eq q port.0) [
       | inl e ↦
-          let P : ℕ → Type 0 = λ k. TellsEngines (port_at k) (probe_result_of (slice_set ports port.0 found) k) (early ++ late) in
-          let Q : ProbeResult → Type 0 = λ f. TellsEngines port f (early ++ late) in
+          let P : ℕ → Type 0 = λ k. ShowsEnginesStoppedOrStuck (port_at k) (probe_result_of (slice_set ports port.0 found) k) (early ++ late) in
+          let Q : ProbeResult → Type 0 = λ f. ShowsEnginesStoppedOrStuck port f (early ++ late) in
           subst P (sym e) (subst Q (sym here_is) (tells_since laws port found early late here))
       | inr other ↦
-          let Q : ProbeResult → Type 0 = λ f. TellsEngines (port_at q) f (early ++ late) in
+          let Q : ProbeResult → Type 0 = λ f. ShowsEnginesStoppedOrStuck (port_at q) f (early ++ late) in
           subst Q (sym (other_is q other)) (tells_then laws (port_at q) (probe_result_of ports q) early late (before q (omega (arith, less, other))))
     ]
 
@@ -210,11 +210,11 @@ module _ (laws : Laws) where
     same_engines : found ≡ Unserved → (accesses : List Access) → TellsFirst ports port.0 accesses → TellsFirst (slice_set ports port.0 found) (port.0 + 1) accesses
     same_engines is accesses before q less = elim (cases_eq q port.0) [
       | inl e ↦
-          let P : ℕ → Type 0 = λ k. TellsEngines (port_at k) (probe_result_of (slice_set ports port.0 found) k) accesses in
-          let Q : ProbeResult → Type 0 = λ f. TellsEngines port f accesses in
+          let P : ℕ → Type 0 = λ k. ShowsEnginesStoppedOrStuck (port_at k) (probe_result_of (slice_set ports port.0 found) k) accesses in
+          let Q : ProbeResult → Type 0 = λ f. ShowsEnginesStoppedOrStuck port f accesses in
           subst P (sym e) (subst Q (sym (here_is ∙ is)) tt)
       | inr other ↦
-          let Q : ProbeResult → Type 0 = λ f. TellsEngines (port_at q) f accesses in
+          let Q : ProbeResult → Type 0 = λ f. ShowsEnginesStoppedOrStuck (port_at q) f accesses in
           subst Q (sym (other_is q other)) (before q (omega (arith, less, other)))
     ]
 
@@ -226,19 +226,19 @@ module _ (laws : Laws) where
     -- what halts the ports
     later_halts : (next : SlotStates → SlotStates) → IsSimulatedChangingUses (IsBootAccess port) (λ uses. AllFree uses port.0) next old new
         → ((q : ℕ) → q < port.0 + 1 → BacksProbeResult (wanted_of wanted q) (probe_result_of (slice_set ports port.0 found) q) q new)
-        → (q : ℕ) → q < port.0 + 1 → ReadyHaltOfTaken (probe_result_of (slice_set ports port.0 found) q) q new
+        → (q : ℕ) → q < port.0 + 1 → ReadyQueuedHaltIsOfTaken (probe_result_of (slice_set ports port.0 found) q) q new
     later_halts next f stand q less = elim (cases_eq q port.0) [
       | inl e ↦
-          let P : ℕ → Type 0 = λ k. ReadyHaltOfTaken (probe_result_of (slice_set ports port.0 found) k) k new in
-          let Q : ProbeResult → Type 0 = λ f. ReadyHaltOfTaken f port.0 new in
+          let P : ℕ → Type 0 = λ k. ReadyQueuedHaltIsOfTaken (probe_result_of (slice_set ports port.0 found) k) k new in
+          let Q : ProbeResult → Type 0 = λ f. ReadyQueuedHaltIsOfTaken f port.0 new in
           subst P (sym e) (subst Q (sym here_is) halts)
       | inr other ↦
-          let Q : ProbeResult → Type 0 = λ f. ReadyHaltOfTaken f q old in
+          let Q : ProbeResult → Type 0 = λ f. ReadyQueuedHaltIsOfTaken f q old in
           still_halts (IsBootAccess port) (λ uses. AllFree uses port.0) next u.uses q old new (λ access may. laws.one_port_spares_registers port (port_at q) Cmd other access (laws.boot_access_is_of_port port access may)) unused_here f u.agreed
           (wanted_of wanted q) (probe_result_of (slice_set ports port.0 found) q) (stand q less) (subst Q (sym (other_is q other)) (u.halts q (omega (arith, less, other))))
     ]
 
-    pub booted : found ≢ Unserved → IsBoot (TellsEngines port found) port old new → Later
+    pub booted : found ≢ Unserved → IsBoot (ShowsEnginesStoppedOrStuck port found) port old new → Later
     booted served told =
         let f : IsSimulated (IsBootAccess port) (λ uses. AllFree uses port.0) old new = told.is_simulated in
         let quiet : (q : Port) → q.0 ≢ port.0 → (u.uses q.0 0 ≡ Own Identify → ⊥) → GainsNoMove q.0 Identify old new =
@@ -255,9 +255,9 @@ module _ (laws : Laws) where
             | inr other ↦ was_left q slot other
           ];
           free = λ q slot more. u.free q slot (omega (arith, more));
-          told = then_told wanted unused_slots (TellsFirst ports port.0) (TellsEngines port found) (TellsFirst (slice_set ports port.0 found) (port.0 + 1)) later_engines (PortUnused port) (λ uses. uses)
+          told = then_told wanted unused_slots (TellsFirst ports port.0) (ShowsEnginesStoppedOrStuck port found) (TellsFirst (slice_set ports port.0 found) (port.0 + 1)) later_engines (PortUnused port) (λ uses. uses)
               u.uses start old new unused_here u.told
-              (told_wider laws (TellsEngines port found) (Booting port) (TakingOver wanted (PortUnused port)) (λ uses. uses) old new (taking f.is_driven quiet served) (λ uses free. free) told);
+              (told_wider laws (ShowsEnginesStoppedOrStuck port found) (Booting port) (TakingOver wanted (PortUnused port)) (λ uses. uses) old new (taking f.is_driven quiet served) (λ uses free. free) told);
           agreed = laws.fragments.some_machine_agrees (Booting port) (λ uses. uses) u.uses old new unused_here f u.agreed;
           stands = later_stands f.is_driven quiet;
           halts = later_halts (λ uses. uses) f (later_stands f.is_driven quiet);
@@ -270,7 +270,7 @@ module _ (laws : Laws) where
     abbrev Asked : SlotStates → SlotStates
     Asked uses = set_slot_state uses port.0 0 (Own Identify)
 
-    pub died : found ≡ Unready Dead → IsSimulatedAlongChangingUses (TellsEngines port found) (IsBootAccess port) (λ uses. AllFree uses port.0) Asked old new → Later
+    pub died : found ≡ Unready Dead → IsSimulatedAlongChangingUses (ShowsEnginesStoppedOrStuck port found) (IsBootAccess port) (λ uses. AllFree uses port.0) Asked old new → Later
     died dead told =
         let f : IsSimulatedChangingUses (IsBootAccess port) (λ uses. AllFree uses port.0) Asked old new = told.is_simulated in
         let served : found ≢ Unserved = λ (e : found ≡ Unserved). absurd (let k : Unready Dead ≡ Unserved = sym dead ∙ e in cc) in
@@ -301,9 +301,9 @@ module _ (laws : Laws) where
             ]
           ];
           free = λ q slot more. laws.setting_slot_keeps_others u.uses port.0 0 (Own Identify) q slot (λ driver_state_of_slots head. absurd (omega (arith, driver_state_of_slots, more))) ∙ u.free q slot (omega (arith, more));
-          told = then_told wanted unused_slots (TellsFirst ports port.0) (TellsEngines port found) (TellsFirst (slice_set ports port.0 found) (port.0 + 1)) later_engines (PortUnused port) Asked
+          told = then_told wanted unused_slots (TellsFirst ports port.0) (ShowsEnginesStoppedOrStuck port found) (TellsFirst (slice_set ports port.0 found) (port.0 + 1)) later_engines (PortUnused port) Asked
               u.uses start old new unused_here u.told
-              (told_wider laws (TellsEngines port found) (Booting port) (TakingOver wanted (PortUnused port)) Asked old new (taking f.is_driven quiet served) (λ uses free. free) told);
+              (told_wider laws (ShowsEnginesStoppedOrStuck port found) (Booting port) (TakingOver wanted (PortUnused port)) Asked old new (taking f.is_driven quiet served) (λ uses free. free) told);
           agreed = laws.fragments.some_machine_agrees (Booting port) Asked u.uses old new unused_here f u.agreed;
           stands = later_stands f.is_driven quiet;
           halts = later_halts Asked f (later_stands f.is_driven quiet);
@@ -340,47 +340,47 @@ module _ (laws : Laws) where
           ];
           reset = λ q less. elim (cases_eq q port.0) [
             | inl e ↦
-                let R : ℕ → Type 0 = λ k. WroteSctl (probe_result_of (slice_set ports port.0 found) k) k (length start.tape) old in
-                let Q : ProbeResult → Type 0 = λ f. WroteSctl f port.0 (length start.tape) old in
+                let R : ℕ → Type 0 = λ k. WroteSctlUnlessUnservedOrDead (probe_result_of (slice_set ports port.0 found) k) k (length start.tape) old in
+                let Q : ProbeResult → Type 0 = λ f. WroteSctlUnlessUnservedOrDead f port.0 (length start.tape) old in
                 subst R (sym e) (subst Q (sym (here_is ∙ is)) tt)
             | inr other ↦
-                let Q : ProbeResult → Type 0 = λ f. WroteSctl f q (length start.tape) old in
+                let Q : ProbeResult → Type 0 = λ f. WroteSctlUnlessUnservedOrDead f q (length start.tape) old in
                 subst Q (sym (other_is q other)) (u.reset q (omega (arith, less, other)))
           ];
           halts = λ q less. elim (cases_eq q port.0) [
             | inl e ↦
-                let R : ℕ → Type 0 = λ k. ReadyHaltOfTaken (probe_result_of (slice_set ports port.0 found) k) k old in
-                let Q : ProbeResult → Type 0 = λ f. ReadyHaltOfTaken f port.0 old in
+                let R : ℕ → Type 0 = λ k. ReadyQueuedHaltIsOfTaken (probe_result_of (slice_set ports port.0 found) k) k old in
+                let Q : ProbeResult → Type 0 = λ f. ReadyQueuedHaltIsOfTaken f port.0 old in
                 subst R (sym e) (subst Q (sym (here_is ∙ is)) (λ info ready. let z : Unserved ≡ Ready info = ready in absurd cc))
             | inr other ↦
-                let Q : ProbeResult → Type 0 = λ f. ReadyHaltOfTaken f q old in
+                let Q : ProbeResult → Type 0 = λ f. ReadyQueuedHaltIsOfTaken f q old in
                 subst Q (sym (other_is q other)) (u.halts q (omega (arith, less, other)))
           ];
           idle = λ q more. u.idle q (omega (arith, more));
         })
 
     -- whatever it was found to be
-    pub next : BootsAndTellsEngines port found old new → Later
+    pub next : BootsPortOrSticksShowingEnginesIfServed port found old new → Later
     next boots = by found refl boots
       where
-        booted_as : (f : ProbeResult) → found ≡ f → f ≢ Unserved → IsBoot (TellsEngines port f) port old new → Later
-        booted_as f is served b = booted (λ e. served (sym is ∙ e)) (subst (λ (x : ProbeResult). IsBoot (TellsEngines port x) port old new) (sym is) b)
+        booted_as : (f : ProbeResult) → found ≡ f → f ≢ Unserved → IsBoot (ShowsEnginesStoppedOrStuck port f) port old new → Later
+        booted_as f is served b = booted (λ e. served (sym is ∙ e)) (subst (λ (x : ProbeResult). IsBoot (ShowsEnginesStoppedOrStuck port x) port old new) (sym is) b)
 
         by_state : (state : PortState) → found ≡ Unready state → IsBootTo (StopsBothEngines port) port state old new → Later
         by_state Dead is (inl b) = booted_as (Unready Dead) is (λ e. absurd cc) b
-        by_state Dead is (inr b) = died is (subst (λ (x : ProbeResult). IsSimulatedAlongChangingUses (TellsEngines port x) (IsBootAccess port) (λ uses. AllFree uses port.0) Asked old new) (sym is) b)
+        by_state Dead is (inr b) = died is (subst (λ (x : ProbeResult). IsSimulatedAlongChangingUses (ShowsEnginesStoppedOrStuck port x) (IsBootAccess port) (λ uses. AllFree uses port.0) Asked old new) (sym is) b)
         by_state Absent is b = booted_as (Unready Absent) is (λ e. absurd cc) b
         by_state ReadyState is b = booted_as (Unready ReadyState) is (λ e. absurd cc) b
         by_state Foreign is b = booted_as (Unready Foreign) is (λ e. absurd cc) b
         by_state (Unfit n) is b = booted_as (Unready (Unfit n)) is (λ e. absurd cc) b
 
-        by : (f : ProbeResult) → found ≡ f → BootsAndTellsEngines port f old new → Later
+        by : (f : ProbeResult) → found ≡ f → BootsPortOrSticksShowingEnginesIfServed port f old new → Later
         by Unserved is same = passed is same
         by (Ready info) is b = booted_as (Ready info) is (λ e. absurd cc) b
         by (Unready state) is b = by_state state is b
 
   -- the adapter is what it was
-  pub boots_same : (port : Port) (old new : Device) (found : ProbeResult) → BootsAndTellsEngines port found old new → SameAdapter old new
+  pub boots_same : (port : Port) (old new : Device) (found : ProbeResult) → BootsPortOrSticksShowingEnginesIfServed port found old new → SameAdapter old new
   boots_same port old new Unserved is = subst (SameAdapter old) (sym is) (laws.same_adapter_is_reflexive old)
   boots_same port old new (Ready info) f = same_over laws (IsBootAccess port) old new f.is_simulated.is_driven
   boots_same port old new (Unready state) f = same_over laws (IsBootAccess port) old new (laws.boot_with_stops_is_driven port state old new f)
@@ -390,7 +390,7 @@ module _ (laws : Laws) where
 
   module _ (wanted : List Wanted) (start : Device) where
     -- no port was booted yet
-    pub begins : (ports : List ProbeResult) (d : Device) → length ports ≡ 4 → IsIdle start → SomeMachineAgrees unused_slots start → IsOn d → LeavesPorts start d → IsSimulated IsHostAccess AnySlotStates start d →
+    pub begins : (ports : List ProbeResult) (d : Device) → length ports ≡ 4 → IsIdle start → SomeMachineAgrees unused_slots start → IsOn d → OnlyDeviceChangesPorts start d → IsSimulated IsHostAccess AnySlotStates start d →
         IsUnderway wanted ports 0 start d
     begins ports d long idle agreed on leaves f = record {
       on = on;
@@ -408,7 +408,7 @@ module _ (laws : Laws) where
     }
 
     -- all were
-    module _ (ports : List ProbeResult) (d new : Device) (u : IsUnderway wanted ports 4 start d) (leaves : LeavesPorts d new) (f : IsSimulated IsHostAccess AnySlotStates d new) where
+    module _ (ports : List ProbeResult) (d new : Device) (u : IsUnderway wanted ports 4 start d) (leaves : OnlyDeviceChangesPorts d new) (f : IsSimulated IsHostAccess AnySlotStates d new) where
       abbrev Silent : ℕ → Type 0
       Silent port = GainsNoMove port Identify d new
 
@@ -423,7 +423,7 @@ module _ (laws : Laws) where
       all_told = then_told wanted unused_slots (TellsFirst ports 4) (λ late. Unit {0}) (TellsFirst ports 4) (λ early late is any port less. tells_then laws (port_at port) (probe_result_of ports port) early late (is port less))
           AnyUses (λ uses. uses) u.uses start d new tt u.told (record { is_simulated = hosting wanted d new f; accesses_are_such = tt })
 
-      pub ends : (host : Host) → host.ports ≡ ports → host.slot_count ≡ new.cap / 256 % 32 + 1 → host.supports_ncq ≡ bit new.cap 30 → IsOn new → new.ie ≡ true → SwitchesOnAndBoots ports start new → TakesOver wanted host start new
+      pub ends : (host : Host) → host.ports ≡ ports → host.slot_count ≡ new.cap / 256 % 32 + 1 → host.supports_ncq ≡ bit new.cap 30 → IsOn new → new.ie ≡ true → SwitchesOnBootsAndEnablesInterrupts ports start new → TakesOver wanted host start new
       ends host is slots queued on tells way = record {
         adapter_is_on = on;
         ie_is_set = tells;
@@ -433,17 +433,17 @@ module _ (laws : Laws) where
         results_are_backed = λ port less.
             let P : List ProbeResult → Type 0 = λ ps. BacksProbeResult (wanted_of wanted port) (probe_result_of ps port) port new in
             subst P (sym is) (stands_on laws.probe_results port d new (leaves port) (same_over laws IsHostAccess d new f.is_driven) (wanted_of wanted port) (probe_result_of ports port) (silent port) (u.stands port less));
-        sctl_was_written = λ port less.
-            let P : List ProbeResult → Type 0 = λ ps. WroteSctl (probe_result_of ps port) port (length start.tape) new in
+        sctl_was_written_unless_unserved_or_dead = λ port less.
+            let P : List ProbeResult → Type 0 = λ ps. WroteSctlUnlessUnservedOrDead (probe_result_of ps port) port (length start.tape) new in
             subst P (sym is) (reset_on port d new (leaves port) (probe_result_of ports port) (length start.tape) (u.reset port less));
         halt_is_of_taken = λ port less.
-            let P : List ProbeResult → Type 0 = λ ps. ReadyHaltOfTaken (probe_result_of ps port) port new in
+            let P : List ProbeResult → Type 0 = λ ps. ReadyQueuedHaltIsOfTaken (probe_result_of ps port) port new in
             subst P (sym is) (still_halts IsHostAccess AnySlotStates (λ uses. uses) u.uses port d new (host_spares (port_at port) Cmd) tt f u.agreed (wanted_of wanted port) (probe_result_of ports port)
             (stands_on laws.probe_results port d new (leaves port) (same_over laws IsHostAccess d new f.is_driven) (wanted_of wanted port) (probe_result_of ports port) (silent port) (u.stands port less)) (u.halts port less));
-        switches_on_and_boots = let P : List ProbeResult → Type 0 = λ ps. SwitchesOnAndBoots ps start new in subst P (sym is) way;
+        switches_on_and_boots = let P : List ProbeResult → Type 0 = λ ps. SwitchesOnBootsAndEnablesInterrupts ps start new in subst P (sym is) way;
         uses = u.uses;
-        slots_are_unused = λ port slot. let P : List ProbeResult → Type 0 = λ ps. IsUnusedOrDead ps u.uses port slot in subst P (sym is) (u.left port slot);
+        slots_are_unused_or_dead = λ port slot. let P : List ProbeResult → Type 0 = λ ps. IsUnusedOrIdentifyOfDeadPort ps u.uses port slot in subst P (sym is) (u.left port slot);
         followed = all_told.is_simulated;
-        engines_are_told = let P : List ProbeResult → Type 0 = λ ps. TellsFirst ps 4 all_told.is_simulated.is_driven.accesses in subst P (sym is) all_told.accesses_are_such;
+        engines_are_shown_stopped_or_stuck = let P : List ProbeResult → Type 0 = λ ps. TellsFirst ps 4 all_told.is_simulated.is_driven.accesses in subst P (sym is) all_told.accesses_are_such;
         machine_is_related = laws.fragments.some_machine_agrees AccessingHostRegisters (λ uses. uses) u.uses d new tt f u.agreed;
       }

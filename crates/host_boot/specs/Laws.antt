@@ -5,12 +5,12 @@ use Rattle.ata_types.specs.declared.PortState.{PortState as ShownState}
 use Rattle.adapter.specs.Access.{Access, Does, DoesAll, Reads, Writes}
 use Rattle.refinement.specs.Laws.{FragmentLaws, TapeLaws}
 use Rattle.refinement.specs.Driver.{AllFree, DriverState, DriverRelation}
-use Rattle.refinement.specs.Fragments.{AnyAccess, AnySlotStates, SomeMachineAgrees, ReadsPortOrWrites, IsDrivenBy, SparesOtherPorts, SameSlotStates, LeavesPort, GainsNoMove}
+use Rattle.refinement.specs.Fragments.{AnyAccess, AnySlotStates, SomeMachineAgrees, ReadsPortOrWrites, IsDrivenBy, SparesOtherPorts, SameSlotStates, OnlyDeviceChangesPort, GainsNoMove}
 use Rattle.hba_regs.specs.declared.reg.PortReg.TheVariants.{Cmd, Sctl, Ssts}
 use Rattle.ata_types.specs.declared.PortState.TheVariants.{Dead}
 use Rattle.adapter.specs.Device.{Device, DevicePort}
 use Rattle.identify.specs.declared.DiskInfo.{DiskInfo}
-use Rattle.port_boot.specs.States.{BacksState, BringsReady, HasFitDiskAndInterrupts, IsBootTo, IsBootAccess, IsReadyAfterBoot, StaysRunning, ShownDiskIsIn, StopsOnWay}
+use Rattle.port_boot.specs.States.{BacksState, BringsReady, HasFitDiskAndInterrupts, IsBootTo, IsBootAccess, IsReadyAfterBoot, StaysRunningIfUndisturbed, ShownDiskIsIn, StopsOnWay}
 use Rattle.adapter.specs.declared.tape.Entry.{Entry}
 use Rattle.port_control.specs.Engines.{FailsToStop, EngineFalls, EngineSticks, StopsBothEngines}
 use Rattle.refinement.specs.Slots.{Free, SlotState, SlotStates, set_slot_state}
@@ -21,7 +21,7 @@ use Rattle.refinement.specs.PreservedParts.{ShowsDiskIfIn, SameAdapter, DoesNotW
 use Rattle.block_machine.specs.Histories.{IsReachable}
 use Rattle.block_machine.specs.State.{Machine}
 use Rattle.adapter.specs.declared.command.Operation.TheVariants.{Identify}
-use Rattle.adapter.specs.Idle.{IsIdle, TellsDisks}
+use Rattle.adapter.specs.Idle.{IsIdle, DisksAreKnownIfTelling}
 use Rattle.host_boot.specs.Reboots.{IsCapPiOrBootAccess}
 use Rattle.host_boot.specs.Resets.{IsResetAccess}
 use Rattle.host_boot.specs.TakeOver.{IsHostAccess, IsTakeOverAccess, ReadsCapOrPi}
@@ -91,11 +91,11 @@ pub record ProbeResultLaws : Type 0 where
       ≡ (old.port port).notes.sctl_written_at → HasFitDiskAndInterrupts wanted port old info
       → HasFitDiskAndInterrupts wanted port new info
   pub ready_port_stays_backed : (wanted : Option (List ℕ)) (port : ℕ) (old new : Device) (info : DiskInfo)
-      → LeavesPort (old.port port) (new.port port) → GainsNoMove port Identify old new
+      → OnlyDeviceChangesPort (old.port port) (new.port port) → GainsNoMove port Identify old new
       → IsReadyAfterBoot wanted port old info
       → IsReadyAfterBoot wanted port new info
   pub state_stays_backed : (wanted : Option (List ℕ)) (state : ShownState) (port : ℕ) (old new : Device)
-      → LeavesPort (old.port port) (new.port port) → (state ≢ Dead → GainsNoMove port Identify old new)
+      → OnlyDeviceChangesPort (old.port port) (new.port port) → (state ≢ Dead → GainsNoMove port Identify old new)
       → BacksState wanted state port old → BacksState wanted state port new
 
 pub record Laws : Type 0 where
@@ -113,7 +113,7 @@ pub record Laws : Type 0 where
       × (new.ae ≡ bit v 31)
   pub ended_reset_is_idle : (v : ℕ) (old new : Device) → old.hr ≡ true → Reads Ghc v old new → bit v 0 ≡ false
       → IsIdle new
-  pub shown_device_stays : (port : Port) (access : Access) (old new : Device) → old.hr ≡ false
+  pub disk_in_stays_shown_over_access : (port : Port) (access : Access) (old new : Device) → old.hr ≡ false
       → DoesNotWrite (Px port Sctl) access → Does access old new → ShowsDiskIfIn (old.port port.0)
       → ShowsDiskIfIn (new.port port.0)
   pub shown_disk_stays_in_over_access : (port : ℕ) (access : Access) (old new : Device) → Does access old new
@@ -136,9 +136,9 @@ pub record Laws : Type 0 where
       → DoesAll accesses old new → IsOn new
   pub other_ports_are_left : (port : Port) (q : ℕ) (old new : Device) → q ≢ port.0 → IsOn old
       → IsDrivenBy (SparesOtherPorts port) old new
-      → LeavesPort (old.port q) (new.port q)
-  pub leaves_port_is_transitive : (old mid new : DevicePort) → LeavesPort old mid → LeavesPort mid new
-      → LeavesPort old new
+      → OnlyDeviceChangesPort (old.port q) (new.port q)
+  pub leaves_port_is_transitive : (old mid new : DevicePort) → OnlyDeviceChangesPort old mid
+      → OnlyDeviceChangesPort mid new → OnlyDeviceChangesPort old new
   pub one_port_spares_registers : (port q : Port) (r : PortReg) → q.0 ≢ port.0 → (access : Access)
       → SparesOtherPorts port access
       → DoesNotWrite (Px q r) access
@@ -146,7 +146,8 @@ pub record Laws : Type 0 where
   pub accesses_keep_adapter : (old new : Device) → IsDrivenBy AnyAccess old new → SameAdapter old new
   pub accesses_extend_tape : (old new : Device) → IsDrivenBy AnyAccess old new → (gained : List Entry)
       × (new.tape ≡ old.tape ++ gained)
-  pub idle_device_is_related : (d : Device) → IsIdle d → TellsDisks d → SomeMachineAgrees (λ port slot. Free) d
+  pub idle_device_is_related : (d : Device) → IsIdle d → DisksAreKnownIfTelling d
+      → SomeMachineAgrees (λ port slot. Free) d
   pub set_slot_has_state : (uses : SlotStates) (port slot : ℕ) (u : SlotState)
       → set_slot_state uses port slot u port slot ≡ u
   pub setting_slot_keeps_others : (uses : SlotStates) (port slot : ℕ) (u : SlotState) (other_port other_slot : ℕ)
@@ -181,13 +182,13 @@ pub record Laws : Type 0 where
       → IsBootAccess port access
   pub runs_on_after_access : (port : Port) (access : Access) (old new : Device) → IsOn old
       → DoesNotWrite (Px port Sctl) access
-      → DoesNotWrite (Px port Cmd) access → Does access old new → StaysRunning port.0 old new
+      → DoesNotWrite (Px port Cmd) access → Does access old new → StaysRunningIfUndisturbed port.0 old new
   pub runs_on_after_accesses : (port : Port) (accesses : List Access) (old new : Device) → IsOn old
       → DoesAll accesses old new
       → All (DoesNotWrite Ghc) accesses → All (DoesNotWrite (Px port Sctl)) accesses
-      → All (DoesNotWrite (Px port Cmd)) accesses → StaysRunning port.0 old new
-  pub stays_well_if_undisturbed : (port : ℕ) (old new : Device) → StaysRunning port old new → Undisturbed port old new
-      → RunsWell (old.port port) → RunsWell (new.port port)
+      → All (DoesNotWrite (Px port Cmd)) accesses → StaysRunningIfUndisturbed port.0 old new
+  pub stays_well_if_undisturbed : (port : ℕ) (old new : Device) → StaysRunningIfUndisturbed port old new
+      → Undisturbed port old new → RunsWell (old.port port) → RunsWell (new.port port)
   pub halt_of_taken_stays_over_acts : (port : Port) (acts : List Act) (k later : DriverState) (m : Machine)
       → IsReachable m
       → DriverRelation m k

@@ -14,7 +14,7 @@ use Rattle.adapter.specs.Idle.{IsIdlePort}
 use Rattle.adapter.specs.Rules.{IsOn}
 use Rattle.adapter.specs.declared.command.Operation.TheVariants.{Identify}
 use Rattle.refinement.specs.Relation.{port_at}
-use Rattle.refinement.specs.Fragments.{SomeMachineAgreesWith, SomeMachineAgrees, ReadsPortOrWrites, IsDrivenBy, IsSimulatedChangingUses, SameSlotStates, LeavesPort}
+use Rattle.refinement.specs.Fragments.{SomeMachineAgreesWith, SomeMachineAgrees, ReadsPortOrWrites, IsDrivenBy, IsSimulatedChangingUses, SameSlotStates, OnlyDeviceChangesPort}
 use Rattle.refinement.specs.Driver.{AllFree}
 use Rattle.refinement.specs.Halting.{HaltIsOfTaken}
 use Rattle.refinement.specs.PreservedParts.{SameAdapter}
@@ -25,7 +25,7 @@ use Rattle.identify.specs.declared.wanted.Wanted.{Wanted}
 use Rattle.identify.specs.declared.wanted.Wanted.TheVariants.{Nothing}
 use Rattle.port_control.specs.Engines.{StopsBothEngines, EngineSticks}
 use Rattle.port_control.specs.Ports.{IsCommandRegister}
-use Rattle.port_boot.specs.States.{BacksState, EndsBeforeStart, EndsAfterStart, BringsReady, HasFitDiskAndInterrupts, IsBoot, IsBootTo, IsBeforeStart, IsAfterStart, IsBootAccess, IsReadyAfterBoot, ShowsOnlyNewErrors}
+use Rattle.port_boot.specs.States.{BacksState, EndsBeforeStart, EndsAfterStart, BringsReady, HasFitDiskAndInterrupts, IsBoot, IsBootTo, IsBeforeStart, IsStateStoppedAfterStart, IsBootAccess, IsReadyAfterBoot, ShowsOnlyNewErrors}
 use Rattle.host_boot.specs.declared.ProbeResult.{ProbeResult}
 use Rattle.host_boot.specs.declared.ProbeResult.TheVariants.{Unserved, Ready, Unready}
 use Rattle.host_boot.specs.declared.Host.{Host}
@@ -66,33 +66,34 @@ StillBacksProbeResult wanted found port d = BacksProbeResult wanted found port d
 
 -- What has to be left of a port for that: of a ready one, DET of PxSCTL, PxIE, and when PxSCTL was written; any other
 -- is left to the device.
-abbrev pub LeavesFoundPort : ProbeResult → DevicePort → DevicePort → Type 0
-LeavesFoundPort (Ready info) old new =
+abbrev pub KeepsWhatBacksProbeResult : ProbeResult → DevicePort → DevicePort → Type 0
+KeepsWhatBacksProbeResult (Ready info) old new =
     (new.sctl_det ≡ old.sctl_det) × (new.ie ≡ old.ie) × (new.notes.sctl_written_at ≡ old.notes.sctl_written_at)
-LeavesFoundPort found old new = LeavesPort old new
+KeepsWhatBacksProbeResult found old new = OnlyDeviceChangesPort old new
 
 -- PxSCTL of the port was written after the tape was so long, unless the port isn't served, or was dead before that
-abbrev pub WroteSctl : ProbeResult → ℕ → ℕ → Device → Type 0
-WroteSctl Unserved port since d = Unit {0}
-WroteSctl (Unready Dead) port since d = Unit {0}
-WroteSctl _ port since d = since ≤ (d.port port).notes.sctl_written_at
+abbrev pub WroteSctlUnlessUnservedOrDead : ProbeResult → ℕ → ℕ → Device → Type 0
+WroteSctlUnlessUnservedOrDead Unserved port since d = Unit {0}
+WroteSctlUnlessUnservedOrDead (Unready Dead) port since d = Unit {0}
+WroteSctlUnlessUnservedOrDead _ port since d = since ≤ (d.port port).notes.sctl_written_at
 
 -- what halts a port that was found ready is of a command that is taken
-abbrev pub ReadyHaltOfTaken : ProbeResult → ℕ → Device → Type 0
-ReadyHaltOfTaken found port d = (info : DiskInfo) → found ≡ Ready info → HaltIsOfTaken (d.port port)
+abbrev pub ReadyQueuedHaltIsOfTaken : ProbeResult → ℕ → Device → Type 0
+ReadyQueuedHaltIsOfTaken found port d = (info : DiskInfo) → found ≡ Ready info → HaltIsOfTaken (d.port port)
 
 -- What accesses tell of the engines of a port that was found to be this: both fell, as was read after each was cleared.
 -- Of a dead port 64 readings in a row showed one that runs still; and one that isn't served wasn't stopped.
-abbrev pub TellsEngines : Port → ProbeResult → List Access → Type 0
-TellsEngines port Unserved accesses = Unit {0}
-TellsEngines port (Unready Dead) accesses = EngineSticks port accesses
-TellsEngines port _ accesses = StopsBothEngines port accesses
+abbrev pub ShowsEnginesStoppedOrStuck : Port → ProbeResult → List Access → Type 0
+ShowsEnginesStoppedOrStuck port Unserved accesses = Unit {0}
+ShowsEnginesStoppedOrStuck port (Unready Dead) accesses = EngineSticks port accesses
+ShowsEnginesStoppedOrStuck port _ accesses = StopsBothEngines port accesses
 
 -- A port that isn't served isn't touched; another was stopped and booted, and its accesses tell of its engines.
-abbrev pub BootsAndTellsEngines : Port → ProbeResult → Device → Device → Type 0
-BootsAndTellsEngines port Unserved old new = new ≡ old
-BootsAndTellsEngines port (Ready info) old new = IsBoot (StopsBothEngines port) port old new
-BootsAndTellsEngines port (Unready state) old new = IsBootTo (StopsBothEngines port) port state old new
+abbrev pub BootsPortOrSticksShowingEnginesIfServed : Port → ProbeResult → Device → Device → Type 0
+BootsPortOrSticksShowingEnginesIfServed port Unserved old new = new ≡ old
+BootsPortOrSticksShowingEnginesIfServed port (Ready info) old new = IsBoot (StopsBothEngines port) port old new
+BootsPortOrSticksShowingEnginesIfServed port (Unready state) old new = IsBootTo
+    (StopsBothEngines port) port state old new
 
 -- ---- accesses
 
@@ -115,29 +116,30 @@ IsTakeOverAccess wanted access = IsHostAccess access ⊎ ((port : Port) × (want
     × IsBootAccess port access)
 
 -- every port is left to the device
-abbrev pub LeavesPorts : Device → Device → Type 0
-LeavesPorts old new = (port : ℕ) → LeavesPort (old.port port) (new.port port)
+abbrev pub OnlyDeviceChangesPorts : Device → Device → Type 0
+OnlyDeviceChangesPorts old new = (port : ℕ) → OnlyDeviceChangesPort (old.port port) (new.port port)
 
 -- ---- the way
 
 -- By accesses of a boot of this port alone 64 readings in a row showed one of its engines that was cleared, and runs
 -- still.
-pub record SticksOnWay (port : Port) (old new : Device) : Type 0 where
+pub record EngineSticksDuringBoot (port : Port) (old new : Device) : Type 0 where
   pub driven : IsDrivenBy (IsBootAccess port) old new
   pub sticks : EngineSticks port driven.accesses
 
 -- The port was stopped, and then booted, by accesses of a boot of this port alone: it is ready, and each access of that
 -- is told, with what it shows of trouble; or it isn't, and what was seen is told. Of each dead one the engine that is
 -- stuck is told.
-abbrev pub StopsAndBootsPort : Port → ProbeResult → Device → Device → Type 0
-StopsAndBootsPort port Unserved old new = new ≡ old
-StopsAndBootsPort port (Ready info) old new = (stopped : Device)
+abbrev pub BootsPortOrSticksIfServed : Port → ProbeResult → Device → Device → Type 0
+BootsPortOrSticksIfServed port Unserved old new = new ≡ old
+BootsPortOrSticksIfServed port (Ready info) old new = (stopped : Device)
     × IsDrivenBy (ReadsPortOrWrites IsCommandRegister port) old stopped
     × IsDrivenBy (IsBootAccess port) stopped new × BringsReady port stopped new × ShowsOnlyNewErrors port.0 stopped new
-StopsAndBootsPort port (Unready state) old new = (stopped : Device)
+BootsPortOrSticksIfServed port (Unready state) old new = (stopped : Device)
     × IsDrivenBy (ReadsPortOrWrites IsCommandRegister port) old stopped
     × IsDrivenBy (IsBootAccess port) stopped new × (IsBeforeStart state → EndsBeforeStart port state stopped new)
-    × (IsAfterStart state → EndsAfterStart port stopped new) × (state ≡ Dead → SticksOnWay port old new)
+    × (IsStateStoppedAfterStart state → EndsAfterStart port stopped new) × (state ≡ Dead
+    → EngineSticksDuringBoot port old new)
 
 -- ---- one port
 
@@ -155,28 +157,28 @@ pub record MayBootIdle (port : Port) (implemented : ℕ) (d : Device) : Type 0 w
 -- that is taken; what it is to a machine that agrees; and its way.
 pub record BootsAndFindsPort (wanted : Wanted) (port : Port) (found : ProbeResult) (old new : Device) : Type 0 where
   pub result_is_backed : BacksProbeResult wanted found port.0 new
-  pub sctl_was_written : WroteSctl found port.0 (length old.tape) new
-  pub halt_is_of_taken : ReadyHaltOfTaken found port.0 new
-  pub boots : BootsAndTellsEngines port found old new
-  pub stops_and_boots : StopsAndBootsPort port found old new
+  pub sctl_was_written_unless_unserved_or_dead : WroteSctlUnlessUnservedOrDead found port.0 (length old.tape) new
+  pub halt_is_of_taken : ReadyQueuedHaltIsOfTaken found port.0 new
+  pub boots : BootsPortOrSticksShowingEnginesIfServed port found old new
+  pub stops_and_boots : BootsPortOrSticksIfServed port found old new
 
 -- ---- the whole way
 
 -- so it was with these ports, one after another, of which the first has this number
-abbrev pub StopsAndBootsEachPort : ℕ → List ProbeResult → Device → Device → Type 0
-StopsAndBootsEachPort port [] old new = new ≡ old
-StopsAndBootsEachPort port (found ∷ rest) old new = (mid : Device) × StopsAndBootsPort (port_at port) found old mid
-    × StopsAndBootsEachPort (port + 1) rest mid new
+abbrev pub BootsEachServedPortOrSticks : ℕ → List ProbeResult → Device → Device → Type 0
+BootsEachServedPortOrSticks port [] old new = new ≡ old
+BootsEachServedPortOrSticks port (found ∷ rest) old new = (mid : Device)
+    × BootsPortOrSticksIfServed (port_at port) found old mid × BootsEachServedPortOrSticks (port + 1) rest mid new
 
 -- The adapter was switched on with interrupts off, and CAP and PI were read; then each port went its way, in rising
 -- number; and last of all the adapter was let interrupt (AHCI 1.3.1, 3.1.2 and 10.1.2).
-pub record SwitchesOnAndBoots (ports : List ProbeResult) (old new : Device) : Type 0 where
+pub record SwitchesOnBootsAndEnablesInterrupts (ports : List ProbeResult) (old new : Device) : Type 0 where
   pub device_switched_on : Device
   pub switches : Writes Ghc 0x80000000 old device_switched_on
   pub device_after_survey : Device
   pub surveys : IsDrivenBy ReadsCapOrPi device_switched_on device_after_survey
   pub device_after_boots : Device
-  pub boots : StopsAndBootsEachPort 0 ports device_after_survey device_after_boots
+  pub boots : BootsEachServedPortOrSticks 0 ports device_after_survey device_after_boots
   pub enables_interrupts : Writes Ghc 0x80000002 device_after_boots new
 
 -- ---- the whole
@@ -186,8 +188,8 @@ abbrev pub unused_slots : SlotStates
 unused_slots = λ port slot. Free
 
 -- A slot isn't used; or it is slot 0 of a port that is dead, which may have IDENTIFY DEVICE still.
-abbrev pub IsUnusedOrDead : List ProbeResult → SlotStates → ℕ → ℕ → Type 0
-IsUnusedOrDead ports uses port slot = (uses port slot ≡ Free)
+abbrev pub IsUnusedOrIdentifyOfDeadPort : List ProbeResult → SlotStates → ℕ → ℕ → Type 0
+IsUnusedOrIdentifyOfDeadPort ports uses port slot = (uses port slot ≡ Free)
     ⊎ ((slot ≡ 0) × (uses port 0 ≡ Own Identify) × (probe_result_of ports port ≡ Unready Dead))
 
 -- An idle adapter was taken over: it is on, and may interrupt; what is told of it is so; each of its ports is as it was
@@ -202,12 +204,13 @@ pub record TakesOver (wanted : List Wanted) (host : Host) (old new : Device) : T
   pub results_are_backed : (port : ℕ) → port < 4 → BacksProbeResult (wanted_of wanted port)
       (probe_result_of host.ports port) port
       new
-  pub sctl_was_written : (port : ℕ) → port < 4 → WroteSctl (probe_result_of host.ports port) port (length old.tape) new
-  pub halt_is_of_taken : (port : ℕ) → port < 4 → ReadyHaltOfTaken (probe_result_of host.ports port) port new
-  pub switches_on_and_boots : SwitchesOnAndBoots host.ports old new
+  pub sctl_was_written_unless_unserved_or_dead : (port : ℕ) → port < 4
+      → WroteSctlUnlessUnservedOrDead (probe_result_of host.ports port) port (length old.tape) new
+  pub halt_is_of_taken : (port : ℕ) → port < 4 → ReadyQueuedHaltIsOfTaken (probe_result_of host.ports port) port new
+  pub switches_on_and_boots : SwitchesOnBootsAndEnablesInterrupts host.ports old new
   pub uses : SlotStates
-  pub slots_are_unused : (port slot : ℕ) → IsUnusedOrDead host.ports uses port slot
+  pub slots_are_unused_or_dead : (port slot : ℕ) → IsUnusedOrIdentifyOfDeadPort host.ports uses port slot
   pub followed : IsSimulatedChangingUses (IsTakeOverAccess wanted) (SameSlotStates unused_slots) (λ _. uses) old new
-  pub engines_are_told : (port : ℕ) → port < 4
-      → TellsEngines (port_at port) (probe_result_of host.ports port) followed.is_driven.accesses
+  pub engines_are_shown_stopped_or_stuck : (port : ℕ) → port < 4
+      → ShowsEnginesStoppedOrStuck (port_at port) (probe_result_of host.ports port) followed.is_driven.accesses
   pub machine_is_related : SomeMachineAgrees uses new

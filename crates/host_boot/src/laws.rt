@@ -4,7 +4,7 @@ ghost use Rattle.ata_types.specs.{declared.Port.{Port}, declared.PortState.{Port
 ghost use Rattle.adapter.specs.{Access.{Access}, Device.{Device}, Idle.{IsIdle}, Rules.{IsOn, HasPort}, Steps.{Steps}, declared.command.Operation.TheVariants.{Identify}};
 ghost use Rattle.refinement.specs.{Fragments.{IsDrivenBy, SparesOtherPorts, GainsNoMove}, PortFacts.{RecordsFaultsIfSt, RunsWell, Undisturbed}, PreservedParts.{ShowsDiskIfIn, SameAdapter}, MemoryLayout.{command_list_address}};
 ghost use Rattle.identify.specs.{declared.DiskInfo.{DiskInfo}, declared.wanted.Wanted.{Wanted}};
-ghost use Rattle.host_boot.specs.{Reboots.{RebootsPort, RebootsIfPresent, IsCapPiOrBootAccess}, TakeOver.{FoundUnusableDevice, IsServed, LeavesFoundPort, LeavesPorts, BacksProbeResult, StillBacksProbeResult, TakesOver, probe_result_of}, declared.Booted.{Booted}, declared.ProbeResult.{ProbeResult}, declared.ProbeResult.TheVariants.{Unserved, Ready, Unready}, declared.Host.{Host}};
+ghost use Rattle.host_boot.specs.{Reboots.{RebootsPort, RebootsIfPresent, IsCapPiOrBootAccess}, TakeOver.{FoundUnusableDevice, IsServed, KeepsWhatBacksProbeResult, OnlyDeviceChangesPorts, BacksProbeResult, StillBacksProbeResult, TakesOver, probe_result_of}, declared.Booted.{Booted}, declared.ProbeResult.{ProbeResult}, declared.ProbeResult.TheVariants.{Unserved, Ready, Unready}, declared.Host.{Host}};
 ghost use Rattle.port_boot.specs.States.{ShownDiskIsIn};
 
 use super::prerequisites::law_prerequisites;
@@ -17,7 +17,7 @@ pub fn law_what_was_found_still_stands()
         → BacksProbeResult wanted found port d
         → StillBacksProbeResult wanted found port d }
     ensures goes_on { (wanted : Wanted) (found : ProbeResult) (port : ℕ) (old new : Device) → SameAdapter old new
-        → LeavesFoundPort found (old.port port) (new.port port) → (found ≢ Unready Dead
+        → KeepsWhatBacksProbeResult found (old.port port) (new.port port) → (found ≢ Unready Dead
         → GainsNoMove port Identify old new)
         → StillBacksProbeResult wanted found port old → StillBacksProbeResult wanted found port new }
 {
@@ -25,8 +25,8 @@ pub fn law_what_was_found_still_stands()
 }
 
 /// What the device does by itself leaves every port to it, while no reset is pending; and the adapter is what it was.
-pub fn law_the_device_leaves_ports()
-    ensures ports_are_left { (old new : Device) → old.hr ≡ false → Steps old new → LeavesPorts old new }
+pub fn law_only_device_changes_ports_unless_reset()
+    ensures ports_are_left { (old new : Device) → old.hr ≡ false → Steps old new → OnlyDeviceChangesPorts old new }
     ensures adapter_is_kept { (old new : Device) → Steps old new → SameAdapter old new }
 {
     law_prerequisites();
@@ -40,7 +40,7 @@ pub fn law_what_was_taken_over_may_be_served()
     ensures served_port_exists { (wanted : List Wanted) (host : Host) (port : ℕ) (old new : Device)
         → TakesOver wanted host old new
         → port < 4 → probe_result_of host.ports port ≢ Unserved → HasPort new port }
-    ensures ready_port_is_programmed { (wanted : List Wanted) (host : Host) (port : ℕ) (info : DiskInfo)
+    ensures ready_port_is_programmed_and_started { (wanted : List Wanted) (host : Host) (port : ℕ) (info : DiskInfo)
         (old new : Device)
         → TakesOver wanted host old new → port < 4 → probe_result_of host.ports port ≡ Ready info
         → ((new.port port).st ≡ true) × ((new.port port).bases.clb ≡ command_list_address port) × HasPort new port }
@@ -65,7 +65,7 @@ pub fn law_what_was_taken_over_may_be_served()
 }
 
 /// A port that runs well does so still after accesses of another port, where nothing goes wrong on it meanwhile.
-pub fn law_other_ports_run_well()
+pub fn law_undisturbed_port_still_runs_well()
     ensures { (port other : Port) (old new : Device) → port.0 ≢ other.0 → IsOn old
         → IsDrivenBy (SparesOtherPorts other) old new
         → Undisturbed port.0 old new → RunsWell (old.port port.0) → RunsWell (new.port port.0) }
@@ -80,22 +80,21 @@ pub fn law_other_ports_run_well()
 pub fn law_what_was_booted_again_may_be_served()
     ensures reboot_is_of_port { (wanted : Wanted) (port : Port) (booted : Booted) (old new : Device)
         → RebootsPort wanted port booted old new → IsDrivenBy (SparesOtherPorts port) old new }
+    ensures conditional_boot_is_of_port { (wanted : Wanted) (port : Port) (booted : Booted) (old new : Device)
+        → RebootsIfPresent wanted port booted old new → IsDrivenBy (SparesOtherPorts port) old new }
     ensures reboot_backs_result { (wanted : Wanted) (port : Port) (booted : Booted) (old new : Device)
         → RebootsPort wanted port booted old new → IsServed wanted port.0 old
+        → BacksProbeResult wanted booted.found port.0 new }
+    ensures conditional_boot_backs_result { (wanted : Wanted) (port : Port) (booted : Booted) (old new : Device)
+        → RebootsIfPresent wanted port booted old new → IsServed wanted port.0 old
         → BacksProbeResult wanted booted.found port.0 new }
     ensures reboot_shows_bad_disk { (wanted : Wanted) (port : Port) (booted : Booted) (state : PortState)
         (old new : Device) → IsOn old
         → RebootsPort wanted port booted old new → FoundUnusableDevice state → booted.found ≡ Unready state
         → ShowsDiskIfIn (new.port port.0) }
-    ensures conditional_boot_is_of_port { (wanted : Wanted) (port : Port) (booted : Booted) (old new : Device)
-        → RebootsIfPresent wanted port booted old new → IsDrivenBy (SparesOtherPorts port) old new }
-    ensures conditional_boot_backs_result { (wanted : Wanted) (port : Port) (booted : Booted) (old new : Device)
-        → RebootsIfPresent wanted port booted old new → IsServed wanted port.0 old
-        → BacksProbeResult wanted booted.found port.0 new }
     ensures conditional_boot_shows_bad_disk { (wanted : Wanted) (port : Port) (booted : Booted) (state : PortState)
-        (old new : Device)
-        → IsOn old → RebootsIfPresent wanted port booted old new → FoundUnusableDevice state
-        → booted.found ≡ Unready state
+        (old new : Device) → IsOn old
+        → RebootsIfPresent wanted port booted old new → FoundUnusableDevice state → booted.found ≡ Unready state
         → ShowsDiskIfIn (new.port port.0) }
     ensures boot_start_access_is_of_port { (port : Port) (access : Access) → IsCapPiOrBootAccess port access
         → SparesOtherPorts port access }

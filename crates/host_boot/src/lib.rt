@@ -11,9 +11,9 @@ ghost use Rattle.std.specs.Prelude.{◌≡◌, ◌<◌, ◌≤◌, ◌+◌, leng
 ghost use Rattle.hba_regs.specs.{Bits.{bit, field}, declared.reg.Reg.TheVariants.{Ghc}};
 ghost use Rattle.adapter.specs.{Access.{Writes}, Idle.{IsIdle}, Rules.{IsOn}, AccessBounds.{MakesAtMost}};
 ghost use Rattle.refinement.specs.Fragments.{AnySlotStates, IsDrivenBy, IsSimulated};
-ghost use Rattle.port_boot.specs.{States.{IsBootable}, Costs.{BOOT_ACCESSES}};
+ghost use Rattle.port_boot.specs.{States.{IsOnWithPortMemoryAndFreeSlots}, Costs.{BOOT_ACCESSES}};
 ghost use Rattle.port_control.specs.Ports.{IsStopped};
-ghost use Rattle.host_boot.specs.{Reboots.{RebootsPort, RebootsIfPresent, BootsStopped}, TakeOver.{BootsAndFindsPort, IsHostAccess, ReadsCapOrPi, MayBootIdle, LeavesPorts, TakesOver}, Costs.{REBOOT_ACCESSES, REBOOT_IF_PRESENT_ACCESSES, STOP_AND_BOOT_ACCESSES, TAKE_OVER_ACCESSES}};
+ghost use Rattle.host_boot.specs.{Reboots.{RebootsPort, RebootsIfPresent, BootsStopped}, TakeOver.{BootsAndFindsPort, IsHostAccess, ReadsCapOrPi, MayBootIdle, OnlyDeviceChangesPorts, TakesOver}, Costs.{REBOOT_ACCESSES, REBOOT_IF_PRESENT_ACCESSES, STOP_AND_BOOT_ACCESSES, TAKE_OVER_ACCESSES}};
 
 use adapter::Adapter;
 use ata_types::{DRIVER_BYTES, MOST_READINGS, PORTS, Port, PortState};
@@ -67,7 +67,7 @@ fn power_on<A: Adapter>(adapter: &mut A)
     requires idle { IsIdle (A.device adapter.old) }
     ensures adapter_is_on { IsOn (A.device adapter.new) }
     ensures switches { Writes Ghc 0x80000000 (A.device adapter.old) (A.device adapter.new) }
-    ensures leaves { LeavesPorts (A.device adapter.old) (A.device adapter.new) }
+    ensures leaves { OnlyDeviceChangesPorts (A.device adapter.old) (A.device adapter.new) }
     ensures followed { IsSimulated IsHostAccess AnySlotStates (A.device adapter.old) (A.device adapter.new) }
     ensures cost { MakesAtMost 1 (A.access_count adapter.old) (A.access_count adapter.new) }
 {
@@ -79,7 +79,7 @@ fn power_on<A: Adapter>(adapter: &mut A)
 fn survey<A: Adapter>(adapter: &mut A) -> (Capabilities, u32)
     requires adapter_is_on { IsOn (A.device adapter.old) }
     ensures adapter_is_on { IsOn (A.device adapter.new) }
-    ensures leaves { LeavesPorts (A.device adapter.old) (A.device adapter.new) }
+    ensures leaves { OnlyDeviceChangesPorts (A.device adapter.old) (A.device adapter.new) }
     ensures followed { IsSimulated IsHostAccess AnySlotStates (A.device adapter.old) (A.device adapter.new) }
     ensures surveys { IsDrivenBy ReadsCapOrPi (A.device adapter.old) (A.device adapter.new) }
     ensures told { (result.0.0 ≡ (A.device adapter.new).cap) × (result.1 ≡ (A.device adapter.new).pi) }
@@ -93,7 +93,7 @@ fn survey<A: Adapter>(adapter: &mut A) -> (Capabilities, u32)
 
 /// Boots a stopped port, no slot of which is used: what it was found to be.
 fn boot_stopped<A: Adapter>(adapter: &mut A, stopped: Stopped, wanted: &Wanted) -> ProbeResult
-    requires bootable { IsBootable stopped.port (A.device adapter.old) }
+    requires bootable { IsOnWithPortMemoryAndFreeSlots stopped.port (A.device adapter.old) }
     requires stopped { IsStopped ((A.device adapter.old).port stopped.port.0) }
     ensures adapter_is_on { IsOn (A.device adapter.new) }
     ensures boots { BootsStopped wanted.now stopped.port result (A.device adapter.old) (A.device adapter.new) }
@@ -133,7 +133,7 @@ fn enable_interrupts<A: Adapter>(adapter: &mut A)
     ensures adapter_is_on { IsOn (A.device adapter.new) }
     ensures tells { (A.device adapter.new).ie ≡ true }
     ensures enables { Writes Ghc 0x80000002 (A.device adapter.old) (A.device adapter.new) }
-    ensures leaves { LeavesPorts (A.device adapter.old) (A.device adapter.new) }
+    ensures leaves { OnlyDeviceChangesPorts (A.device adapter.old) (A.device adapter.new) }
     ensures followed { IsSimulated IsHostAccess AnySlotStates (A.device adapter.old) (A.device adapter.new) }
     ensures cost { MakesAtMost 1 (A.access_count adapter.old) (A.access_count adapter.new) }
 {
@@ -182,7 +182,7 @@ fn booted_with(capabilities: Capabilities, found: ProbeResult) -> Booted
 /// Boots a port that was stopped, and no slot of which is used: as a port is booted when its adapter is taken over
 /// (AHCI 1.3.1, 10.1.2). CAP is read first, since its disk may be another, which takes commands in another way.
 pub fn reboot_port<A: Adapter>(adapter: &mut A, stopped: Stopped, wanted: &Wanted) -> Booted
-    requires bootable { IsBootable stopped.port (A.device adapter.old) }
+    requires bootable { IsOnWithPortMemoryAndFreeSlots stopped.port (A.device adapter.old) }
     requires stopped { IsStopped ((A.device adapter.old).port stopped.port.0) }
     ensures adapter_is_on { IsOn (A.device adapter.new) }
     ensures boots { RebootsPort wanted.now stopped.port result (A.device adapter.old) (A.device adapter.new) }
@@ -198,7 +198,7 @@ pub fn reboot_port<A: Adapter>(adapter: &mut A, stopped: Stopped, wanted: &Wante
 /// (PxSSTS, once PxSERR was cleared): as `reboot_port` does. Else the port is absent. Since PxSCTL was last written a
 /// device was seen, or 64 readings of PxSSTS found none.
 pub fn reboot_if_present<A: Adapter>(adapter: &mut A, stopped: Stopped, wanted: &Wanted) -> Booted
-    requires bootable { IsBootable stopped.port (A.device adapter.old) }
+    requires bootable { IsOnWithPortMemoryAndFreeSlots stopped.port (A.device adapter.old) }
     requires stopped { IsStopped ((A.device adapter.old).port stopped.port.0) }
     requires device_was_awaited { ((A.device adapter.old).port stopped.port.0).notes.link_wait_count ≡ MOST_READINGS }
     ensures adapter_is_on { IsOn (A.device adapter.new) }

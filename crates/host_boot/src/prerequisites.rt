@@ -3,12 +3,12 @@ ghost use Rattle.host_boot.specs.Laws.{Laws};
 
 use adapter::laws::{law_accesses_compose, law_step_lists_keep_what_steps_keep};
 use port_boot::laws::{
-    law_a_boot_is_of_its_port, law_a_disk_is_in_where_one_shows, law_a_port_runs_on,
-    law_boots_are_driven, law_what_was_found_goes_on,
+    law_a_boot_is_of_its_port, law_a_port_runs_on, law_boots_are_driven,
+    law_shown_disk_is_in_is_kept, law_what_was_found_goes_on,
 };
 use port_control::laws::{law_calls_are_of_one_port, law_what_is_told_of_engines_stays};
 use refinement::access_kinds::law_fragment_prerequisites;
-use refinement::disks::{law_reset_is_idle, law_where_no_disk_comes};
+use refinement::disks::{law_reset_is_idle, law_vacancy_stays_where_no_disk_comes};
 use refinement::fragments::{
     law_agreeing_goes_on, law_other_ports_are_untouched, law_tape_prerequisites,
 };
@@ -25,7 +25,7 @@ pub fn law_prerequisites()
 {
     law_accesses_compose();
     law_step_lists_keep_what_steps_keep();
-    law_where_no_disk_comes();
+    law_vacancy_stays_where_no_disk_comes();
     law_adapter_stays();
     law_disk_in_stays_shown();
     law_reset_is_found();
@@ -38,7 +38,7 @@ pub fn law_prerequisites()
     law_other_ports_are_untouched();
     law_tape_prerequisites();
     law_a_boot_is_of_its_port();
-    law_a_disk_is_in_where_one_shows();
+    law_shown_disk_is_in_is_kept();
     law_a_port_runs_on();
     law_boots_are_driven();
     law_what_was_found_goes_on();

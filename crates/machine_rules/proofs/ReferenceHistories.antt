@@ -23,6 +23,6 @@ pub left_by_disk : (start : ℕ) (h : List Step) (read : HistoryRequest) (k n by
 left_by_disk start h read k n byte found disk last is bytes =
     let last' = subst (λ (x : ℕ). IsLastWriter read.port k x read.id.0 h None) disk (subst (IsLastWriter read.port k n read.id.0 h) is last) in (
       bytes_when_plugged (machine_filled_with start) read.port (disk_number_read (accepted_of read) k h) h k,
-      inr (last'.none_has_written, refl),
+      inr (last'.not_found_only_if_none_has_written, refl),
       subst (λ (x : ℕ). (b : ℕ) → bytes_when_plugged (machine_filled_with start) read.port x h k b ≡ byte) disk bytes,
     )

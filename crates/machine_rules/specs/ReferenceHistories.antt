@@ -73,4 +73,5 @@ pub record IsLastWriter (port : Port) (k n before : ℕ) (history : List Step)
   pub has_written : IfSome found (λ w. ChangedSector port k n before history (accepted_of w))
   pub no_later_writer : IfSome found (λ w. (other : Accepted) → ChangedSector port k n before history other
       → other.id.0 ≤ w.id.0)
-  pub none_has_written : IfNone found ((other : Accepted) → ChangedSector port k n before history other → ⊥)
+  pub not_found_only_if_none_has_written : IfNone found ((other : Accepted)
+      → ChangedSector port k n before history other → ⊥)

@@ -49,10 +49,12 @@ abbrev pub SomeNamedRowMeetsCause : AdmissionContext → Request → Refusal →
 SomeNamedRowMeetsCause s r refusal = (row : GrantRow) × IsNamed s.rows r row × RowMeetsCause s r refusal row
 
 -- of the causes with this number, the first that applies, or that none does
-pub record IsFirstOfNumber (s : AdmissionContext) (r : Request) (number : ℕ) (found : Option Refusal) : Type 0 where
+pub record IsFirstApplyingCauseOfNumber (s : AdmissionContext) (r : Request) (number : ℕ)
+    (found : Option Refusal) : Type 0 where
   pub applies : IfSome found (RefusalApplies s r)
   pub has_number : IfSome found (λ cause. (refusal_rank cause).0 ≡ number)
-  pub none_is_before : IfSome found (λ cause. (other : Refusal) → (refusal_rank other).0 ≡ number
+  pub none_of_number_before_it_applies : IfSome found (λ cause. (other : Refusal) → (refusal_rank other).0 ≡ number
       → (refusal_rank other).1 < (refusal_rank cause).1
       → RefusalApplies s r other → ⊥)
-  pub none_applies : IfNone found ((other : Refusal) → (refusal_rank other).0 ≡ number → RefusalApplies s r other → ⊥)
+  pub not_found_only_if_none_applies : IfNone found ((other : Refusal) → (refusal_rank other).0 ≡ number
+      → RefusalApplies s r other → ⊥)

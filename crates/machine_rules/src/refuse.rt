@@ -3,7 +3,7 @@
 ghost use Rattle.std.specs.Prelude.{false, ◌≡◌, ◌⊎◌, ◌<◌, ◌≤◌, ◌↔◌, IsTrue, IfSome, IfNone, slice_get, count_by, ◌==◌};
 ghost use Rattle.ata_types.specs.SectorGrants.{AllowsOp, CoversSectors};
 ghost use Rattle.block_machine.specs.{Rules.{IsNamed, HasGrantName, Breaks, HasFault, BreaksNone, IsFirstBroken, refusal_rank}, Refusals.{RefusalApplies, IsAcceptable, IsFirstRefusal, MemFaultApplies, MayAccessFrame, IsFirstMemFault}};
-ghost use Rattle.machine_rules.specs.ReferenceSituations.{frame_or_none, port_or_absent, reference_admission_context, RowMeetsCause, SomeNamedRowMeetsCause, IsFirstOfNumber};
+ghost use Rattle.machine_rules.specs.ReferenceSituations.{frame_or_none, port_or_absent, reference_admission_context, RowMeetsCause, SomeNamedRowMeetsCause, IsFirstApplyingCauseOfNumber};
 
 use arrayvec::ArrayVec;
 use ata_types::{
@@ -210,7 +210,7 @@ impl ReferenceSituation {
     /// The cause, if it applies.
     fn if_applies(&self, request: &Request, cause: Refusal) -> Option<Refusal>
         requires { ((refusal_rank cause).0 < 6) ⊎ (9 < (refusal_rank cause).0) }
-        ensures { IsFirstOfNumber (reference_admission_context self.now) request.now
+        ensures { IsFirstApplyingCauseOfNumber (reference_admission_context self.now) request.now
             (refusal_rank cause).0 result }
     {
         if self.applies(request, cause) {
@@ -224,7 +224,7 @@ impl ReferenceSituation {
     fn first_fault(&self, request: &Request, number: u8) -> Option<Refusal>
         requires low { 6 ≤ number }
         requires high { number ≤ 8 }
-        ensures { IsFirstOfNumber (reference_admission_context self.now) request.now number result }
+        ensures { IsFirstApplyingCauseOfNumber (reference_admission_context self.now) request.now number result }
     {
         for place in 0..request.frames.len() {
             let cause = Refusal::Rule(Rule::Frames(fault_at(number, place)));
@@ -237,7 +237,7 @@ impl ReferenceSituation {
 
     /// The state of the request's port, if it isn't ready.
     fn not_ready(&self, request: &Request) -> Option<Refusal>
-        ensures { IsFirstOfNumber (reference_admission_context self.now) request.now 9 result }
+        ensures { IsFirstApplyingCauseOfNumber (reference_admission_context self.now) request.now 9 result }
     {
         for row in self.rows.as_slice() {
             let named = row.client == request.client && row.number == request.grant;
@@ -253,7 +253,7 @@ impl ReferenceSituation {
     fn first_numbered(&self, request: &Request, number: u8) -> Option<Refusal>
         requires low { 1 ≤ number }
         requires high { number ≤ 13 }
-        ensures { IsFirstOfNumber (reference_admission_context self.now) request.now number result }
+        ensures { IsFirstApplyingCauseOfNumber (reference_admission_context self.now) request.now number result }
     {
         match number {
             1 => self.if_applies(request, Refusal::Rule(Rule::NoGrant)),

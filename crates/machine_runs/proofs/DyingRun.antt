@@ -57,12 +57,12 @@ second a b = contains_there a (b ∷ []) b (contains_here b [] b refl)
 
 happens2 : Happens (abstract_after_all first run1) submit
 happens2 = record {
-  steps_are_enabled = ((tt, new 0 (abstract_after_all first run1) other quiet (write_at 0 (abstract_after_all first run1) 101 101 quiet (omega arith) (omega arith) refl refl) refl refl refl), (second one (newly_accepted other), record { is_in_book = second (unanswered one) (unanswered (newly_accepted other)); nothing_blocks = refl; slot_is_left = λ _. omega arith }, λ e h. absurd (contains_none e h), granted 0 row_zero refl));
+  steps_are_enabled = ((tt, new 0 (abstract_after_all first run1) other quiet (write_at 0 (abstract_after_all first run1) 101 101 quiet (omega arith) (omega arith) refl refl) refl refl refl), (second one (newly_accepted other), record { is_in_book = second (unanswered one) (unanswered (newly_accepted other)); waits_and_nothing_blocks = refl; slot_is_left = λ _. omega arith }, λ e h. absurd (contains_none e h), granted 0 row_zero refl));
   steps_are_of_call = ((tt, inr refl), inr (refl, refl));
   issue_is_last_of_request = ((tt, λ id h i. false≢true i), λ id h i. false≢true i);
   answers_are_lawful = tt;
   ports_are_well_formed = ports_fit Ready refl;
-  unanswered_keep_disk = λ e o h i same. (refl, refl);
+  unanswered_keep_serial_and_size = λ e o h i same. (refl, refl);
   result_matches_steps = (acceptable 0 (admission_context_of (abstract_after_all first run1)) other.asked (write_at 0 (abstract_after_all first run1) 101 101 quiet (omega arith) (omega arith) refl refl), (other, refl, refl), λ p. (refl, refl, refl, refl, refl, refl), λ p _. none_waits _ refl p);
 }
 
@@ -85,15 +85,15 @@ happens3 = record {
   issue_is_last_of_request = ((tt, λ id h i. false≢true i), λ id h i. false≢true i);
   answers_are_lawful = ((tt, refl), refl);
   ports_are_well_formed = ports_fit Dead refl;
-  unanswered_keep_disk = λ e o h i same. (refl, refl);
+  unanswered_keep_serial_and_size = λ e o h i same. (refl, refl);
   result_matches_steps = record {
     replies_match = tells;
     dead_ports_tell_only_port_dead = λ e o h dead. none_dead e.request.port dead;
     unplugged_empties_port = none_unplugged service.steps (abstract_after_all first run3).machine refl;
-    none_is_due = λ p ready. dead_not_ready p ready;
+    none_is_due_where_ready = λ p ready. dead_not_ready p ready;
     empty_unless_ready = λ p ne e h. absurd (contains_none e h);
     answers_ended = λ p _. none_ended (abstract_after_all first run2).machine service.steps refl p;
-    port_is_serviced = λ p. (λ dead. none_dead p dead, λ _. (record { served_is_unchanged = refl; dead_is_stuck = (dead_here p, λ h. dies p h); disk_is_remembered = λ _. (refl, refl) }, changed_here Ready Dead seen (inl (contains_here port [] port refl)) p));
+    port_is_serviced = λ p. (λ dead. none_dead p dead, λ _. (record { served_is_unchanged = refl; dead_exactly_if_stuck = (dead_here p, λ h. dies p h); disk_is_remembered_unless_ready = λ _. (refl, refl) }, changed_here Ready Dead seen (inl (contains_here port [] port refl)) p));
     shown_disk_was_in_or_came = λ p. inr (λ shows. shows_none Dead (λ s. s) p shows);
   };
 }

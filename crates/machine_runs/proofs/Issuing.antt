@@ -12,7 +12,7 @@ use Rattle.block_machine.specs.Ports.{Ports, Evidence}
 use Rattle.block_machine.specs.State.{Accepted, Pending, Machine}
 use Rattle.block_machine.specs.Steps.{Step, Accept, Issue, Touch, End, Age, WaitAgain, Answer, Release, Revoke, Unplug, Replace, Store, Load, IsEnabled, after_step, update_pending, newly_issued, touch, mark_ended, requeued, aged_pending}
 use Rattle.block_machine.specs.Expected.{after, IsLegal, IsInitial}
-use Rattle.block_machine.specs.Confinement.{WithinLimits}
+use Rattle.block_machine.specs.Confinement.{KeepsLimitsAndHoldsOwnFrames}
 use Rattle.block_machine.specs.Events.{AbstractState, CallRecord, AnswersAndWaitsLawful, EveryReadHoldsExpected, IsLawfulAnswer, IsRun, issues_id, abstract_after_all, steps_of}
 use Rattle.block_machine.proofs.Members.{contains_none, contains_here, contains_there, contains_cases, map_in, into_map, at_cases, without_in, append_in}
 use Rattle.block_machine.proofs.Keeps.{older_keeps, older_issued}
@@ -119,7 +119,7 @@ counted_issue m p id n here s few c false e =
           (at_cases p.request.id newly_issued r.0);
     }
 
-counted_step : (m : Machine) (step : Step) (id : RequestId) (n : ℕ) → IsEnabled m step → Sound m → WithinLimits (after_step m step) → IsCounted m id n → IsCounted (after_step m step) id (cond (issues_id id step) 1 0 + n)
+counted_step : (m : Machine) (step : Step) (id : RequestId) (n : ℕ) → IsEnabled m step → Sound m → KeepsLimitsAndHoldsOwnFrames (after_step m step) → IsCounted m id n → IsCounted (after_step m step) id (cond (issues_id id step) 1 0 + n)
 counted_step m (Issue mode p) id n may s limits c = counted_issue m p id n may.0 s most c (p.request.id.0 == id.0) refl
   where
     most : (newly_issued p).issue_count ≤ 4

@@ -143,7 +143,7 @@ one_touched : (i : ℕ) → i < 1 → ((i == 0) || false) ≡ true
 one_touched i lt = or_left _ _ (eq-eqb i 0 (omega arith))
 
 loose : AllEnabledWithoutKeptRule start history
-loose = ((((((((((((tt, new start 1 Write (write_fits start 1 refl refl refl refl (omega arith)) refl refl refl), (here (newly_accepted (one_sector 1 Write)), record { is_in_book = (0, omega arith, refl); nothing_blocks = refl; slot_is_left = λ _. omega arith })), (here one, tt)), new (after start first_part) 2 Write (write_fits (after start first_part) 2 refl refl refl refl (omega arith)) refl refl refl), (here (newly_accepted (one_sector 2 Write)), record { is_in_book = (0, omega arith, refl); nothing_blocks = refl; slot_is_left = λ _. omega arith })), (inl (here two, refl), omega arith, refl, omega arith, λ _ b lt. refl)), (inr (here one), omega arith, refl, omega arith, λ _ b lt. refl)), (inl (here (touch 0 two), refl), one_touched, refl)), (here (mark_ended (touch 0 two)), tt)), new (after start second_part) 3 Read (read_fits (after start second_part) 3 refl refl refl refl (omega arith)) refl refl refl), (here (newly_accepted (one_sector 3 Read)), record { is_in_book = (0, omega arith, refl); nothing_blocks = refl; slot_is_left = λ _. omega arith })), (inl (here read, refl), omega arith, refl, omega arith, λ e. absurd (false≢true (sym (ap is_reader e)))))
+loose = ((((((((((((tt, new start 1 Write (write_fits start 1 refl refl refl refl (omega arith)) refl refl refl), (here (newly_accepted (one_sector 1 Write)), record { is_in_book = (0, omega arith, refl); waits_and_nothing_blocks = refl; slot_is_left = λ _. omega arith })), (here one, tt)), new (after start first_part) 2 Write (write_fits (after start first_part) 2 refl refl refl refl (omega arith)) refl refl refl), (here (newly_accepted (one_sector 2 Write)), record { is_in_book = (0, omega arith, refl); waits_and_nothing_blocks = refl; slot_is_left = λ _. omega arith })), (inl (here two, refl), omega arith, refl, omega arith, λ _ b lt. refl)), (inr (here one), omega arith, refl, omega arith, λ _ b lt. refl)), (inl (here (touch 0 two), refl), one_touched, refl)), (here (mark_ended (touch 0 two)), tt)), new (after start second_part) 3 Read (read_fits (after start second_part) 3 refl refl refl refl (omega arith)) refl refl refl), (here (newly_accepted (one_sector 3 Read)), record { is_in_book = (0, omega arith, refl); waits_and_nothing_blocks = refl; slot_is_left = λ _. omega arith })), (inl (here read, refl), omega arith, refl, omega arith, λ e. absurd (false≢true (sym (ap is_reader e)))))
 
 pub goes_wrong : ReadsWrongWithoutKeptRule
 goes_wrong = record {

@@ -102,18 +102,18 @@ issued_event {D} (LoadAt c f o n) (Loaded (Err fault)) old evidence steps ports 
 issued_event {D} (State p) (PortStateShown state) old evidence steps ports a b fit all = issued_still old (left old steps ports) (idle_steps {D = D} (State p) ports old.machine steps refl b) a.2 all
 issued_event {D} (StepDevice d) (Stepped true) old evidence steps ports a b fit all = issued_still old (left old steps ports) (idle_steps {D = D} (StepDevice d) ports old.machine steps refl b) a.1 all
 issued_event {D} (StepDevice d) (Stepped false) old evidence steps ports a b fit all = issued_still old (left old steps ports) (idle_steps {D = D} (StepDevice d) ports old.machine steps refl b) a.1 all
-issued_event Service (Replied replies) old evidence steps ports a b fit all = a.none_is_due
-issued_event Tick (Replied replies) old evidence steps ports a b fit all = a.none_is_due
-issued_event Reset (WasReset (Some replies)) old evidence steps ports a b fit all = a.none_is_due
+issued_event Service (Replied replies) old evidence steps ports a b fit all = a.none_is_due_where_ready
+issued_event Tick (Replied replies) old evidence steps ports a b fit all = a.none_is_due_where_ready
+issued_event Reset (WasReset (Some replies)) old evidence steps ports a b fit all = a.none_is_due_where_ready
 issued_event Reset (WasReset None) old evidence steps ports a b fit all = issued_stuck old (left old steps ports) evidence fit a.1
-issued_event (RevokeOf c n) (WasRevoked (Some replies)) old evidence steps ports a b fit all = a.none_is_due
+issued_event (RevokeOf c n) (WasRevoked (Some replies)) old evidence steps ports a b fit all = a.none_is_due_where_ready
 issued_event (RevokeOf c n) (WasRevoked None) old evidence steps ports a b fit all =
     issued_still old (left old steps ports) (ap (λ (xs : List Step). map unanswered (after old.machine xs).book) a.1) a.2 all
 issued_event ask said old evidence steps ports a b fit all = absurd a
 
-pub law_none_due_between_calls : {D : Type 0} (first : AbstractState) (run : List (CallRecord D)) → IsRun first run → NoneDueWhereReady (abstract_after_all first run)
-law_none_due_between_calls first [] r = λ port ready x here due. contains_none x (subst (λ (es : List Pending). Contains (map unanswered es) x) r.0.book_is_empty due.is_in_book)
-law_none_due_between_calls first (event ∷ past) r = issued_event event.call event.result (abstract_after_all first past) event.evidence event.steps event.ports r.1.result_matches_steps r.1.steps_are_of_call r.1.ports_are_well_formed (law_none_due_between_calls first past r.0)
+pub law_none_due_where_ready_between_calls : {D : Type 0} (first : AbstractState) (run : List (CallRecord D)) → IsRun first run → NoneDueWhereReady (abstract_after_all first run)
+law_none_due_where_ready_between_calls first [] r = λ port ready x here due. contains_none x (subst (λ (es : List Pending). Contains (map unanswered es) x) r.0.book_is_empty due.is_in_book)
+law_none_due_where_ready_between_calls first (event ∷ past) r = issued_event event.call event.result (abstract_after_all first past) event.evidence event.steps event.ports r.1.result_matches_steps r.1.steps_are_of_call r.1.ports_are_well_formed (law_none_due_where_ready_between_calls first past r.0)
 
 -- The only unanswered request waits for nothing: so where its port is ready, it is issued.
 
@@ -184,8 +184,8 @@ lone_is_issued first run e r h ready alone = true_from_ne_false e.issued due
         let free_there : issued_count (map unanswered book) e.request.port ≡ 0 = none_counted (λ (other : Unanswered). other.port.0 == e.request.port.0 && other.issued) (map unanswered book)
         (none _ (not_issued (e.request.port.0 == e.request.port.0) e.issued waits)) in
         let usable = ((run_fit first run r).modes_are_valid e.request.port ready).0 in
-        law_none_due_between_calls first run r e.request.port ready (unanswered e) refl (record {
+        law_none_due_where_ready_between_calls first run r e.request.port ready (unanswered e) refl (record {
           is_in_book = into_map unanswered book e h;
-          nothing_blocks = clear_from e.issued (list_any (waits_for mode (unanswered e)) (map unanswered book)) waits alone_there;
+          waits_and_nothing_blocks = clear_from e.issued (list_any (waits_for mode (unanswered e)) (map unanswered book)) waits alone_there;
           slot_is_left = λ queued. omega (arith, first_there, free_there, usable);
         })

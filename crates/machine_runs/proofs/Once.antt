@@ -18,7 +18,7 @@ use Rattle.block_machine.proofs.Sound.{Sound}
 use Rattle.block_machine.proofs.Runs.{traced, nobody}
 use Rattle.block_machine.proofs.Accepts.{living_accepted}
 use Rattle.block_machine.proofs.Counting.{count_cons, count_append, count_map}
-use Rattle.machine_runs.specs.AnswerOrigins.{WasUnansweredBefore, WasAsked}
+use Rattle.machine_runs.specs.AnswerOrigins.{WasUnansweredBefore, WasSubmittedAndAccepted}
 use Rattle.machine_runs.proofs.CallSteps.{Came, came, Since, IsAccepted, since, is_submit, none_accepted, all_fit, accepted_asked}
 use Rattle.block_machine.proofs.EventLemmas.{run_starts, run_legal, step_of_run}
 
@@ -46,8 +46,8 @@ fresh start [] id s legal = record { most = omega arith; none = λ le. refl }
 fresh start (step ∷ past) id s legal = subst (IsFresh (after start (step ∷ past)) id) (sym (count_cons (accepts_id id) step past))
     (fresh_step (after start past) step id (count_by (accepts_id id) past) legal.1 (fresh start past id s legal.0))
 
-pub law_accepted_once : {D : Type 0} (first : AbstractState) (run : List (CallRecord D)) (id : RequestId) → IsRun first run → count_by (accepts_id id) (steps_of run) ≤ 1
-law_accepted_once first run id r = (fresh first.machine (steps_of run) id (run_starts first run r) (run_legal first run r)).most
+pub law_accepted_at_most_once : {D : Type 0} (first : AbstractState) (run : List (CallRecord D)) (id : RequestId) → IsRun first run → count_by (accepts_id id) (steps_of run) ≤ 1
+law_accepted_at_most_once first run id r = (fresh first.machine (steps_of run) id (run_starts first run r) (run_legal first run r)).most
 
 -- How often an id was answered: not yet where it is still to come, or unanswered, and once at most.
 record IsUntold (m : Machine) (id : RequestId) (n : ℕ) : Type 0 where
@@ -98,8 +98,8 @@ untold start [] id s legal = record { most = omega arith; none = λ le. refl; he
 untold start (step ∷ past) id s legal = subst (IsUntold (after start (step ∷ past)) id) (sym (count_cons (answers_id id) step past))
     (untold_step (after start past) step id (count_by (answers_id id) past) legal.1 (traced start past s legal.0).sound (untold start past id s legal.0))
 
-pub law_answered_once : {D : Type 0} (first : AbstractState) (run : List (CallRecord D)) (id : RequestId) → IsRun first run → count_by (answers_id id) (steps_of run) ≤ 1
-law_answered_once first run id r = (untold first.machine (steps_of run) id (run_starts first run r) (run_legal first run r)).most
+pub law_answered_at_most_once : {D : Type 0} (first : AbstractState) (run : List (CallRecord D)) (id : RequestId) → IsRun first run → count_by (answers_id id) (steps_of run) ≤ 1
+law_answered_at_most_once first run id r = (untold first.machine (steps_of run) id (run_starts first run r) (run_legal first run r)).most
 
 pub law_answered_was_accepted : {D : Type 0} (first : AbstractState) (run : List (CallRecord D)) (late early : List Step) (e : Pending) (outcome : Outcome) → IsRun first run
     → steps_of run ≡ late ++ Answer e outcome ∷ early → WasAccepted first.machine early e.request
@@ -152,8 +152,8 @@ run_replies first (event ∷ past) id r =
     (⊎_elim (λ t. inl t.0) (λ e. inr e) (told_or_none event.call event.result (abstract_after_all first past) event.evidence event.steps _ r.1.result_matches_steps)) in
     omega (arith, rest, now, count_append (λ (reply : Reply). reply.id.0 == id.0) (replies_of event.result) (all_replies past), count_append (answers_id id) event.steps (steps_of past))
 
-pub law_replied_once : {D : Type 0} (first : AbstractState) (run : List (CallRecord D)) (id : RequestId) → IsRun first run → count_by (λ (reply : Reply). reply.id.0 == id.0) (all_replies run) ≤ 1
-law_replied_once first run id r = let few = run_replies first run id r in let once = law_answered_once first run id r in omega (arith, few, once)
+pub law_replied_at_most_once : {D : Type 0} (first : AbstractState) (run : List (CallRecord D)) (id : RequestId) → IsRun first run → count_by (λ (reply : Reply). reply.id.0 == id.0) (all_replies run) ≤ 1
+law_replied_at_most_once first run id r = let few = run_replies first run id r in let once = law_answered_at_most_once first run id r in omega (arith, few, once)
 
 -- a call that accepts says so
 accepts_count : (id : RequestId) (steps : List Step) → count_by (λ (r : Accepted). r.id.0 == id.0) (accepts_of steps) ≡ count_by (accepts_id id) steps
@@ -179,8 +179,8 @@ run_gives {D} first (event ∷ past) id r =
     let now = gives_accepted id event.call event.result (abstract_after_all first past) event.evidence event.steps _ r.1.result_matches_steps in
     omega (arith, rest, now, count_cons (λ (x : CallRecord D). gives_id id x.result) event past, count_append (accepts_id id) event.steps (steps_of past))
 
-pub law_ids_are_given_once : {D : Type 0} (first : AbstractState) (run : List (CallRecord D)) (id : RequestId) → IsRun first run → count_by (λ (event : CallRecord D). gives_id id event.result) run ≤ 1
-law_ids_are_given_once first run id r = let few = run_gives first run id r in let once = law_accepted_once first run id r in omega (arith, few, once)
+pub law_ids_are_given_at_most_once : {D : Type 0} (first : AbstractState) (run : List (CallRecord D)) (id : RequestId) → IsRun first run → count_by (λ (event : CallRecord D). gives_id id event.result) run ≤ 1
+law_ids_are_given_at_most_once first run id r = let few = run_gives first run id r in let once = law_accepted_at_most_once first run id r in omega (arith, few, once)
 
 -- Each unanswered request is one that a submit asked for.
 
@@ -208,11 +208,11 @@ came_from first past event e r h = ⊎_elim
     (accepts_asked e.request event.call event.result (abstract_after_all first past) event.evidence event.steps event.ports _ r.1.steps_are_of_call r.1.result_matches_steps a.0))
     (since (abstract_after_all first past).machine event.steps e h)
 
-was_asked : {D : Type 0} (first : AbstractState) (run : List (CallRecord D)) (e : Pending) → IsRun first run → Contains (abstract_after_all first run).machine.book e → WasAsked e.request run
+was_asked : {D : Type 0} (first : AbstractState) (run : List (CallRecord D)) (e : Pending) → IsRun first run → Contains (abstract_after_all first run).machine.book e → WasSubmittedAndAccepted e.request run
 was_asked first [] e r h = absurd (nobody first.machine r.0 e (inl h))
 was_asked first (event ∷ past) e r h = ⊎_elim
     (λ (c : WasUnansweredBefore (abstract_after_all first past).machine event.steps e). inr
-    (subst (λ (x : Accepted). WasAsked x past) c.same_request (was_asked first past c.before r.0 c.is_in_book)))
+    (subst (λ (x : Accepted). WasSubmittedAndAccepted x past) c.same_request (was_asked first past c.before r.0 c.is_in_book)))
     (λ asked. inl asked)
     (came_from first past event e r h)
 
@@ -224,7 +224,7 @@ accepted_in start (Accept new ∷ steps) past r (inr w) = ⊎_elim (λ i. inl (c
 accepted_in start (step ∷ steps) past r (inl c) = absurd c.0
 accepted_in start (step ∷ steps) past r (inr w) = accepted_in start steps past r w
 
-pub law_accepted_was_asked : {D : Type 0} (first : AbstractState) (run : List (CallRecord D)) (r : Accepted) → IsRun first run → WasAccepted first.machine (steps_of run) r → WasAsked r run
+pub law_accepted_was_asked : {D : Type 0} (first : AbstractState) (run : List (CallRecord D)) (r : Accepted) → IsRun first run → WasAccepted first.machine (steps_of run) r → WasSubmittedAndAccepted r run
 law_accepted_was_asked first [] r run w = w
 law_accepted_was_asked first (event ∷ past) r run w = ⊎_elim
     (λ (i : Contains (accepts_of event.steps) r). inl (accepts_asked r event.call event.result (abstract_after_all first past) event.evidence event.steps event.ports _ run.1.steps_are_of_call run.1.result_matches_steps i))
@@ -232,7 +232,7 @@ law_accepted_was_asked first (event ∷ past) r run w = ⊎_elim
     (accepted_in first.machine event.steps (steps_of past) r w)
 
 -- so a submit of its client gave its id
-asked_given : {D : Type 0} (r : Accepted) (run : List (CallRecord D)) → WasAsked r run → WasGivenId r.id r.asked.client run
+asked_given : {D : Type 0} (r : Accepted) (run : List (CallRecord D)) → WasSubmittedAndAccepted r run → WasGivenId r.id r.asked.client run
 asked_given r [] w = w
 asked_given r (event ∷ past) (inl w) = inl (r.asked, w.0, w.1, refl)
 asked_given r (event ∷ past) (inr w) = inr (asked_given r past w)
@@ -266,7 +266,7 @@ answers_in (step ∷ before) a h = contains_there step before (Answer a.0 a.1) (
 
 -- the request that a reply tells of
 abbrev pub IsRepliedBy : {D : Type 0} → Reply → CallRecord D → List (CallRecord D) → Type 0
-IsRepliedBy reply event past = (e : Pending) × Contains event.steps (Answer e reply.outcome) × (e.request.id ≡ reply.id) × (e.request.asked.client ≡ reply.client) × WasAsked e.request past
+IsRepliedBy reply event past = (e : Pending) × Contains event.steps (Answer e reply.outcome) × (e.request.id ≡ reply.id) × (e.request.asked.client ≡ reply.client) × WasSubmittedAndAccepted e.request past
 
 pub law_replied_was_asked : {D : Type 0} (first : AbstractState) (past : List (CallRecord D)) (event : CallRecord D) (reply : Reply) → IsRun first (event ∷ past) → Contains (replies_of event.result) reply
     → IsRepliedBy reply event past
@@ -275,7 +275,7 @@ law_replied_was_asked first past event reply r h = ⊎_elim
     let a = map_in reply_of t.0.answers reply (subst (λ (xs : List Reply). Contains xs reply) t.0.replies_are_of_answers h) in
     let i = Contains-permutation t.0.answers (answers_of event.steps) a.0 t.0.is_permutation a.1 in
     let waited = was_open (abstract_after_all first past).machine event.steps a.0 r.1.steps_are_enabled (none_accepted event.call event.steps t.1 (all_fit event.call event.ports event.steps r.1.steps_are_of_call)) i in
-    let asked : WasAsked a.0.0.request past = subst (λ (x : Accepted). WasAsked x past) waited.2 (was_asked first past waited.0 r.0 waited.1) in
+    let asked : WasSubmittedAndAccepted a.0.0.request past = subst (λ (x : Accepted). WasSubmittedAndAccepted x past) waited.2 (was_asked first past waited.0 r.0 waited.1) in
     let told : IsRepliedBy (reply_of a.0) event past = (a.0.0, answers_in event.steps a.0 i, refl, refl, asked) in
     subst (λ (x : Reply). IsRepliedBy x event past) (sym a.2) told)
     (λ e. absurd (contains_none reply (subst (λ (xs : List Reply). Contains xs reply) e h)))

@@ -33,7 +33,7 @@ abbrev abort : CallRecord (Unit {0})
 abort = record { call = Reset; result = WasReset (Some (reply_of (tried 4, outcome.Aborted) ∷ [])); evidence = halted; steps = Issue mode waits ∷ Answer (tried 4) outcome.Aborted ∷ Release ∷ []; ports = ports }
 
 becomes : (p : Port) → MayBecome ports halted ports p
-becomes p = record { served_is_unchanged = refl; dead_is_stuck = (λ dead. none_dead p dead, λ h. absurd (All-contains (λ _. ⊥) [] p (All-nil (λ _. ⊥)) h)); disk_is_remembered = λ _. (refl, refl) }
+becomes p = record { served_is_unchanged = refl; dead_exactly_if_stuck = (λ dead. none_dead p dead, λ h. absurd (All-contains (λ _. ⊥) [] p (All-nil (λ _. ⊥)) h)); disk_is_remembered_unless_ready = λ _. (refl, refl) }
 
 -- the moment before a reset
 abbrev before : Machine → ℕ → AbstractState
@@ -43,19 +43,19 @@ again : (m : Machine) (n : ℕ) → m.rows ≡ two_rows → ((p : Port) → m.pr
 again m n rows present few = record {
   steps_are_enabled = (
     ((tt, tt), ((0, omega arith, refl), refl, few, granted 0 row_zero rows)),
-    ((0, omega arith, refl), record { is_in_book = (0, omega arith, refl); nothing_blocks = refl; slot_is_left = λ _. omega arith }, λ e h. absurd (All-contains (λ _. ⊥) [] e (All-nil (λ _. ⊥)) h), granted 0 row_zero rows),
+    ((0, omega arith, refl), record { is_in_book = (0, omega arith, refl); waits_and_nothing_blocks = refl; slot_is_left = λ _. omega arith }, λ e h. absurd (All-contains (λ _. ⊥) [] e (All-nil (λ _. ⊥)) h), granted 0 row_zero rows),
   );
   steps_are_of_call = (((tt, inr tt), inr refl), inr (refl, refl));
   issue_is_last_of_request = (((tt, λ id h i. false≢true i), λ id h i. false≢true i), λ id h i. false≢true i);
   answers_are_lawful = (tt, (0, omega arith, refl));
   ports_are_well_formed = ports_fit Ready refl;
-  unanswered_keep_disk = λ e o h i same. (refl, refl);
+  unanswered_keep_serial_and_size = λ e o h i same. (refl, refl);
   result_matches_steps = record {
     replies_match = none_told (retry n).steps refl;
     releases_once = record { later = Issue mode (requeued (tried n)) ∷ WaitAgain (tried n) ∷ []; earlier = []; release_splits_steps = refl; earlier_are_by_device = tt; no_other_release = refl };
     unplugged_empties_port = none_unplugged (retry n).steps (abstract_after (before m n) (retry n)).machine refl;
     unplugged_lost_disk = finds_none (retry n).steps ports ports refl;
-    none_is_due = λ p _. none_due p;
+    none_is_due_where_ready = λ p _. none_due p;
     empty_unless_ready = λ p. emptied_of (tried (suc n) ∷ waits ∷ []) (of_two (tried (suc n)) waits (λ e. e.request.port ≡ port) refl refl) p;
     port_may_become = λ p. becomes p;
     none_stays_issued = λ p e h _ issued. of_two (tried (suc n)) waits (λ x. x.issued ≡ true → IsIssuedIn x.request.id (retry n).steps) (λ _. refl) (λ t. absurd (false≢true t)) e h issued;
@@ -68,19 +68,19 @@ happens6 : Happens (abstract_after_all first run5) abort
 happens6 = record {
   steps_are_enabled = (
     ((tt, tt), ((0, omega arith, refl), granted 0 row_zero refl)),
-    ((0, omega arith, refl), record { is_in_book = (0, omega arith, refl); nothing_blocks = refl; slot_is_left = λ _. omega arith }, λ e h. absurd (All-contains (λ _. ⊥) [] e (All-nil (λ _. ⊥)) h), granted 0 row_zero refl),
+    ((0, omega arith, refl), record { is_in_book = (0, omega arith, refl); waits_and_nothing_blocks = refl; slot_is_left = λ _. omega arith }, λ e h. absurd (All-contains (λ _. ⊥) [] e (All-nil (λ _. ⊥)) h), granted 0 row_zero refl),
   );
   steps_are_of_call = (((tt, inr tt), inr tt), inr (refl, refl));
   issue_is_last_of_request = (((tt, λ id h i. false≢true i), λ id h i. false≢true i), λ id h i. false≢true i);
   answers_are_lawful = (tt, (record { pending = tried 4; is_in_book = (0, omega arith, refl); id_is = refl; issued = refl }, refl, (refl, (0, omega arith, refl), (refl, refl))));
   ports_are_well_formed = ports_fit Ready refl;
-  unanswered_keep_disk = λ e o h i same. (refl, refl);
+  unanswered_keep_serial_and_size = λ e o h i same. (refl, refl);
   result_matches_steps = record {
     replies_match = one_told (tried 4) outcome.Aborted abort.steps refl (reply_of (tried 4, outcome.Aborted)) refl;
     releases_once = record { later = Issue mode waits ∷ Answer (tried 4) outcome.Aborted ∷ []; earlier = []; release_splits_steps = refl; earlier_are_by_device = tt; no_other_release = refl };
     unplugged_empties_port = none_unplugged abort.steps (abstract_after (abstract_after_all first run5) abort).machine refl;
     unplugged_lost_disk = finds_none abort.steps ports ports refl;
-    none_is_due = λ p _. one_issued (unanswered (newly_issued waits)) refl p;
+    none_is_due_where_ready = λ p _. one_issued (unanswered (newly_issued waits)) refl p;
     empty_unless_ready = λ p. emptied_of (newly_issued waits ∷ []) (only_one (newly_issued waits) (λ x. x.request.port ≡ port) refl) p;
     port_may_become = λ p. becomes p;
     none_stays_issued = λ p e h _ _. only_one (newly_issued waits) (λ x. IsIssuedIn x.request.id abort.steps) refl e h;

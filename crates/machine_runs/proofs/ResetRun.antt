@@ -9,8 +9,8 @@ use Rattle.ata_types.specs.declared.request.Outcome.TheVariants as outcome
 use Rattle.block_machine.specs.Ports.{Evidence, SamePorts}
 use Rattle.block_machine.specs.State.{Pending, unanswered}
 use Rattle.block_machine.specs.Steps.{Step, Issue, Age, WaitAgain, Answer, Release, newly_accepted, newly_issued, requeued}
-use Rattle.block_machine.specs.Events.{AbstractState, Service, Tick, Reset, Replied, WasReset, CallRecord, DeadPortsTellOnlyPortDead, AgesOnce, TimesOutAtTick, IsIssuedIn, RestartsTimedOut, Happens, is_age, reply_of, abstract_after_all}
-use Rattle.machine_runs.specs.ExampleRuns.{QuarantineEndsWithReset}
+use Rattle.block_machine.specs.Events.{AbstractState, Service, Tick, Reset, Replied, WasReset, CallRecord, DeadPortsTellOnlyPortDead, AgesReadyPortsFirstAndOnce, TimesOutAtTick, IsIssuedIn, RestartsTimedOut, Happens, is_age, reply_of, abstract_after_all}
+use Rattle.machine_runs.specs.ExampleRuns.{ResetReleasesFrameOfDeadPort}
 use Rattle.block_machine.proofs.Members.{contains_none, contains_here, contains_cases}
 use Rattle.block_machine.proofs.Setting.{port, frame, empty_starts, granted}
 use Rattle.machine_runs.proofs.Scene.{none, mode, ports, ports_in, at_port, first, call, at_here, is_ready, is_dead, ready_here, none_dead, emptied_one, one_issued, none_there, one_told, none_told, none_ended, none_unplugged, finds_none, ready_port, restarts_here, only_one, ports_fit, row_zero}
@@ -79,7 +79,7 @@ run7 = reset ∷ run6
 
 -- What holds of the parts.
 
-pub ages_once : (later : List Step) → count_by is_age later ≡ 0 → AgesOnce ports (later ++ Age aging ∷ [])
+pub ages_once : (later : List Step) → count_by is_age later ≡ 0 → AgesReadyPortsFirstAndOnce ports (later ++ Age aging ∷ [])
 ages_once later once = record {
   ready_ports = aging;
   is_ready = λ p. (at_here Ready p, ready_here p);
@@ -104,7 +104,7 @@ ticks old young new same = record {
   only_timed_out_wait_again = λ e h. absurd (false≢true (only_age (WaitAgain e) h));
   only_timed_out_are_answered = λ e o h. absurd (false≢true (only_age (Answer e o) h));
   answers_ended = λ p hung. absurd (not_hung old young p hung);
-  timed_out_iff_interrupted = λ p. (λ hung. absurd (not_hung old young p hung), λ i. absurd (⊎_elim (contains_none p) (contains_none p) i));
+  timed_out_iff_stopped_or_stuck = λ p. (λ hung. absurd (not_hung old young p hung), λ i. absurd (⊎_elim (contains_none p) (contains_none p) i));
   unplugged_lost_disk = finds_none (Age aging ∷ []) old.ports new.ports refl;
   shown_disk_was_in_or_came = λ p hung. absurd (not_hung old young p hung);
   none_stays_issued = λ p hung. absurd (not_hung old young p hung);
@@ -117,13 +117,13 @@ happens2 = record {
   issue_is_last_of_request = (tt, λ id h i. false≢true i);
   answers_are_lawful = tt;
   ports_are_well_formed = ports_fit Ready refl;
-  unanswered_keep_disk = λ e o h i same. (refl, refl);
+  unanswered_keep_serial_and_size = λ e o h i same. (refl, refl);
   result_matches_steps = record {
     replies_match = none_told (Age aging ∷ []) refl;
     ages_once = ages_once [] refl;
     restarts_timed_out = ticks (abstract_after_all first run1) (only_one (aged 0) (λ e. e.age < 2) (omega arith)) (abstract_after_all first run2) (λ p. (refl, refl, refl, refl, refl, refl));
     unplugged_empties_port = none_unplugged (Age aging ∷ []) (abstract_after_all first run2).machine refl;
-    none_is_due = λ p _. one_issued (unanswered (aged 1)) refl p;
+    none_is_due_where_ready = λ p _. one_issued (unanswered (aged 1)) refl p;
     was_ready_empty_unless_ready = λ p _ ne e h. emptied_one (aged 1) refl p ne e h;
   };
 }
@@ -135,13 +135,13 @@ happens3 = record {
   issue_is_last_of_request = (tt, λ id h i. false≢true i);
   answers_are_lawful = tt;
   ports_are_well_formed = ports_fit Ready refl;
-  unanswered_keep_disk = λ e o h i same. (refl, refl);
+  unanswered_keep_serial_and_size = λ e o h i same. (refl, refl);
   result_matches_steps = record {
     replies_match = none_told (Age aging ∷ []) refl;
     ages_once = ages_once [] refl;
     restarts_timed_out = ticks (abstract_after_all first run2) (only_one (aged 1) (λ e. e.age < 2) (omega arith)) (abstract_after_all first run3) (λ p. (refl, refl, refl, refl, refl, refl));
     unplugged_empties_port = none_unplugged (Age aging ∷ []) (abstract_after_all first run3).machine refl;
-    none_is_due = λ p _. one_issued (unanswered (aged 2)) refl p;
+    none_is_due_where_ready = λ p _. one_issued (unanswered (aged 2)) refl p;
     was_ready_empty_unless_ready = λ p _ ne e h. emptied_one (aged 2) refl p ne e h;
   };
 }
@@ -179,7 +179,7 @@ restarted = record {
       (WaitAgain e) h e refl;
   only_timed_out_are_answered = λ e o h. absurd (false≢true (sym (each_step (λ step. is_answer step ≡ false) refl refl refl (Answer e o) h)));
   answers_ended = λ p _. none_ended (abstract_after_all first run3).machine restarting.steps refl p;
-  timed_out_iff_interrupted = λ p. (
+  timed_out_iff_stopped_or_stuck = λ p. (
     λ h. inl (contains_here port [] p (ready_port p h.ready)),
     λ i. ⊎_elim
         (λ h. ⊎_elim (λ (same : p ≡ port). subst (λ (x : Port). TimesOutAtTick (abstract_after_all first run3) x) (sym same) hung) (λ n. absurd (contains_none p n)) (contains_cases port [] p h))
@@ -204,19 +204,19 @@ happens4 : Happens (abstract_after_all first run3) restarting
 happens4 = record {
   steps_are_enabled = (
     ((tt, tt), (contains_here (aged 3) [] (aged 3) refl, refl, omega arith, granted 0 row_zero refl)),
-    (contains_here waits [] waits refl, record { is_in_book = contains_here (unanswered waits) [] (unanswered waits) refl; nothing_blocks = refl; slot_is_left = λ _. omega arith }, λ e h. absurd (contains_none e h), granted 0 row_zero refl),
+    (contains_here waits [] waits refl, record { is_in_book = contains_here (unanswered waits) [] (unanswered waits) refl; waits_and_nothing_blocks = refl; slot_is_left = λ _. omega arith }, λ e h. absurd (contains_none e h), granted 0 row_zero refl),
   );
   steps_are_of_call = (((tt, inr tt), inr refl), inr (refl, refl));
   issue_is_last_of_request = (((tt, λ id h i. false≢true i), λ id h i. false≢true i), λ id h i. false≢true i);
   answers_are_lawful = (tt, contains_here port [] port refl);
   ports_are_well_formed = ports_fit Ready refl;
-  unanswered_keep_disk = λ e o h i same. (refl, refl);
+  unanswered_keep_serial_and_size = λ e o h i same. (refl, refl);
   result_matches_steps = record {
     replies_match = none_told restarting.steps refl;
     ages_once = ages_once restarts refl;
     restarts_timed_out = restarted;
     unplugged_empties_port = none_unplugged restarting.steps (abstract_after_all first run4).machine refl;
-    none_is_due = λ p _. one_issued (unanswered again) refl p;
+    none_is_due_where_ready = λ p _. one_issued (unanswered again) refl p;
     was_ready_empty_unless_ready = λ p _ ne e h. emptied_one again refl p ne e h;
   };
 }
@@ -244,7 +244,7 @@ happens5 = record {
   issue_is_last_of_request = tt;
   answers_are_lawful = tt;
   ports_are_well_formed = ports_fit Dead refl;
-  unanswered_keep_disk = λ e o h i same. (refl, refl);
+  unanswered_keep_serial_and_size = λ e o h i same. (refl, refl);
   result_matches_steps = (tt, λ p. (refl, λ here. let dead = at_here Dead p here in (dead, dead_here p dead), (refl, refl)));
 }
 
@@ -265,15 +265,15 @@ happens6 = record {
   issue_is_last_of_request = (tt, λ id h i. false≢true i);
   answers_are_lawful = (tt, refl);
   ports_are_well_formed = ports_fit Dead refl;
-  unanswered_keep_disk = λ e o h i same. (refl, refl);
+  unanswered_keep_serial_and_size = λ e o h i same. (refl, refl);
   result_matches_steps = record {
     replies_match = one_told again outcome.PortDead service.steps refl (reply_of (again, outcome.PortDead)) refl;
     dead_ports_tell_only_port_dead = told_dead;
     unplugged_empties_port = none_unplugged service.steps (abstract_after_all first run6).machine refl;
-    none_is_due = λ p ready. dead_not_ready p ready;
+    none_is_due_where_ready = λ p ready. dead_not_ready p ready;
     empty_unless_ready = λ p ne e h. absurd (contains_none e h);
     answers_ended = λ p _. none_ended (abstract_after_all first run5).machine service.steps refl p;
-    port_is_serviced = λ p. (λ _. (refl, refl, refl, refl, refl, refl), λ alive. (record { served_is_unchanged = refl; dead_is_stuck = (λ dead. absurd (alive dead), λ h. absurd (contains_none p h)); disk_is_remembered = λ _. (refl, refl) }, inl (refl, refl, refl, refl, refl, refl)));
+    port_is_serviced = λ p. (λ _. (refl, refl, refl, refl, refl, refl), λ alive. (record { served_is_unchanged = refl; dead_exactly_if_stuck = (λ dead. absurd (alive dead), λ h. absurd (contains_none p h)); disk_is_remembered_unless_ready = λ _. (refl, refl) }, inl (refl, refl, refl, refl, refl, refl)));
     shown_disk_was_in_or_came = λ p. inl (refl, refl, refl, refl, refl, refl);
   };
 }
@@ -285,22 +285,22 @@ happens7 = record {
   issue_is_last_of_request = (tt, λ id h i. false≢true i);
   answers_are_lawful = tt;
   ports_are_well_formed = ports_fit Ready refl;
-  unanswered_keep_disk = λ e o h i same. (refl, refl);
+  unanswered_keep_serial_and_size = λ e o h i same. (refl, refl);
   result_matches_steps = record {
     replies_match = none_told reset.steps refl;
     releases_once = record { later = []; earlier = []; release_splits_steps = refl; earlier_are_by_device = tt; no_other_release = refl };
     unplugged_empties_port = none_unplugged reset.steps (abstract_after_all first run7).machine refl;
     unplugged_lost_disk = finds_none reset.steps (ports_in Dead) ports refl;
-    none_is_due = λ p _. none_there p;
+    none_is_due_where_ready = λ p _. none_there p;
     empty_unless_ready = λ p ne e h. absurd (contains_none e h);
-    port_may_become = λ p. record { served_is_unchanged = refl; dead_is_stuck = (λ e. none_dead p e, λ h. absurd (contains_none p h)); disk_is_remembered = λ _. (refl, refl) };
+    port_may_become = λ p. record { served_is_unchanged = refl; dead_exactly_if_stuck = (λ e. none_dead p e, λ h. absurd (contains_none p h)); disk_is_remembered_unless_ready = λ _. (refl, refl) };
     none_stays_issued = λ p e h. absurd (contains_none e h);
     served_are_stopped = λ p. stopped_here p;
     shown_disk_was_in_or_came = λ p _. inl refl;
   };
 }
 
-pub ends_with_a_reset : QuarantineEndsWithReset
+pub ends_with_a_reset : ResetReleasesFrameOfDeadPort
 ends_with_a_reset = record {
   initial_state = first;
   earlier_calls = run1;

@@ -49,14 +49,14 @@ happens3 = record {
   issue_is_last_of_request = ((tt, λ id h i. false≢true i), λ id h i. false≢true i);
   answers_are_lawful = (tt, inl refl);
   ports_are_well_formed = ports_fit Ready refl;
-  unanswered_keep_disk = λ e o h i same. (refl, refl);
+  unanswered_keep_serial_and_size = λ e o h i same. (refl, refl);
   result_matches_steps = record {
     has_row = granted 0 row_zero refl;
     row_is_removed = refl;
     replies_match = one_told (newly_accepted read) outcome.Revoked event3.steps refl revoked refl;
     waiting_are_revoked = λ e. (told e, λ of. waiting_told e of.0 of.1 of.2);
     ports_are_same = λ p. (refl, refl, refl, refl, refl, refl);
-    none_is_due = λ p _. one_issued (unanswered (newly_issued (newly_accepted write))) refl p;
+    none_is_due_where_ready = λ p _. one_issued (unanswered (newly_issued (newly_accepted write))) refl p;
   };
 }
   where
@@ -90,7 +90,7 @@ happens4 = record {
   issue_is_last_of_request = (((tt, λ id h i. false≢true i), λ id h i. false≢true i), λ id h i. false≢true i);
   answers_are_lawful = (tt, (record { pending = newly_issued (newly_accepted write); is_in_book = contains_here (newly_issued (newly_accepted write)) [] (newly_issued (newly_accepted write)) refl; id_is = refl; issued = refl }, refl, one_touched, refl));
   ports_are_well_formed = ports_fit Ready refl;
-  unanswered_keep_disk = λ e o h i same. (refl, refl);
+  unanswered_keep_serial_and_size = λ e o h i same. (refl, refl);
   result_matches_steps = plain_service (abstract_after_all first run3).machine (abstract_after_all first run4).machine event4.steps (reply 1 ∷ []) (one_told (done write) outcome.Ok event4.steps refl (reply 1) refl) refl (none_ended (abstract_after_all first run3).machine event4.steps refl) (λ p. none_there p) (λ e h. absurd (contains_none e h));
 }
 
@@ -113,12 +113,12 @@ happens_failed = record {
   issue_is_last_of_request = (tt, λ id h i. false≢true i);
   answers_are_lawful = (tt, inr (refl, contains_here port [] port refl, (refl, refl)));
   ports_are_well_formed = ports_fit Ready refl;
-  unanswered_keep_disk = λ e o h i same. (refl, refl);
+  unanswered_keep_serial_and_size = λ e o h i same. (refl, refl);
   result_matches_steps = record {
     replies_match = one_told running outcome.Revoked failed.steps refl (reply_of (running, outcome.Revoked)) refl;
     dead_ports_tell_only_port_dead = λ e o i dead. none_dead e.request.port dead;
     unplugged_empties_port = none_unplugged failed.steps (abstract_after_all first (failed ∷ run3)).machine refl;
-    none_is_due = λ p _. none_there p;
+    none_is_due_where_ready = λ p _. none_there p;
     empty_unless_ready = λ p ne e h. absurd (contains_none e h);
     answers_ended = λ p _. none_ended (abstract_after_all first run3).machine failed.steps refl p;
     port_is_serviced = λ p. (λ dead. none_dead p dead, λ _. (stay_ready failure refl p, inl (refl, refl, refl, refl, refl, refl)));

@@ -17,7 +17,7 @@ use Rattle.block_machine.specs.Ports.{Ports, Evidence, MayBecome, SamePorts, Por
 use Rattle.block_machine.specs.State.{Accepted, Pending, Machine}
 use Rattle.block_machine.specs.Steps.{Step, Issue, Age, Touch, End, WaitAgain, Answer, Release, MayAccept, touch, mark_ended}
 use Rattle.block_machine.specs.Expected.{after}
-use Rattle.block_machine.specs.Events.{AbstractState, AbstractCall, AllEnabled, AreStepsOfCall, EmptyUnlessReady, Submit, StoreAt, LoadAt, Service, Tick, Reset, State, StepDevice, RevokeOf, AbstractCallResult, Submitted, Stored, Loaded, Replied, WasReset, WasRevoked, PortStateShown, Stepped, CallRecord, ResultMatchesSteps, Happens, AnswersAndWaitsLawful, AgesOnce, RestartsTimedOut, ReleasesOnce, IssueIsLastOfRequest, IsRun, IsStillStuck, IsStuckAfterCall, accepts_of, is_age, is_release, issues_id, handles_id, abstract_after_all, admission_context_of, abstract_after}
+use Rattle.block_machine.specs.Events.{AbstractState, AbstractCall, AllEnabled, AreStepsOfCall, EmptyUnlessReady, Submit, StoreAt, LoadAt, Service, Tick, Reset, State, StepDevice, RevokeOf, AbstractCallResult, Submitted, Stored, Loaded, Replied, WasReset, WasRevoked, PortStateShown, Stepped, CallRecord, ResultMatchesSteps, Happens, AnswersAndWaitsLawful, AgesReadyPortsFirstAndOnce, RestartsTimedOut, ReleasesOnceBeforeServerSteps, IssueIsLastOfRequest, IsRun, IsStillStuck, IsStuckAfterCall, accepts_of, is_age, is_release, issues_id, handles_id, abstract_after_all, admission_context_of, abstract_after}
 use Rattle.block_machine.proofs.Members.{contains_none, contains_cases, map_in}
 use Rattle.block_machine.proofs.Keeps.{at_keeps}
 use Rattle.block_machine.specs.Confinement.{IsGranted}
@@ -49,16 +49,16 @@ issued_once id (step ∷ before) l = go (issues_id id step) refl (issued_once id
           omega (arith, most, zero, count_cons (issues_id id) step before),
         )
 
-pub law_issued_once_a_call : {D : Type 0} (old : AbstractState) (event : CallRecord D) (id : RequestId) → Happens old event → count_by (issues_id id) event.steps ≤ 1
-law_issued_once_a_call old event id h = (issued_once id event.steps h.issue_is_last_of_request).1
+pub law_issued_at_most_once_a_call : {D : Type 0} (old : AbstractState) (event : CallRecord D) (id : RequestId) → Happens old event → count_by (issues_id id) event.steps ≤ 1
+law_issued_at_most_once_a_call old event id h = (issued_once id event.steps h.issue_is_last_of_request).1
 
 -- What a call that was answered may have done to ports and book. `was`: a reset was stuck before it, and is so still.
 data Kind {D : Type 0} (ask : AbstractCall D) (said : AbstractCallResult) (old : AbstractState) (evidence : Evidence) (steps : List Step) (new : AbstractState) (was : Type 0) : Type 0 where
   Leaves : is_tick ask ≡ false → is_reset ask ≡ false → SamePorts old.ports new.ports → (was → IsStuckAfterCall ask said was) → Kind ask said old evidence steps new was
   Serves : is_tick ask ≡ false → is_reset ask ≡ false → ((port : Port) → EmptyUnlessReady new port × IsServiced old.ports evidence new.ports port) → Kind ask said old evidence steps new was
-  Ticks : is_reset ask ≡ false → AgesOnce old.ports steps → RestartsTimedOut old evidence steps new → ((port : Port) → old.ports.state port ≡ Ready → EmptyUnlessReady new port)
+  Ticks : is_reset ask ≡ false → AgesReadyPortsFirstAndOnce old.ports steps → RestartsTimedOut old evidence steps new → ((port : Port) → old.ports.state port ≡ Ready → EmptyUnlessReady new port)
       → (was → IsStuckAfterCall ask said was) → Kind ask said old evidence steps new was
-  Resets : is_tick ask ≡ false → ReleasesOnce steps → ((port : Port) → EmptyUnlessReady new port × MayBecome old.ports evidence new.ports port) → Kind ask said old evidence steps new was
+  Resets : is_tick ask ≡ false → ReleasesOnceBeforeServerSteps steps → ((port : Port) → EmptyUnlessReady new port × MayBecome old.ports evidence new.ports port) → Kind ask said old evidence steps new was
   Sticks : is_tick ask ≡ false → ((port : Port) → IsAfterStuckReset old.ports evidence new.ports port) → IsStuckAfterCall ask said was → Kind ask said old evidence steps new was
 
 kind : {D : Type 0} (ask : AbstractCall D) (said : AbstractCallResult) (old : AbstractState) (evidence : Evidence) (steps : List Step) (new : AbstractState) (was : Type 0) → ResultMatchesSteps ask said old evidence steps new → Kind ask said old evidence steps new was
@@ -190,7 +190,7 @@ law_unanswered_sectors_are_on_disk first (event ∷ past) e r h op = ⊎_elim
     (λ (s : Since (abstract_after_all first past).machine event.steps e).
     let le = subst (λ (x : Accepted). x.asked.first.0 + x.asked.count ≤ (abstract_after_all first past).ports.sectors x.port) s.same
     (law_unanswered_sectors_are_on_disk first past s.old r.0 s.here (subst (λ (x : Accepted). x.asked.op ≢ Flush) (sym s.same) op)) in
-    let same = (r.1.unanswered_keep_disk e s.old h s.here (ap (λ (x : Accepted). x.id) s.same)).1 in
+    let same = (r.1.unanswered_keep_serial_and_size e s.old h s.here (ap (λ (x : Accepted). x.id) s.same)).1 in
     omega (arith, le, same))
     (λ (a : IsAccepted event.steps e).
     let w = welcomes (abstract_after_all first past) event r.1 e.request a.0 in
@@ -202,7 +202,7 @@ law_unanswered_sectors_are_on_disk first (event ∷ past) e r h op = ⊎_elim
 -- The age of an issued request is two at most.
 
 -- a tick ages a port once, where it is ready
-aged_once : (ports : Ports) (steps : List Step) (port : Port) → AgesOnce ports steps → (count_by (ages_it port) steps ≤ 1) × (ports.state port ≢ Ready → count_by (ages_it port) steps ≡ 0)
+aged_once : (ports : Ports) (steps : List Step) (port : Port) → AgesReadyPortsFirstAndOnce ports steps → (count_by (ages_it port) steps ≤ 1) × (ports.state port ≢ Ready → count_by (ages_it port) steps ≡ 0)
 aged_once ports steps port a =
     let split : count_by (ages_it port) steps ≡ count_by (ages_it port) a.later + count_by (ages_it port) (Age a.ready_ports ∷ []) =
     ap (λ (xs : List Step). count_by (ages_it port) xs) a.age_is_first ∙ count_append (ages_it port) a.later (Age a.ready_ports ∷ []) in
@@ -242,7 +242,7 @@ young {D} ask said old evidence steps new e fit k here t all from = by k
     quiet still = unaged (none_aged ask e.request.port steps still fit)
 
     -- and where it is, and a request that keeps its issue isn't old enough to be hung
-    aged : AgesOnce old.ports steps → RestartsTimedOut old evidence steps new → old.ports.state e.request.port ≡ Ready → e.age ≤ 2
+    aged : AgesReadyPortsFirstAndOnce old.ports steps → RestartsTimedOut old evidence steps new → old.ports.state e.request.port ≡ Ready → e.age ≤ 2
     aged ages hung ready =
         let once = (aged_once old.ports steps e.request.port ages).0 in
         ⊎_elim
@@ -328,12 +328,12 @@ kept_event ask said old evidence steps new port fit none dead (Resets t releases
     absurd (omega (arith, split, one, none))
 kept_event ask said old evidence steps new port fit none dead (Sticks t ports keep) = ((ports port).1 (placed_served old.ports port (Unit {0}) fit (inr (dead, tt)))).0
 
-pub law_kept_where_dead : {D : Type 0} (first : AbstractState) (run : List (CallRecord D)) (e : Pending) → IsRun first run → Contains (abstract_after_all first run).machine.kept e → (abstract_after_all first run).ports.state e.request.port ≡ Dead
-law_kept_where_dead first [] e r h = absurd (nobody first.machine r.0 e (inr h))
-law_kept_where_dead first (event ∷ past) e r h = ⊎_elim
+pub law_kept_only_where_dead : {D : Type 0} (first : AbstractState) (run : List (CallRecord D)) (e : Pending) → IsRun first run → Contains (abstract_after_all first run).machine.kept e → (abstract_after_all first run).ports.state e.request.port ≡ Dead
+law_kept_only_where_dead first [] e r h = absurd (nobody first.machine r.0 e (inr h))
+law_kept_only_where_dead first (event ∷ past) e r h = ⊎_elim
     (λ o. kept_event event.call event.result (abstract_after_all first past) event.evidence event.steps (abstract_after_all first (event ∷ past)) e.request.port
     (run_fit first past r.0) o.3
-    (subst (λ (x : Accepted). (abstract_after_all first past).ports.state x.port ≡ Dead) o.2 (law_kept_where_dead first past o.0 r.0 o.1))
+    (subst (λ (x : Accepted). (abstract_after_all first past).ports.state x.port ≡ Dead) o.2 (law_kept_only_where_dead first past o.0 r.0 o.1))
     (kind event.call event.result (abstract_after_all first past) event.evidence event.steps (abstract_after_all first (event ∷ past)) (Unit {0}) r.1.result_matches_steps))
     (λ dead. dead)
     (kept_from (abstract_after_all first past) event.evidence event.ports (abstract_after_all first past).machine event.steps r.1.answers_are_lawful e h)
@@ -347,9 +347,9 @@ dead_or _ = inr (λ e. false≢true (ap is_dead e))
 was_dead : {D : Type 0} (ask : AbstractCall D) (said : AbstractCallResult) (old : AbstractState) (evidence : Evidence) (steps : List Step) (new : AbstractState) (port : Port) → PortsWellFormed new.ports → new.ports.state port ≡ Dead
     → Kind ask said old evidence steps new (Unit {0}) → (old.ports.state port ≡ Dead) ⊎ Contains evidence.stuck port
 was_dead ask said old evidence steps new port fit dead (Leaves t r same keep) = inl (sym (same port).1 ∙ dead)
-was_dead ask said old evidence steps new port fit dead (Serves t r ports) = ⊎_elim (λ was. inl was) (λ alive. inr (((ports port).1.1 alive).0.dead_is_stuck.0 dead)) (dead_or (old.ports.state port))
-was_dead ask said old evidence steps new port fit dead (Ticks r ages hung empty keep) = ⊎_elim (λ same. inl (sym same.1.1 ∙ dead)) (λ h. inr (h.1.dead_is_stuck.0 dead)) (hung.each_port_is_same_or_restarts port)
-was_dead ask said old evidence steps new port fit dead (Resets t releases ports) = inr ((ports port).1.dead_is_stuck.0 dead)
+was_dead ask said old evidence steps new port fit dead (Serves t r ports) = ⊎_elim (λ was. inl was) (λ alive. inr (((ports port).1.1 alive).0.dead_exactly_if_stuck.0 dead)) (dead_or (old.ports.state port))
+was_dead ask said old evidence steps new port fit dead (Ticks r ages hung empty keep) = ⊎_elim (λ same. inl (sym same.1.1 ∙ dead)) (λ h. inr (h.1.dead_exactly_if_stuck.0 dead)) (hung.each_port_is_same_or_restarts port)
+was_dead ask said old evidence steps new port fit dead (Resets t releases ports) = inr ((ports port).1.dead_exactly_if_stuck.0 dead)
 was_dead ask said old evidence steps new port fit dead (Sticks t ports keep) =
     inr (((ports port).1 (sym (ports port).0 ∙ placed_served new.ports port (Unit {0}) fit (inr (dead, tt)))).1)
 

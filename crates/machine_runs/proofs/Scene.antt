@@ -27,7 +27,7 @@ use Rattle.block_machine.specs.DueRequests.{NoneDue, is_flush}
 use Rattle.block_machine.specs.State.{Accepted, Pending, Machine, block_of, unanswered}
 use Rattle.block_machine.specs.Steps.{Step, Touch, End, Answer, newly_accepted, newly_issued, touch, mark_ended, MayAccept}
 use Rattle.block_machine.specs.Ports.{Ports, Evidence, PortsWellFormed, SamePort, IsStoppedOrStuck, MayBecome, IsServiced}
-use Rattle.block_machine.specs.Events.{AbstractState, AbstractCall, AbstractCallResult, CallRecord, ShowsDisk, TimesOutAtTick, AnswersEnded, UnpluggedEmptiesPort, UnpluggedLostDisk, AnswersService, RepliesMatch, admission_context_of, answers_of, reply_of}
+use Rattle.block_machine.specs.Events.{AbstractState, AbstractCall, AbstractCallResult, CallRecord, ShowsDisk, TimesOutAtTick, AnswersEnded, UnpluggedEmptiesPort, UnpluggedPortIsNotDeadNorReadyWithSameDisk, AnswersService, RepliesMatch, admission_context_of, answers_of, reply_of}
 use Rattle.block_machine.proofs.Members.{contains_none, contains_here, contains_cases, append_in, none_of}
 use Rattle.block_machine.proofs.Counting.{issued_not_due}
 use Rattle.block_machine.proofs.Setting.{client, on, port, frame, row, two_rows, request, empty, its_row, is_trim, IsFit, acceptable}
@@ -266,7 +266,7 @@ pub serviced : (p : Port) → IsServiced ports none ports p
 serviced p = (
   λ dead. none_dead p dead,
   λ _. (
-    record { served_is_unchanged = refl; dead_is_stuck = (λ e. none_dead p e, λ h. absurd (contains_none p h)); disk_is_remembered = λ _. (refl, refl) },
+    record { served_is_unchanged = refl; dead_exactly_if_stuck = (λ e. none_dead p e, λ h. absurd (contains_none p h)); disk_is_remembered_unless_ready = λ _. (refl, refl) },
     inl (refl, refl, refl, refl, refl, refl),
   ),
 )
@@ -291,8 +291,8 @@ changed_here old new evidence here p = go (p.0 == 0) refl
 pub stay_ready : (evidence : Evidence) → evidence.stuck ≡ [] → (p : Port) → MayBecome ports evidence ports p
 stay_ready evidence none p = record {
   served_is_unchanged = refl;
-  dead_is_stuck = (λ dead. none_dead p dead, λ h. absurd (contains_none p (subst (λ (stuck : List Port). Contains stuck p) none h)));
-  disk_is_remembered = λ _. (refl, refl);
+  dead_exactly_if_stuck = (λ dead. none_dead p dead, λ h. absurd (contains_none p (subst (λ (stuck : List Port). Contains stuck p) none h)));
+  disk_is_remembered_unless_ready = λ _. (refl, refl);
 }
 
 -- what a tick makes of each port where port 0 is hung: that becomes what it may, in this state, and the others stay as they are
@@ -330,7 +330,7 @@ none_unplugged steps m none = record {
   none_is_told_dead = λ e other h i. never_unplugged steps none e h;
 }
 
-pub finds_none : (steps : List Step) (old new : Ports) → list_any is_unplugged steps ≡ false → UnpluggedLostDisk steps old new
+pub finds_none : (steps : List Step) (old new : Ports) → list_any is_unplugged steps ≡ false → UnpluggedPortIsNotDeadNorReadyWithSameDisk steps old new
 finds_none steps old new none e h = never_unplugged steps none e h
 
 -- the step tells that a port is dead
@@ -361,7 +361,7 @@ plain_service old new steps replies tells plugged ended issues mine = record {
   replies_match = tells;
   dead_ports_tell_only_port_dead = λ e o h dead. none_dead e.request.port dead;
   unplugged_empties_port = none_unplugged steps new plugged;
-  none_is_due = λ p _. issues p;
+  none_is_due_where_ready = λ p _. issues p;
   empty_unless_ready = emptied_of new.book mine;
   answers_ended = λ p _. ended p;
   port_is_serviced = serviced;

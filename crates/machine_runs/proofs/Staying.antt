@@ -4,7 +4,7 @@ use Rattle.std.proofs.lemmas.Bool.{or_left, and_parts, cond-false, false_from_ne
 use Rattle.block_machine.specs.DueRequests.{changes_sectors}
 use Rattle.block_machine.specs.State.{Block, Accepted, Pending, Machine, sector_of, block_written}
 use Rattle.block_machine.specs.Steps.{Step, Touch, IsEnabled, HoldsFrames}
-use Rattle.block_machine.specs.Expected.{after, IsLegal, IsInitial, IsTouch, touches_sector, HasTouched, plug_count, disk_number_read, IsLastWritten, IsExpectedBlock}
+use Rattle.block_machine.specs.Expected.{after, IsLegal, IsInitial, IsTouch, touches_sector, HasTouched, plug_count, disk_number_read, IsLastWrittenOrPluggedIn, IsExpectedBlock}
 use Rattle.block_machine.proofs.Trace.{Seen, runs_lives, conflict_at, read_number, last_from}
 use Rattle.block_machine.proofs.Runs.{traced}
 
@@ -25,13 +25,13 @@ no_earlier m (Touch e i block) may r k seen w writes here less t =
     (conflict_at e.request r k here_e (or_left _ _ writes_e) (omega (arith, at)) (omega (arith, at, may.1)) seen.from seen.to)
 no_earlier m _ may r k seen w writes here less t = absurd t
 
-pub law_expected_is_stable : (start : Machine) (h : List Step) (step : Step) (read : Accepted) (k n : ℕ) (block : Block) → IsInitial start → IsLegal start (step ∷ h)
+pub law_expected_stays_once_read_is_answered : (start : Machine) (h : List Step) (step : Step) (read : Accepted) (k n : ℕ) (block : Block) → IsInitial start → IsLegal start (step ∷ h)
     → HasTouched read k n h → ((e : Pending) → HoldsFrames (after start h) e → e.request.id ≢ read.id) → IsExpectedBlock start h read k block → IsExpectedBlock start (step ∷ h) read k block
-law_expected_is_stable start h step read k n block s legal touched gone left =
+law_expected_stays_once_read_is_answered start h step read k n block s legal touched gone left =
     let m = after start h in
     let seen = (traced start h s legal.0).seen read k n touched in
     let same : disk_number_read read k (step ∷ h) ≡ disk_number_read read k h = cond-false (touches_sector read.id k step) (plug_count read.port h) (disk_number_read read k h) (no_touch m step legal.1 read k gone) in
-    subst (λ (x : ℕ). IsLastWritten start read.port k x read.id.0 (step ∷ h) block) (sym same)
+    subst (λ (x : ℕ). IsLastWrittenOrPluggedIn start read.port k x read.id.0 (step ∷ h) block) (sym same)
     (last_from start read.port k (disk_number_read read k h) read.id.0 read.id.0 step h block (read_number read k h)
     (no_earlier m step legal.1 read k seen) (λ w o. o.earlier) (λ w o. o.earlier) left)
 

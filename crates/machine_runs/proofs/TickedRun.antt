@@ -43,7 +43,7 @@ happens4 = record {
   issue_is_last_of_request = ((tt, λ id h i. false≢true i), λ id h i. false≢true i);
   answers_are_lawful = tt;
   ports_are_well_formed = ports_fit Ready refl;
-  unanswered_keep_disk = λ e o h i same. (refl, refl);
+  unanswered_keep_serial_and_size = λ e o h i same. (refl, refl);
   result_matches_steps = (((tt, tt), tt), λ p. (refl, refl, refl, refl, refl, refl));
 }
 
@@ -73,7 +73,7 @@ restarted = record {
       (Answer e o) h e o refl;
   answers_ended = λ p _. last_ended (abstract_after_all first run4).machine tick.steps [] over refl refl older_still refl (contains_here (Answer older_still outcome.Ok) (Age aging ∷ []) (Answer older_still outcome.Ok) refl) p;
   none_stays_issued = λ p _ e h. absurd (contains_none e h);
-  timed_out_iff_interrupted = λ p. (
+  timed_out_iff_stopped_or_stuck = λ p. (
     λ h. inl (contains_here port [] p (ready_port p h.ready)),
     λ i. ⊎_elim
         (λ h. ⊎_elim (λ (same : p ≡ port). subst (λ (x : Port). TimesOutAtTick (abstract_after_all first run4) x) (sym same) hung) (λ n. absurd (contains_none p n)) (contains_cases port [] p h))
@@ -97,13 +97,13 @@ happens5 = record {
   issue_is_last_of_request = ((tt, λ id h i. false≢true i), λ id h i. false≢true i);
   answers_are_lawful = (tt, (record { pending = over; is_in_book = contains_here over [] over refl; id_is = refl; issued = refl }, refl, one_touched, refl));
   ports_are_well_formed = ports_fit Ready refl;
-  unanswered_keep_disk = λ e o h i same. (refl, refl);
+  unanswered_keep_serial_and_size = λ e o h i same. (refl, refl);
   result_matches_steps = record {
     replies_match = one_told older_still outcome.Ok tick.steps refl (reply_of (older_still, outcome.Ok)) refl;
     ages_once = ages_once (Answer older_still outcome.Ok ∷ []) refl;
     restarts_timed_out = restarted;
     unplugged_empties_port = none_unplugged tick.steps (abstract_after_all first run5).machine refl;
-    none_is_due = λ p _. none_there p;
+    none_is_due_where_ready = λ p _. none_there p;
     was_ready_empty_unless_ready = λ p _ ne e h. absurd (contains_none e h);
   };
 }
@@ -122,7 +122,7 @@ ends_at_a_tick = record {
   ended = over;
   request_is_same = refl;
   book = refl;
-  is_ended = (refl, refl);
+  is_ended_at_age_two = (refl, refl);
   ticks = refl;
   answers = refl;
   book_becomes_empty = refl;

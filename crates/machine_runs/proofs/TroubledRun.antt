@@ -15,7 +15,7 @@ use Rattle.block_machine.specs.Ports.{Ports, Evidence, PortsWellFormed, SamePort
 use Rattle.block_machine.specs.State.{Accepted, Pending, Machine, unanswered, is_reader}
 use Rattle.block_machine.specs.Steps.{Step, Accept, Issue, Touch, End, WaitAgain, Answer, Unplug, newly_accepted, newly_issued, touch, requeued}
 use Rattle.block_machine.specs.Events.{AbstractState, Submit, Service, StepDevice, Submitted, Replied, Stepped, CallRecord, Happens, UnpluggedEmptiesPort, RepliesMatch, IsToldBefore, IsIssuedIn, abstract_after, abstract_after_all, admission_context_of, steps_of, reply_of, ShowsDisk}
-use Rattle.machine_runs.specs.ExampleRuns.{ServiceAnswersAllErrors}
+use Rattle.machine_runs.specs.ExampleRuns.{ServiceHandlesTwoFailedPorts}
 use Rattle.block_machine.proofs.Members.{contains_none, contains_here, contains_there, contains_cases, none_of}
 use Rattle.block_machine.proofs.Setting.{on, frame, row, two_rows, empty, empty_starts, acceptable, granted}
 use Rattle.machine_runs.proofs.Scene.{none, mode, id, one_sector, done, is_dead, IsQuiet, row_zero, write_at, fit_read, new, none_waits, none_there, one_told, none_told, one_touched, none_unplugged, is_unfit, is_told_dead, emptied_at, none_ended, last_ended}
@@ -181,7 +181,7 @@ stays : (p : Port) → IsServiced (ports_in Ready Absent) failure (ports_in Read
 stays p = (
   λ dead. not_dead Ready Absent refl refl p dead,
   λ _. (
-    record { served_is_unchanged = refl; dead_is_stuck = (λ dead. not_dead Ready Absent refl refl p dead, λ h. absurd (contains_none p h)); disk_is_remembered = λ _. (refl, refl) },
+    record { served_is_unchanged = refl; dead_exactly_if_stuck = (λ dead. not_dead Ready Absent refl refl p dead, λ h. absurd (contains_none p h)); disk_is_remembered_unless_ready = λ _. (refl, refl) },
     inl (refl, refl, refl, refl, refl, refl),
   ),
 )
@@ -205,12 +205,12 @@ quiet3 = quiet 0 (abstract_after_all first run3) row_zero refl refl refl (omega 
 
 happens1 : Happens (abstract_after_all first run0) (submit lost)
 happens1 = record {
-  steps_are_enabled = ((tt, new 1 (abstract_after_all first run0) lost quiet0 (fit_read 1 (abstract_after_all first run0) 102 quiet0 refl refl) refl refl refl), (contains_here (newly_accepted lost) [] (newly_accepted lost) refl, record { is_in_book = contains_here (unanswered (newly_accepted lost)) [] (unanswered (newly_accepted lost)) refl; nothing_blocks = refl; slot_is_left = λ _. omega arith }, λ e h. absurd (contains_none e h), granted 1 quiet0.mine refl));
+  steps_are_enabled = ((tt, new 1 (abstract_after_all first run0) lost quiet0 (fit_read 1 (abstract_after_all first run0) 102 quiet0 refl refl) refl refl refl), (contains_here (newly_accepted lost) [] (newly_accepted lost) refl, record { is_in_book = contains_here (unanswered (newly_accepted lost)) [] (unanswered (newly_accepted lost)) refl; waits_and_nothing_blocks = refl; slot_is_left = λ _. omega arith }, λ e h. absurd (contains_none e h), granted 1 quiet0.mine refl));
   steps_are_of_call = ((tt, inr refl), inr (refl, refl));
   issue_is_last_of_request = ((tt, λ id h i. false≢true i), λ id h i. false≢true i);
   answers_are_lawful = tt;
   ports_are_well_formed = fit Ready Ready refl refl;
-  unanswered_keep_disk = λ e o h i same. (refl, refl);
+  unanswered_keep_serial_and_size = λ e o h i same. (refl, refl);
   result_matches_steps = (acceptable 1 (admission_context_of (abstract_after_all first run0)) lost.asked (fit_read 1 (abstract_after_all first run0) 102 quiet0 refl refl), (lost, refl, refl), λ p. (refl, refl, refl, refl, refl, refl), λ p _. none_waits _ refl p);
 }
 
@@ -226,34 +226,34 @@ fourth a b c d = contains_there a (b ∷ c ∷ d ∷ []) d (third b c d)
 
 happens2 : Happens (abstract_after_all first run1) (submit failed)
 happens2 = record {
-  steps_are_enabled = ((tt, new 0 (abstract_after_all first run1) failed quiet1 (write_at 0 (abstract_after_all first run1) 100 100 quiet1 (omega arith) (omega arith) refl refl) refl refl refl), (second losing (newly_accepted failed), record { is_in_book = second (unanswered losing) (unanswered (newly_accepted failed)); nothing_blocks = refl; slot_is_left = λ _. omega arith }, λ e h. absurd (contains_none e h), granted 0 row_zero refl));
+  steps_are_enabled = ((tt, new 0 (abstract_after_all first run1) failed quiet1 (write_at 0 (abstract_after_all first run1) 100 100 quiet1 (omega arith) (omega arith) refl refl) refl refl refl), (second losing (newly_accepted failed), record { is_in_book = second (unanswered losing) (unanswered (newly_accepted failed)); waits_and_nothing_blocks = refl; slot_is_left = λ _. omega arith }, λ e h. absurd (contains_none e h), granted 0 row_zero refl));
   steps_are_of_call = ((tt, inr refl), inr (refl, refl));
   issue_is_last_of_request = ((tt, λ id h i. false≢true i), λ id h i. false≢true i);
   answers_are_lawful = tt;
   ports_are_well_formed = fit Ready Ready refl refl;
-  unanswered_keep_disk = λ e o h i same. (refl, refl);
+  unanswered_keep_serial_and_size = λ e o h i same. (refl, refl);
   result_matches_steps = (acceptable 0 (admission_context_of (abstract_after_all first run1)) failed.asked (write_at 0 (abstract_after_all first run1) 100 100 quiet1 (omega arith) (omega arith) refl refl), (failed, refl, refl), λ p. (refl, refl, refl, refl, refl, refl), λ p _. none_waits _ refl p);
 }
 
 happens3 : Happens (abstract_after_all first run2) (submit again)
 happens3 = record {
-  steps_are_enabled = ((tt, new 0 (abstract_after_all first run2) again quiet2 (write_at 0 (abstract_after_all first run2) 101 101 quiet2 (omega arith) (omega arith) refl refl) refl refl refl), (third losing failing (newly_accepted again), record { is_in_book = third (unanswered losing) (unanswered failing) (unanswered (newly_accepted again)); nothing_blocks = refl; slot_is_left = λ _. omega arith }, λ e h. absurd (contains_none e h), granted 0 row_zero refl));
+  steps_are_enabled = ((tt, new 0 (abstract_after_all first run2) again quiet2 (write_at 0 (abstract_after_all first run2) 101 101 quiet2 (omega arith) (omega arith) refl refl) refl refl refl), (third losing failing (newly_accepted again), record { is_in_book = third (unanswered losing) (unanswered failing) (unanswered (newly_accepted again)); waits_and_nothing_blocks = refl; slot_is_left = λ _. omega arith }, λ e h. absurd (contains_none e h), granted 0 row_zero refl));
   steps_are_of_call = ((tt, inr refl), inr (refl, refl));
   issue_is_last_of_request = ((tt, λ id h i. false≢true i), λ id h i. false≢true i);
   answers_are_lawful = tt;
   ports_are_well_formed = fit Ready Ready refl refl;
-  unanswered_keep_disk = λ e o h i same. (refl, refl);
+  unanswered_keep_serial_and_size = λ e o h i same. (refl, refl);
   result_matches_steps = (acceptable 0 (admission_context_of (abstract_after_all first run2)) again.asked (write_at 0 (abstract_after_all first run2) 101 101 quiet2 (omega arith) (omega arith) refl refl), (again, refl, refl), λ p. (refl, refl, refl, refl, refl, refl), λ p _. none_waits _ refl p);
 }
 
 happens4 : Happens (abstract_after_all first run3) (submit finished)
 happens4 = record {
-  steps_are_enabled = ((tt, new 0 (abstract_after_all first run3) finished quiet3 (write_at 0 (abstract_after_all first run3) 102 103 quiet3 (omega arith) (omega arith) refl refl) refl refl refl), (fourth losing failing (tried 1) (newly_accepted finished), record { is_in_book = fourth (unanswered losing) (unanswered failing) (unanswered (tried 1)) (unanswered (newly_accepted finished)); nothing_blocks = refl; slot_is_left = λ _. omega arith }, λ e h. absurd (contains_none e h), granted 0 row_zero refl));
+  steps_are_enabled = ((tt, new 0 (abstract_after_all first run3) finished quiet3 (write_at 0 (abstract_after_all first run3) 102 103 quiet3 (omega arith) (omega arith) refl refl) refl refl refl), (fourth losing failing (tried 1) (newly_accepted finished), record { is_in_book = fourth (unanswered losing) (unanswered failing) (unanswered (tried 1)) (unanswered (newly_accepted finished)); waits_and_nothing_blocks = refl; slot_is_left = λ _. omega arith }, λ e h. absurd (contains_none e h), granted 0 row_zero refl));
   steps_are_of_call = ((tt, inr refl), inr (refl, refl));
   issue_is_last_of_request = ((tt, λ id h i. false≢true i), λ id h i. false≢true i);
   answers_are_lawful = tt;
   ports_are_well_formed = fit Ready Ready refl refl;
-  unanswered_keep_disk = λ e o h i same. (refl, refl);
+  unanswered_keep_serial_and_size = λ e o h i same. (refl, refl);
   result_matches_steps = (acceptable 0 (admission_context_of (abstract_after_all first run3)) finished.asked (write_at 0 (abstract_after_all first run3) 102 103 quiet3 (omega arith) (omega arith) refl refl), (finished, refl, refl), λ p. (refl, refl, refl, refl, refl, refl), λ p _. none_waits _ refl p);
 }
 
@@ -264,7 +264,7 @@ happens5 = record {
   issue_is_last_of_request = ((tt, λ id h i. false≢true i), λ id h i. false≢true i);
   answers_are_lawful = tt;
   ports_are_well_formed = fit Ready Ready refl refl;
-  unanswered_keep_disk = λ e o h i same. (refl, refl);
+  unanswered_keep_serial_and_size = λ e o h i same. (refl, refl);
   result_matches_steps = (((tt, tt), tt), λ p. (refl, refl, refl, refl, refl, refl));
 }
 
@@ -275,7 +275,7 @@ happens6 = record {
   issue_is_last_of_request = (tt, λ id h i. false≢true i);
   answers_are_lawful = tt;
   ports_are_well_formed = fit Ready Ready refl refl;
-  unanswered_keep_disk = λ e o h i same. (refl, refl);
+  unanswered_keep_serial_and_size = λ e o h i same. (refl, refl);
   result_matches_steps = ((tt, tt), λ p. (refl, refl, refl, refl, refl, refl));
 }
 
@@ -323,7 +323,7 @@ happens7 = record {
         ((tt, (fourth losing failing (tried 1) (done finished), tt)), (contains_there losing (failing ∷ tried 1 ∷ []) failing (contains_here failing (tried 1 ∷ []) failing refl), tt)),
         (second losing (tried 1), refl, omega arith, granted 0 row_zero refl),
       ),
-      (second losing (requeued (tried 1)), record { is_in_book = second (unanswered losing) (unanswered (requeued (tried 1))); nothing_blocks = refl; slot_is_left = λ _. omega arith }, λ e h. absurd (contains_none e h), granted 0 row_zero refl),
+      (second losing (requeued (tried 1)), record { is_in_book = second (unanswered losing) (unanswered (requeued (tried 1))); waits_and_nothing_blocks = refl; slot_is_left = λ _. omega arith }, λ e h. absurd (contains_none e h), granted 0 row_zero refl),
     ),
     (contains_here losing (tried 2 ∷ []) losing refl, tt),
   );
@@ -340,12 +340,12 @@ happens7 = record {
     (contains_here (on 1) [] (on 1) refl, second (on 0) (on 1)),
   );
   ports_are_well_formed = fit Ready Absent refl refl;
-  unanswered_keep_disk = λ e o h i same. (refl, refl);
+  unanswered_keep_serial_and_size = λ e o h i same. (refl, refl);
   result_matches_steps = record {
     replies_match = told_in_order;
     dead_ports_tell_only_port_dead = λ e o i dead. not_dead Ready Ready refl refl e.request.port dead;
     unplugged_empties_port = unplugs_all;
-    none_is_due = λ p _. none_waits _ refl p;
+    none_is_due_where_ready = λ p _. none_waits _ refl p;
     empty_unless_ready = λ p ne e h. emptied_at (both Ready Absent) (tried 2) refl p ne e h;
     answers_ended = λ p _. last_ended (abstract_after_all first run6).machine service.steps (losing ∷ failing ∷ tried 1 ∷ []) (done finished) refl refl (done finished) refl (4, omega arith, refl) p;
     port_is_serviced = λ p. (
@@ -353,8 +353,8 @@ happens7 = record {
       λ _. (
         record {
           served_is_unchanged = refl;
-          dead_is_stuck = (λ dead. not_dead Ready Absent refl refl p dead, λ h. absurd (contains_none p h));
-          disk_is_remembered = λ _. (refl, refl);
+          dead_exactly_if_stuck = (λ dead. not_dead Ready Absent refl refl p dead, λ h. absurd (contains_none p h));
+          disk_is_remembered_unless_ready = λ _. (refl, refl);
         },
         changed_there service.evidence (second (on 0) (on 1)) p,
       ),
@@ -377,17 +377,17 @@ before m n = record { machine = record m { book = tried n ∷ []; kept = [] }; p
 
 retried : (m : Machine) (n : ℕ) → m.rows ≡ two_rows → n < 4 → Happens (before m n) (retry n)
 retried m n rows few = record {
-  steps_are_enabled = ((tt, (contains_here (tried n) [] (tried n) refl, refl, few, granted 0 row_zero rows)), (contains_here (requeued (tried n)) [] (requeued (tried n)) refl, record { is_in_book = contains_here (unanswered (requeued (tried n))) [] (unanswered (requeued (tried n))) refl; nothing_blocks = refl; slot_is_left = λ _. omega arith }, λ e h. absurd (contains_none e h), granted 0 row_zero rows));
+  steps_are_enabled = ((tt, (contains_here (tried n) [] (tried n) refl, refl, few, granted 0 row_zero rows)), (contains_here (requeued (tried n)) [] (requeued (tried n)) refl, record { is_in_book = contains_here (unanswered (requeued (tried n))) [] (unanswered (requeued (tried n))) refl; waits_and_nothing_blocks = refl; slot_is_left = λ _. omega arith }, λ e h. absurd (contains_none e h), granted 0 row_zero rows));
   steps_are_of_call = ((tt, inr refl), inr (refl, refl));
   issue_is_last_of_request = ((tt, λ id h i. false≢true i), λ id h i. false≢true i);
   answers_are_lawful = (tt, contains_here (on 0) [] (on 0) refl);
   ports_are_well_formed = fit Ready Absent refl refl;
-  unanswered_keep_disk = λ e o h i same. (refl, refl);
+  unanswered_keep_serial_and_size = λ e o h i same. (refl, refl);
   result_matches_steps = record {
     replies_match = none_told (retry n).steps refl;
     dead_ports_tell_only_port_dead = λ e o i dead. not_dead Ready Absent refl refl e.request.port dead;
     unplugged_empties_port = none_unplugged (retry n).steps (abstract_after (before m n) (retry n)).machine refl;
-    none_is_due = λ p _. none_waits _ refl p;
+    none_is_due_where_ready = λ p _. none_waits _ refl p;
     empty_unless_ready = λ p ne e h. emptied_at (both Ready Absent) (tried (suc n)) refl p ne e h;
     answers_ended = λ p _. none_ended (before m n).machine (retry n).steps refl p;
     port_is_serviced = stays;
@@ -402,12 +402,12 @@ happens10 = record {
   issue_is_last_of_request = (tt, λ id h i. false≢true i);
   answers_are_lawful = (tt, (record { pending = tried 4; is_in_book = contains_here (tried 4) [] (tried 4) refl; id_is = refl; issued = refl }, refl, (refl, contains_here (on 0) [] (on 0) refl, (refl, refl))));
   ports_are_well_formed = fit Ready Absent refl refl;
-  unanswered_keep_disk = λ e o h i same. (refl, refl);
+  unanswered_keep_serial_and_size = λ e o h i same. (refl, refl);
   result_matches_steps = record {
     replies_match = one_told (tried 4) outcome.Aborted abort.steps refl (reply_of (tried 4, outcome.Aborted)) refl;
     dead_ports_tell_only_port_dead = λ e o i dead. not_dead Ready Absent refl refl e.request.port dead;
     unplugged_empties_port = none_unplugged abort.steps (abstract_after (abstract_after_all first run9) abort).machine refl;
-    none_is_due = λ p _. none_there p;
+    none_is_due_where_ready = λ p _. none_there p;
     empty_unless_ready = λ p ne e h. absurd (contains_none e h);
     answers_ended = λ p _. none_ended (abstract_after_all first run9).machine abort.steps refl p;
     port_is_serviced = stays;
@@ -415,7 +415,7 @@ happens10 = record {
   };
 }
 
-pub meets_trouble : ServiceAnswersAllErrors
+pub meets_trouble : ServiceHandlesTwoFailedPorts
 meets_trouble = record {
   initial_state = first;
   earlier_calls = run6;

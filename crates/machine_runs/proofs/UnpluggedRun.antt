@@ -63,13 +63,13 @@ ticked m n young = record {
   issue_is_last_of_request = (tt, λ id h i. false≢true i);
   answers_are_lawful = tt;
   ports_are_well_formed = ports_fit Ready refl;
-  unanswered_keep_disk = λ e o h i same. (refl, refl);
+  unanswered_keep_serial_and_size = λ e o h i same. (refl, refl);
   result_matches_steps = record {
     replies_match = none_told (Age aging ∷ []) refl;
     ages_once = ages_once [] refl;
     restarts_timed_out = ticks (before m n) (of_two (aged n) waits (λ e. e.age < 2) young (omega arith)) (abstract_after (before m n) (reset_run.tick [])) (λ p. (refl, refl, refl, refl, refl, refl));
     unplugged_empties_port = none_unplugged (Age aging ∷ []) (abstract_after (before m n) (reset_run.tick [])).machine refl;
-    none_is_due = λ p _. none_due p;
+    none_is_due_where_ready = λ p _. none_due p;
     was_ready_empty_unless_ready = λ p _. emptied_of (aged_pending aging (aged n) ∷ aged_pending aging waits ∷ []) (of_two (aged_pending aging (aged n)) (aged_pending aging waits) (λ e. e.request.port ≡ port) refl refl) p;
   };
 }
@@ -81,7 +81,7 @@ happens5 = record {
   issue_is_last_of_request = (tt, λ id h i. false≢true i);
   answers_are_lawful = tt;
   ports_are_well_formed = ports_fit Ready refl;
-  unanswered_keep_disk = λ e o h i same. (refl, refl);
+  unanswered_keep_serial_and_size = λ e o h i same. (refl, refl);
   result_matches_steps = ((tt, tt), λ p. (refl, refl, refl, refl, refl, refl));
 }
 
@@ -115,14 +115,14 @@ restarted : RestartsTimedOut (abstract_after_all first run5) gone tick.steps (ab
 restarted = record {
   each_port_is_same_or_restarts = restarts_into (abstract_after_all first run5).machine Absent gone hung (λ p. record {
     served_is_unchanged = refl;
-    dead_is_stuck = (λ dead. absent_not_dead p dead, λ h. absurd (contains_none p h));
-    disk_is_remembered = λ _. (refl, refl);
+    dead_exactly_if_stuck = (λ dead. absent_not_dead p dead, λ h. absurd (contains_none p h));
+    disk_is_remembered_unless_ready = λ _. (refl, refl);
   });
   only_timed_out_wait_again = λ e h. absurd (false≢true (sym (none_of is_again tick.steps (WaitAgain e) refl h)));
   only_timed_out_are_answered = λ e o h. subst (λ (x : Port). TimesOutAtTick (abstract_after_all first run5) x) (sym (each_step (λ step. port_of step ≡ port) refl refl refl (Answer e o) h)) hung;
   answers_ended = λ p _. none_ended (abstract_after_all first run5).machine tick.steps refl p;
   none_stays_issued = λ p _ e h. absurd (contains_none e h);
-  timed_out_iff_interrupted = λ p. (
+  timed_out_iff_stopped_or_stuck = λ p. (
     λ h. inl (contains_here port [] p (ready_port p h.ready)),
     λ i. ⊎_elim
         (λ h. subst (λ (x : Port). TimesOutAtTick (abstract_after_all first run5) x) (sym (only_port p h)) hung)
@@ -155,7 +155,7 @@ happens6 = record {
     (contains_here port [] port refl, contains_here port [] port refl),
   );
   ports_are_well_formed = ports_fit Absent refl;
-  unanswered_keep_disk = λ e o h i same. (refl, refl);
+  unanswered_keep_serial_and_size = λ e o h i same. (refl, refl);
   result_matches_steps = record {
     replies_match = told_in_order;
     ages_once = ages_once answers refl;
@@ -164,7 +164,7 @@ happens6 = record {
       none_is_left = λ e other h i. absurd (contains_none other i);
       none_is_told_dead = λ e other h i. absurd (false≢true (sym (none_of is_told_dead tick.steps (Answer other outcome.PortDead) refl i)));
     };
-    none_is_due = λ p ready. absent_not_ready p ready;
+    none_is_due_where_ready = λ p ready. absent_not_ready p ready;
     was_ready_empty_unless_ready = λ p _ ne e h. absurd (contains_none e h);
   };
 }

@@ -68,12 +68,12 @@ quiet1 = record { rows = refl; mine = row_zero; ready = refl; size = refl; room 
 
 pub happens1 : Happens (abstract_after_all first run0) event1
 happens1 = record {
-  steps_are_enabled = ((tt, new 0 (abstract_after_all first run0) write quiet0 (fit_write (abstract_after_all first run0) 100 quiet0 refl refl) refl refl refl), (contains_here (newly_accepted write) [] (newly_accepted write) refl, record { is_in_book = contains_here (unanswered (newly_accepted write)) [] (unanswered (newly_accepted write)) refl; nothing_blocks = refl; slot_is_left = λ _. omega arith }, λ e h. absurd (contains_none e h), granted 0 row_zero refl));
+  steps_are_enabled = ((tt, new 0 (abstract_after_all first run0) write quiet0 (fit_write (abstract_after_all first run0) 100 quiet0 refl refl) refl refl refl), (contains_here (newly_accepted write) [] (newly_accepted write) refl, record { is_in_book = contains_here (unanswered (newly_accepted write)) [] (unanswered (newly_accepted write)) refl; waits_and_nothing_blocks = refl; slot_is_left = λ _. omega arith }, λ e h. absurd (contains_none e h), granted 0 row_zero refl));
   steps_are_of_call = ((tt, inr refl), inr (refl, refl));
   issue_is_last_of_request = ((tt, λ id h i. false≢true i), λ id h i. false≢true i);
   answers_are_lawful = tt;
   ports_are_well_formed = ports_fit Ready refl;
-  unanswered_keep_disk = λ e o h i same. (refl, refl);
+  unanswered_keep_serial_and_size = λ e o h i same. (refl, refl);
   result_matches_steps = (acceptable 0 (admission_context_of (abstract_after_all first run0)) write.asked (fit_write (abstract_after_all first run0) 100 quiet0 refl refl), (write, refl, refl), λ p. (refl, refl, refl, refl, refl, refl), λ p _. one_issued (unanswered (newly_issued (newly_accepted write))) refl p);
 }
 
@@ -86,7 +86,7 @@ pub none_due : (p : Port) → NoneDue mode book p
 none_due p r here due = ⊎_elim
     (λ e. issued_not_due mode book r (ap (λ (x : Unanswered). x.issued) e) due)
     (λ i. ⊎_elim
-    (λ e. false≢true (ap (λ (x : Unanswered). is_unblocked mode book x) (sym e) ∙ due.nothing_blocks))
+    (λ e. false≢true (ap (λ (x : Unanswered). is_unblocked mode book x) (sym e) ∙ due.waits_and_nothing_blocks))
     (λ n. contains_none r n)
     (contains_cases (unanswered (newly_accepted read)) [] r i))
     (contains_cases (unanswered (newly_issued (newly_accepted write))) (unanswered (newly_accepted read) ∷ []) r due.is_in_book)
@@ -98,7 +98,7 @@ happens2 = record {
   issue_is_last_of_request = (tt, λ id h i. false≢true i);
   answers_are_lawful = tt;
   ports_are_well_formed = ports_fit Ready refl;
-  unanswered_keep_disk = λ e o h i same. (refl, refl);
+  unanswered_keep_serial_and_size = λ e o h i same. (refl, refl);
   result_matches_steps = (acceptable 0 (admission_context_of (abstract_after_all first run1)) read.asked (fit_read 0 (abstract_after_all first run1) 101 quiet1 refl refl), (read, refl, refl), λ p. (refl, refl, refl, refl, refl, refl), λ p _. none_due p);
 }
 
@@ -112,13 +112,13 @@ happens3 = record {
       ),
       (contains_here (done write) (newly_accepted read ∷ []) (done write) refl, tt),
     ),
-    (contains_here (newly_accepted read) [] (newly_accepted read) refl, record { is_in_book = contains_here (unanswered (newly_accepted read)) [] (unanswered (newly_accepted read)) refl; nothing_blocks = refl; slot_is_left = λ _. omega arith }, λ e h. absurd (contains_none e h), granted 0 row_zero refl),
+    (contains_here (newly_accepted read) [] (newly_accepted read) refl, record { is_in_book = contains_here (unanswered (newly_accepted read)) [] (unanswered (newly_accepted read)) refl; waits_and_nothing_blocks = refl; slot_is_left = λ _. omega arith }, λ e h. absurd (contains_none e h), granted 0 row_zero refl),
   );
   steps_are_of_call = ((((tt, inl tt), inl tt), inr tt), inr (refl, refl));
   issue_is_last_of_request = ((((tt, λ id h i. false≢true i), λ id h i. false≢true i), λ id h i. false≢true i), λ id h i. false≢true i);
   answers_are_lawful = (tt, (record { pending = newly_issued (newly_accepted write); is_in_book = contains_here (newly_issued (newly_accepted write)) (newly_accepted read ∷ []) (newly_issued (newly_accepted write)) refl; id_is = refl; issued = refl }, refl, one_touched, refl));
   ports_are_well_formed = ports_fit Ready refl;
-  unanswered_keep_disk = λ e o h i same. (refl, refl);
+  unanswered_keep_serial_and_size = λ e o h i same. (refl, refl);
   result_matches_steps = plain_service (abstract_after_all first run2).machine (abstract_after_all first run3).machine event3.steps (reply 1 ∷ []) (one_told (done write) outcome.Ok event3.steps refl (reply 1) refl) refl (none_ended (abstract_after_all first run2).machine event3.steps refl) (λ p. one_issued (unanswered (newly_issued (newly_accepted read))) refl p) (only_one (newly_issued (newly_accepted read)) (λ e. e.request.port ≡ port) refl);
 }
 
@@ -129,7 +129,7 @@ happens4 = record {
   issue_is_last_of_request = ((tt, λ id h i. false≢true i), λ id h i. false≢true i);
   answers_are_lawful = tt;
   ports_are_well_formed = ports_fit Ready refl;
-  unanswered_keep_disk = λ e o h i same. (refl, refl);
+  unanswered_keep_serial_and_size = λ e o h i same. (refl, refl);
   result_matches_steps = (((tt, tt), tt), λ p. (refl, refl, refl, refl, refl, refl));
 }
 
@@ -140,7 +140,7 @@ happens5 = record {
   issue_is_last_of_request = (tt, λ id h i. false≢true i);
   answers_are_lawful = (tt, (record { pending = done read; is_in_book = contains_here (done read) [] (done read) refl; id_is = refl; issued = refl }, refl, one_touched, refl));
   ports_are_well_formed = ports_fit Ready refl;
-  unanswered_keep_disk = λ e o h i same. (refl, refl);
+  unanswered_keep_serial_and_size = λ e o h i same. (refl, refl);
   result_matches_steps = plain_service (abstract_after_all first run4).machine (abstract_after_all first run5).machine event5.steps (reply 2 ∷ []) (one_told (done read) outcome.Ok event5.steps refl (reply 2) refl) refl (last_ended (abstract_after_all first run4).machine event5.steps [] (done read) refl refl (done read) refl (0, omega arith, refl)) (λ p. none_there p) (λ e h. absurd (contains_none e h));
 }
 

@@ -160,18 +160,18 @@ happens1 = record {
   issue_is_last_of_request = (tt, λ id h i. false≢true i);
   answers_are_lawful = tt;
   ports_are_well_formed = ports_fit Ready refl;
-  unanswered_keep_disk = λ e o h i same. (refl, refl);
+  unanswered_keep_serial_and_size = λ e o h i same. (refl, refl);
   result_matches_steps = (λ p. (refl, refl, refl, refl, refl, refl), is_open (abstract_after_all first run0).machine 100 0 1 refl refl (omega arith), refl);
 }
 
 happens2 : Happens (abstract_after_all first run1) event2
 happens2 = record {
-  steps_are_enabled = ((tt, new 0 (abstract_after_all first run1) write quiet1 (fit_write (abstract_after_all first run1) 100 quiet1 refl refl) refl refl refl), (contains_here (newly_accepted write) [] (newly_accepted write) refl, record { is_in_book = contains_here (unanswered (newly_accepted write)) [] (unanswered (newly_accepted write)) refl; nothing_blocks = refl; slot_is_left = λ _. omega arith }, λ e h. absurd (contains_none e h), granted 0 row_zero refl));
+  steps_are_enabled = ((tt, new 0 (abstract_after_all first run1) write quiet1 (fit_write (abstract_after_all first run1) 100 quiet1 refl refl) refl refl refl), (contains_here (newly_accepted write) [] (newly_accepted write) refl, record { is_in_book = contains_here (unanswered (newly_accepted write)) [] (unanswered (newly_accepted write)) refl; waits_and_nothing_blocks = refl; slot_is_left = λ _. omega arith }, λ e h. absurd (contains_none e h), granted 0 row_zero refl));
   steps_are_of_call = ((tt, inr refl), inr (refl, refl));
   issue_is_last_of_request = ((tt, λ id h i. false≢true i), λ id h i. false≢true i);
   answers_are_lawful = tt;
   ports_are_well_formed = ports_fit Ready refl;
-  unanswered_keep_disk = λ e o h i same. (refl, refl);
+  unanswered_keep_serial_and_size = λ e o h i same. (refl, refl);
   result_matches_steps = (acceptable 0 (admission_context_of (abstract_after_all first run1)) write.asked (fit_write (abstract_after_all first run1) 100 quiet1 refl refl), (write, refl, refl), λ p. (refl, refl, refl, refl, refl, refl), λ p _. one_issued (unanswered (newly_issued (newly_accepted write))) refl p);
 }
 
@@ -182,18 +182,18 @@ happens3 = record {
   issue_is_last_of_request = (((tt, λ id h i. false≢true i), λ id h i. false≢true i), λ id h i. false≢true i);
   answers_are_lawful = (tt, (record { pending = newly_issued (newly_accepted write); is_in_book = contains_here (newly_issued (newly_accepted write)) [] (newly_issued (newly_accepted write)) refl; id_is = refl; issued = refl }, refl, one_touched, refl));
   ports_are_well_formed = ports_fit Ready refl;
-  unanswered_keep_disk = λ e o h i same. (refl, refl);
+  unanswered_keep_serial_and_size = λ e o h i same. (refl, refl);
   result_matches_steps = plain_service (abstract_after_all first run2).machine (abstract_after_all first run3).machine event3.steps (reply 1 ∷ []) (one_told (done write) outcome.Ok event3.steps refl (reply 1) refl) refl (none_ended (abstract_after_all first run2).machine event3.steps refl) (λ p. none_there p) (λ e h. absurd (contains_none e h));
 }
 
 happens4 : Happens (abstract_after_all first run3) event4
 happens4 = record {
-  steps_are_enabled = ((tt, new 0 (abstract_after_all first run3) flush quiet3 (fit_flush (abstract_after_all first run3) quiet3) refl refl refl), (contains_here (newly_accepted flush) [] (newly_accepted flush) refl, record { is_in_book = contains_here (unanswered (newly_accepted flush)) [] (unanswered (newly_accepted flush)) refl; nothing_blocks = refl; slot_is_left = λ _. omega arith }, λ e h. absurd (contains_none e h), granted 0 row_zero refl));
+  steps_are_enabled = ((tt, new 0 (abstract_after_all first run3) flush quiet3 (fit_flush (abstract_after_all first run3) quiet3) refl refl refl), (contains_here (newly_accepted flush) [] (newly_accepted flush) refl, record { is_in_book = contains_here (unanswered (newly_accepted flush)) [] (unanswered (newly_accepted flush)) refl; waits_and_nothing_blocks = refl; slot_is_left = λ _. omega arith }, λ e h. absurd (contains_none e h), granted 0 row_zero refl));
   steps_are_of_call = ((tt, inr refl), inr (refl, refl));
   issue_is_last_of_request = ((tt, λ id h i. false≢true i), λ id h i. false≢true i);
   answers_are_lawful = tt;
   ports_are_well_formed = ports_fit Ready refl;
-  unanswered_keep_disk = λ e o h i same. (refl, refl);
+  unanswered_keep_serial_and_size = λ e o h i same. (refl, refl);
   result_matches_steps = (acceptable 0 (admission_context_of (abstract_after_all first run3)) flush.asked (fit_flush (abstract_after_all first run3) quiet3), (flush, refl, refl), λ p. (refl, refl, refl, refl, refl, refl), λ p _. one_issued (unanswered (newly_issued (newly_accepted flush))) refl p);
 }
 
@@ -204,7 +204,7 @@ happens5 = record {
   issue_is_last_of_request = ((tt, λ id h i. false≢true i), λ id h i. false≢true i);
   answers_are_lawful = (tt, (record { pending = newly_issued (newly_accepted flush); is_in_book = contains_here (newly_issued (newly_accepted flush)) [] (newly_issued (newly_accepted flush)) refl; id_is = refl; issued = refl }, refl, (λ k lt. absurd (omega (arith, lt))), refl));
   ports_are_well_formed = ports_fit Ready refl;
-  unanswered_keep_disk = λ e o h i same. (refl, refl);
+  unanswered_keep_serial_and_size = λ e o h i same. (refl, refl);
   result_matches_steps = plain_service (abstract_after_all first run4).machine (abstract_after_all first run5).machine event5.steps (reply 2 ∷ []) (one_told (mark_ended (newly_issued (newly_accepted flush))) outcome.Ok event5.steps refl (reply 2) refl) refl (none_ended (abstract_after_all first run4).machine event5.steps refl) (λ p. none_there p) (λ e h. absurd (contains_none e h));
 }
 
@@ -215,18 +215,18 @@ happens6 = record {
   issue_is_last_of_request = (tt, λ id h i. false≢true i);
   answers_are_lawful = tt;
   ports_are_well_formed = ports_fit Ready refl;
-  unanswered_keep_disk = λ e o h i same. (refl, refl);
+  unanswered_keep_serial_and_size = λ e o h i same. (refl, refl);
   result_matches_steps = (λ p. (refl, refl, refl, refl, refl, refl), is_open (abstract_after_all first run5).machine 100 0 1 refl refl (omega arith), refl);
 }
 
 happens7 : Happens (abstract_after_all first run6) event7
 happens7 = record {
-  steps_are_enabled = ((tt, new 0 (abstract_after_all first run6) later quiet6 (fit_write (abstract_after_all first run6) 100 quiet6 refl refl) refl refl refl), (contains_here (newly_accepted later) [] (newly_accepted later) refl, record { is_in_book = contains_here (unanswered (newly_accepted later)) [] (unanswered (newly_accepted later)) refl; nothing_blocks = refl; slot_is_left = λ _. omega arith }, λ e h. absurd (contains_none e h), granted 0 row_zero refl));
+  steps_are_enabled = ((tt, new 0 (abstract_after_all first run6) later quiet6 (fit_write (abstract_after_all first run6) 100 quiet6 refl refl) refl refl refl), (contains_here (newly_accepted later) [] (newly_accepted later) refl, record { is_in_book = contains_here (unanswered (newly_accepted later)) [] (unanswered (newly_accepted later)) refl; waits_and_nothing_blocks = refl; slot_is_left = λ _. omega arith }, λ e h. absurd (contains_none e h), granted 0 row_zero refl));
   steps_are_of_call = ((tt, inr refl), inr (refl, refl));
   issue_is_last_of_request = ((tt, λ id h i. false≢true i), λ id h i. false≢true i);
   answers_are_lawful = tt;
   ports_are_well_formed = ports_fit Ready refl;
-  unanswered_keep_disk = λ e o h i same. (refl, refl);
+  unanswered_keep_serial_and_size = λ e o h i same. (refl, refl);
   result_matches_steps = (acceptable 0 (admission_context_of (abstract_after_all first run6)) later.asked (fit_write (abstract_after_all first run6) 100 quiet6 refl refl), (later, refl, refl), λ p. (refl, refl, refl, refl, refl, refl), λ p _. one_issued (unanswered (newly_issued (newly_accepted later))) refl p);
 }
 
@@ -237,7 +237,7 @@ happens8 = record {
   issue_is_last_of_request = (((tt, λ id h i. false≢true i), λ id h i. false≢true i), λ id h i. false≢true i);
   answers_are_lawful = (tt, (record { pending = newly_issued (newly_accepted later); is_in_book = contains_here (newly_issued (newly_accepted later)) [] (newly_issued (newly_accepted later)) refl; id_is = refl; issued = refl }, refl, one_touched, refl));
   ports_are_well_formed = ports_fit Ready refl;
-  unanswered_keep_disk = λ e o h i same. (refl, refl);
+  unanswered_keep_serial_and_size = λ e o h i same. (refl, refl);
   result_matches_steps = plain_service (abstract_after_all first run7).machine (abstract_after_all first run8).machine event8.steps (reply 3 ∷ []) (one_told (done later) outcome.Ok event8.steps refl (reply 3) refl) refl (none_ended (abstract_after_all first run7).machine event8.steps refl) (λ p. none_there p) (λ e h. absurd (contains_none e h));
 }
 
@@ -248,7 +248,7 @@ happens9 = record {
   issue_is_last_of_request = (tt, λ id h i. false≢true i);
   answers_are_lawful = tt;
   ports_are_well_formed = ports_fit Ready refl;
-  unanswered_keep_disk = λ e o h i same. (refl, refl);
+  unanswered_keep_serial_and_size = λ e o h i same. (refl, refl);
   result_matches_steps = ((tt, tt), λ p. (refl, refl, refl, refl, refl, refl));
 }
 
@@ -260,15 +260,15 @@ happens10 = record {
   issue_is_last_of_request = tt;
   answers_are_lawful = tt;
   ports_are_well_formed = ports_fit Absent refl;
-  unanswered_keep_disk = λ e o h i same. (refl, refl);
+  unanswered_keep_serial_and_size = λ e o h i same. (refl, refl);
   result_matches_steps = record {
     replies_match = none_told [] refl;
     dead_ports_tell_only_port_dead = λ e o i dead. none_dead e.request.port dead;
     unplugged_empties_port = none_unplugged [] (abstract_after_all first run10).machine refl;
-    none_is_due = λ p _. none_there p;
+    none_is_due_where_ready = λ p _. none_there p;
     empty_unless_ready = λ p ne e h. absurd (contains_none e h);
     answers_ended = λ p _. none_ended (abstract_after_all first run9).machine [] refl p;
-    port_is_serviced = λ p. (λ dead. none_dead p dead, λ _. (record { served_is_unchanged = refl; dead_is_stuck = (λ dead. absent_not_dead p dead, λ h. absurd (contains_none p h)); disk_is_remembered = λ _. (refl, refl) }, changed_here Ready Absent gone (inl (contains_here port [] port refl)) p));
+    port_is_serviced = λ p. (λ dead. none_dead p dead, λ _. (record { served_is_unchanged = refl; dead_exactly_if_stuck = (λ dead. absent_not_dead p dead, λ h. absurd (contains_none p h)); disk_is_remembered_unless_ready = λ _. (refl, refl) }, changed_here Ready Absent gone (inl (contains_here port [] port refl)) p));
     shown_disk_was_in_or_came = λ p. inr (λ shows. shows_none Absent (λ s. s) p shows);
   };
 }
@@ -280,7 +280,7 @@ happens11 disk = record {
   issue_is_last_of_request = (tt, λ id h i. false≢true i);
   answers_are_lawful = tt;
   ports_are_well_formed = ports_fit Absent refl;
-  unanswered_keep_disk = λ e o h i same. (refl, refl);
+  unanswered_keep_serial_and_size = λ e o h i same. (refl, refl);
   result_matches_steps = ((tt, tt), λ p. (refl, refl, refl, refl, refl, refl));
 }
 
@@ -302,27 +302,27 @@ happens12 disk = record {
   issue_is_last_of_request = tt;
   answers_are_lawful = tt;
   ports_are_well_formed = ports_fit Ready refl;
-  unanswered_keep_disk = λ e o h i same. absurd (contains_none e h);
+  unanswered_keep_serial_and_size = λ e o h i same. absurd (contains_none e h);
   result_matches_steps = record {
     replies_match = none_told [] refl;
     dead_ports_tell_only_port_dead = λ e o i dead. absent_not_dead e.request.port dead;
     unplugged_empties_port = none_unplugged [] (abstract_after_all first (run12 disk)).machine refl;
-    none_is_due = λ p _. none_there p;
+    none_is_due_where_ready = λ p _. none_there p;
     empty_unless_ready = λ p ne e h. absurd (contains_none e h);
     answers_ended = λ p _. none_ended (abstract_after_all first (run11 disk)).machine [] refl p;
-    port_is_serviced = λ p. (λ dead. absent_not_dead p dead, λ _. (record { served_is_unchanged = refl; dead_is_stuck = (λ dead. none_dead p dead, λ h. absurd (contains_none p h)); disk_is_remembered = λ _. (refl, refl) }, changed_here Absent Ready booting (inl (contains_here port [] port refl)) p));
+    port_is_serviced = λ p. (λ dead. absent_not_dead p dead, λ _. (record { served_is_unchanged = refl; dead_exactly_if_stuck = (λ dead. none_dead p dead, λ h. absurd (contains_none p h)); disk_is_remembered_unless_ready = λ _. (refl, refl) }, changed_here Absent Ready booting (inl (contains_here port [] port refl)) p));
     shown_disk_was_in_or_came = λ p. inr (λ shows. inl (present p (shows_ready p shows)));
   };
 }
 
 happens13 : (disk : DiskBytes) → Happens (abstract_after_all first (run12 disk)) (event13 disk)
 happens13 disk = record {
-  steps_are_enabled = ((tt, new 0 (abstract_after_all first (run12 disk)) (read disk) (quiet12 disk) (fit_read 0 (abstract_after_all first (run12 disk)) 101 (quiet12 disk) refl refl) refl refl refl), (contains_here (newly_accepted (read disk)) [] (newly_accepted (read disk)) refl, record { is_in_book = contains_here (unanswered (newly_accepted (read disk))) [] (unanswered (newly_accepted (read disk))) refl; nothing_blocks = refl; slot_is_left = λ _. omega arith }, λ e h. absurd (contains_none e h), granted 0 row_zero refl));
+  steps_are_enabled = ((tt, new 0 (abstract_after_all first (run12 disk)) (read disk) (quiet12 disk) (fit_read 0 (abstract_after_all first (run12 disk)) 101 (quiet12 disk) refl refl) refl refl refl), (contains_here (newly_accepted (read disk)) [] (newly_accepted (read disk)) refl, record { is_in_book = contains_here (unanswered (newly_accepted (read disk))) [] (unanswered (newly_accepted (read disk))) refl; waits_and_nothing_blocks = refl; slot_is_left = λ _. omega arith }, λ e h. absurd (contains_none e h), granted 0 row_zero refl));
   steps_are_of_call = ((tt, inr refl), inr (refl, refl));
   issue_is_last_of_request = ((tt, λ id h i. false≢true i), λ id h i. false≢true i);
   answers_are_lawful = tt;
   ports_are_well_formed = ports_fit Ready refl;
-  unanswered_keep_disk = λ e o h i same. (refl, refl);
+  unanswered_keep_serial_and_size = λ e o h i same. (refl, refl);
   result_matches_steps = (acceptable 0 (admission_context_of (abstract_after_all first (run12 disk))) (read disk).asked (fit_read 0 (abstract_after_all first (run12 disk)) 101 (quiet12 disk) refl refl), (read disk, refl, refl), λ p. (refl, refl, refl, refl, refl, refl), λ p _. one_issued (unanswered (newly_issued (newly_accepted (read disk)))) refl p);
 }
 
@@ -333,7 +333,7 @@ happens14 disk = record {
   issue_is_last_of_request = (((tt, λ id h i. false≢true i), λ id h i. false≢true i), λ id h i. false≢true i);
   answers_are_lawful = (tt, (record { pending = newly_issued (newly_accepted (read disk)); is_in_book = contains_here (newly_issued (newly_accepted (read disk))) [] (newly_issued (newly_accepted (read disk))) refl; id_is = refl; issued = refl }, refl, one_touched, refl));
   ports_are_well_formed = ports_fit Ready refl;
-  unanswered_keep_disk = λ e o h i same. (refl, refl);
+  unanswered_keep_serial_and_size = λ e o h i same. (refl, refl);
   result_matches_steps = plain_service (abstract_after_all first (run13 disk)).machine (abstract_after_all first (run14 disk)).machine (event14 disk).steps (reply 4 ∷ []) (one_told (done (read disk)) outcome.Ok (event14 disk).steps refl (reply 4) refl) refl (none_ended (abstract_after_all first (run13 disk)).machine (event14 disk).steps refl) (λ p. none_there p) (λ e h. absurd (contains_none e h));
 }
 
@@ -347,7 +347,7 @@ happens15 disk = record {
   issue_is_last_of_request = (tt, λ id h i. false≢true i);
   answers_are_lawful = tt;
   ports_are_well_formed = ports_fit Ready refl;
-  unanswered_keep_disk = λ e o h i same. (refl, refl);
+  unanswered_keep_serial_and_size = λ e o h i same. (refl, refl);
   result_matches_steps = (λ p. (refl, refl, refl, refl, refl, refl), is_open (abstract_after_all first (run14 disk)).machine 101 0 1 refl refl (omega arith), refl);
 }
 

@@ -10,13 +10,13 @@ use Rattle.block_machine.specs.Confinement.{WasAccepted}
 use Rattle.block_machine.specs.Events.{CallRecord, AbstractState, Submit, Submitted, IsIssuedIn, issues_id, abstract_after_all, steps_of}
 
 -- the call is a submit that asked for the request, and was told its id
-abbrev pub AsksFor : {D : Type 0} → Accepted → CallRecord D → Type 0
-AsksFor r event = (event.call ≡ Submit r.asked) × (event.result ≡ Submitted (Ok r.id))
+abbrev pub SubmitsAndIsAccepted : {D : Type 0} → Accepted → CallRecord D → Type 0
+SubmitsAndIsAccepted r event = (event.call ≡ Submit r.asked) × (event.result ≡ Submitted (Ok r.id))
 
 -- a call of the run is
-abbrev pub WasAsked : {D : Type 0} → Accepted → List (CallRecord D) → Type 0
-WasAsked r [] = ⊥
-WasAsked r (event ∷ past) = AsksFor r event ⊎ WasAsked r past
+abbrev pub WasSubmittedAndAccepted : {D : Type 0} → Accepted → List (CallRecord D) → Type 0
+WasSubmittedAndAccepted r [] = ⊥
+WasSubmittedAndAccepted r (event ∷ past) = SubmitsAndIsAccepted r event ⊎ WasSubmittedAndAccepted r past
 
 -- the step has the request of this id wait again
 abbrev pub requeues_id : RequestId → Step → Bool

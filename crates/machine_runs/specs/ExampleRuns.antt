@@ -120,7 +120,7 @@ pub record WaitsItsTurn : Type 0 where
 -- In a run of calls three ticks go by after a request was issued, and the third issues it again. A reset is then stuck,
 -- and a service answers the request PortDead: it is kept, and its frame stays lent. A reset that ends gives the frame
 -- back.
-pub record QuarantineEndsWithReset : Type 0 where
+pub record ResetReleasesFrameOfDeadPort : Type 0 where
   pub initial_state : AbstractState
   pub earlier_calls : List (CallRecord (Unit {0}))
   pub first_call : CallRecord (Unit {0})
@@ -164,7 +164,7 @@ pub record QuarantineEndsWithReset : Type 0 where
 -- first port's disk is taken out. One service then answers the first port's request Unplugged, and, since the other
 -- port failed too, answers what had ended there Ok, tells the fault of one request, and issues the last anew. That
 -- fails with its port each time, and is aborted after its fourth issue.
-pub record ServiceAnswersAllErrors : Type 0 where
+pub record ServiceHandlesTwoFailedPorts : Type 0 where
   pub initial_state : AbstractState
   pub earlier_calls : List (CallRecord (Unit {0}))
   pub service : CallRecord (Unit {0})
@@ -224,7 +224,7 @@ pub record TickAnswersEnded : Type 0 where
   pub ended : Pending
   pub request_is_same : ended.request ≡ aged.request
   pub book : (abstract_after_all initial_state (ending ∷ early)).machine.book ≡ ended ∷ []
-  pub is_ended : (ended.ended ≡ true) × (ended.age ≡ 2)
+  pub is_ended_at_age_two : (ended.ended ≡ true) × (ended.age ≡ 2)
   pub ticks : tick.call ≡ Tick
   pub answers : tick.result ≡ Replied (reply_of (ended, Ok) ∷ [])
   pub book_becomes_empty : (abstract_after_all initial_state (tick ∷ ending ∷ early)).machine.book ≡ []

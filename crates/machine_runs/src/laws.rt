@@ -6,7 +6,7 @@ ghost use Rattle.std.specs.Prelude.{◌≡◌, ◌≢◌, ◌⊎◌, ◌+◌, �
 ghost use Rattle.ata_types.specs.{declared.Port.{Port}, declared.PortState.TheVariants.{Ready, Dead}, declared.request.Frame.{Frame}, declared.request.RequestId.{RequestId}, declared.request.Op.TheVariants.{Flush}, declared.request.Outcome.{Outcome}, declared.request.Outcome.TheVariants.{Ok, Aborted}, declared.request.Reply.{Reply}, declared.grant.GrantRow.{GrantRow}};
 ghost use Rattle.block_machine.specs.{DueRequests.{are_conflicting}, State.{Block, Accepted, Pending, Machine, sector_of, newly_unanswered}, Steps.{Step, Answer, HasGrant, after_step, HoldsFrames, MayStillMove}, Expected.{IsInitial, IsLegal, HasTouched, HasTouchedSinceIssue, HasEndedSinceIssue, IsExpectedBlock, after, bytes_when_plugged, disk_number_read}, Confinement.{GrantsNoWriteOrTrim, WasAccepted, MayChangeByte, MayChangeSector}};
 ghost use Rattle.block_machine.specs.Events.{AbstractState, CallRecord, NoneDueWhereReady, Happens, EveryReadHoldsExpected, IsLawfulAnswer, IsRun, IsStillStuck, accepts_id, answers_id, issues_id, gives_id, replies_of, all_replies, WasGivenId, abstract_after_all, steps_of};
-ghost use Rattle.machine_runs.specs.{AnswerOrigins.{AsksFor, WasUnansweredBefore, CallAnswersOk, WasAsked, requeues_id}, RevocationRuns.{RevokesWhileIssued}, ExampleRuns.{FindsFlushedOrLater, WaitsItsTurn, QuarantineEndsWithReset, ServiceAnswersAllErrors, TickAnswersEnded, TickFindsUnplugged, ResetsReissueThenAbort, ServiceEndsPortDead, ReadsWrongWithoutKeptRule}};
+ghost use Rattle.machine_runs.specs.{AnswerOrigins.{SubmitsAndIsAccepted, WasUnansweredBefore, CallAnswersOk, WasSubmittedAndAccepted, requeues_id}, RevocationRuns.{RevokesWhileIssued}, ExampleRuns.{FindsFlushedOrLater, WaitsItsTurn, ResetReleasesFrameOfDeadPort, ServiceHandlesTwoFailedPorts, TickAnswersEnded, TickFindsUnplugged, ResetsReissueThenAbort, ServiceEndsPortDead, ReadsWrongWithoutKeptRule}};
 
 /// Where no grant lets its client write or trim, what is left on a sector for a read is what the disk that it found
 /// there held when it was put in.
@@ -28,7 +28,7 @@ pub fn law_expected_is_unique()
 
 /// What is left for a read that was answered stays what it is: no write or trim accepted before it touches the sector
 /// any more, however long the run goes on.
-pub fn law_expected_is_stable()
+pub fn law_expected_stays_once_read_is_answered()
     ensures { (start : Machine) (history : List Step) (step : Step) (read : Accepted)
         (sector disk : ℕ) (block : Block)
         → IsInitial start → IsLegal start (step ∷ history) → HasTouched read sector disk history
@@ -38,7 +38,7 @@ pub fn law_expected_is_stable()
 
 /// A run exists in which ticks, a reset that is stuck, and one that ends do what they have to.
 pub fn law_a_reset_run_exists()
-    ensures { QuarantineEndsWithReset }
+    ensures { ResetReleasesFrameOfDeadPort }
 {}
 
 /// Where a run answers a request Ok, each of its sectors was touched, and since then the request wasn't issued again.
@@ -50,13 +50,13 @@ pub fn law_ok_was_touched<D>()
 {}
 
 /// Over every run an id is accepted once at most.
-pub fn law_accepted_once<D>()
+pub fn law_accepted_at_most_once<D>()
     ensures { (first : AbstractState) (run : List (CallRecord D)) (id : RequestId) → IsRun first run
         → count_by (accepts_id id) (steps_of run) ≤ 1 }
 {}
 
 /// Over every run a request is answered once at most.
-pub fn law_answered_once<D>()
+pub fn law_answered_at_most_once<D>()
     ensures { (first : AbstractState) (run : List (CallRecord D)) (id : RequestId) → IsRun first run
         → count_by (answers_id id) (steps_of run) ≤ 1 }
 {}
@@ -69,13 +69,13 @@ pub fn law_answered_was_accepted<D>()
 {}
 
 /// Over every run one submit at most gives an id.
-pub fn law_ids_are_given_once<D>()
+pub fn law_ids_are_given_at_most_once<D>()
     ensures { (first : AbstractState) (run : List (CallRecord D)) (id : RequestId) → IsRun first run
         → count_by (λ event. gives_id id event.result) run ≤ 1 }
 {}
 
 /// Over every run an id stands in one reply at most.
-pub fn law_replied_once<D>()
+pub fn law_replied_at_most_once<D>()
     ensures { (first : AbstractState) (run : List (CallRecord D)) (id : RequestId) → IsRun first run
         → count_by (λ reply. reply.id.0 == id.0) (all_replies run) ≤ 1 }
 {}
@@ -90,7 +90,7 @@ pub fn law_replied_was_given<D>()
 /// Each request that was accepted is one for which a submit of the run asked.
 pub fn law_accepted_was_asked<D>()
     ensures { (first : AbstractState) (run : List (CallRecord D)) (r : Accepted) → IsRun first run
-        → WasAccepted first.machine (steps_of run) r → WasAsked r run }
+        → WasAccepted first.machine (steps_of run) r → WasSubmittedAndAccepted r run }
 {}
 
 /// Each reply of a call is an answer of its steps, to a request for which an earlier submit of the run asked.
@@ -98,7 +98,7 @@ pub fn law_replied_was_asked<D>()
     ensures { (first : AbstractState) (past : List (CallRecord D)) (event : CallRecord D) (reply : Reply)
         → IsRun first (event ∷ past) → Contains (replies_of event.result) reply
         → (e : Pending) × Contains event.steps (Answer e reply.outcome) × (e.request.id ≡ reply.id)
-        × (e.request.asked.client ≡ reply.client) × WasAsked e.request past }
+        × (e.request.asked.client ≡ reply.client) × WasSubmittedAndAccepted e.request past }
 {}
 
 /// An unanswered request was there before the last call of a run, which issues it where it is issued, and wasn't
@@ -107,7 +107,7 @@ pub fn law_unanswered_was_there_or_asked<D>()
     ensures { (first : AbstractState) (past : List (CallRecord D)) (event : CallRecord D) (e : Pending)
         → IsRun first (event ∷ past) → Contains (abstract_after_all first (event ∷ past)).machine.book e
         → WasUnansweredBefore (abstract_after_all first past).machine event.steps e
-        ⊎ AsksFor e.request event }
+        ⊎ SubmitsAndIsAccepted e.request event }
 {}
 
 /// What a call of a run answers Ok was served before: it was accepted and issued, its sectors were touched, and it was
@@ -171,13 +171,13 @@ pub fn law_issues_are_counted()
 {}
 
 /// A call issues a request once at most.
-pub fn law_issued_once_a_call<D>()
+pub fn law_issued_at_most_once_a_call<D>()
     ensures { (old : AbstractState) (event : CallRecord D) (id : RequestId) → Happens old event
         → count_by (issues_id id) event.steps ≤ 1 }
 {}
 
 /// At each moment of a run no request of a ready port is due: calls that issue leave none, and no other makes one due.
-pub fn law_none_due_between_calls<D>()
+pub fn law_none_due_where_ready_between_calls<D>()
     ensures { (first : AbstractState) (run : List (CallRecord D)) → IsRun first run
         → NoneDueWhereReady (abstract_after_all first run) }
 {}
@@ -207,7 +207,7 @@ pub fn law_unanswered_sectors_are_on_disk<D>()
 {}
 
 /// At each moment of a run a kept request is on a dead port: so nothing that is due waits for kept requests.
-pub fn law_kept_where_dead<D>()
+pub fn law_kept_only_where_dead<D>()
     ensures { (first : AbstractState) (run : List (CallRecord D)) (e : Pending) → IsRun first run
         → Contains (abstract_after_all first run).machine.kept e
         → (abstract_after_all first run).ports.state e.request.port ≡ Dead }
@@ -272,7 +272,7 @@ pub fn law_a_revoking_run_exists()
 /// A run exists in which two ports serve requests, the one fails and the other loses its disk, and a fault, an
 /// unplugged request, one that is issued anew and one that is aborted are told as they have to be.
 pub fn law_a_run_with_errors_exists()
-    ensures { ServiceAnswersAllErrors }
+    ensures { ServiceHandlesTwoFailedPorts }
 {}
 
 /// A run exists in which a tick answers a request that had ended.

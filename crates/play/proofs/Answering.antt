@@ -7,13 +7,13 @@ use Rattle.ata_types.specs.declared.call.CallResult.{CallResult}
 use Rattle.ata_types.specs.declared.request.Reply.{Reply}
 use Rattle.adapter.specs.Device.{Device}
 use Rattle.adapter.specs.declared.access.DeviceStep.{DeviceStep}
-use Rattle.configuration.specs.Document.{TextReadsAs}
+use Rattle.configuration.specs.Document.{TextReadsAsValidConfig}
 use Rattle.configuration.specs.declared.Config.{Config}
 use Rattle.device_model.specs.ModelState.{device_at, is_starved}
 use Rattle.device_model.specs.declared.model.Model.{Model}
 use Rattle.block_server.specs.Promise.{Simulates}
 use Rattle.block_server.specs.ServerView.{ServerView}
-use Rattle.play.specs.PlayedScript.{Prints, prints_nothing, prints_call, IsServerOfModel, Played, RanFirstLines}
+use Rattle.play.specs.PlayedScript.{CallsAnswerAndPrint, prints_nothing, prints_call, IsNewServerOfNewModel, PlaysFirstLines, RanFirstLines}
 
 -- no call keeps the promise, nor do calls after others that keep it break it
 pub record GoOn {A : Type 0} (device : A → Device) : Type 0 where
@@ -22,7 +22,7 @@ pub record GoOn {A : Type 0} (device : A → Device) : Type 0 where
       → Simulates device mid new further more → Simulates device old new (calls ++ further) (said ++ more)
 
 pub all_keep : {A : Type 0} (device : A → Device) (starved : A → Bool) (trace : Bool) → GoOn device → (old new : ServerView A) (shown : ℕ) (calls : List (Call DeviceStep))
-    (said : List (CallResult (ArrayVec Reply))) (text last : List ℕ) → Prints device starved trace old new shown calls said text last → Simulates device old new calls said
+    (said : List (CallResult (ArrayVec Reply))) (text last : List ℕ) → CallsAnswerAndPrint device starved trace old new shown calls said text last → Simulates device old new calls said
 all_keep device starved trace laws old new shown calls said text last prints_nothing = laws.none old
 all_keep device starved trace laws old new shown all said text last (prints_call {mid = mid} {shown = before} {calls = calls} {asked = asked} {said = saying} {one = one} {before = printed} {last = latest} prints fed keeps) =
     laws.more old mid new calls (asked ∷ []) saying (one ∷ []) (all_keep device starved trace laws old mid before calls saying printed latest prints) keeps
@@ -35,9 +35,9 @@ both_tell (Some x) (Some y) a b = refl
 
 -- What a new server ran of a script was played.
 abbrev pub played_of : {S : Type 0} (size : S → ℕ) (told : S → Option (ℕ → List ℕ)) (config script : List ℕ) (image blank : S) (trace : Bool)
-    (old new : Option (List ℕ)) (values : Config) → TextReadsAs config values → (server last : ServerView (Model S))
-    → IsServerOfModel size told values image blank server → RanFirstLines (device_at size told) is_starved trace script server last old new
-    → GoOn (device_at size told) → (model : Model S) → model ≡ last.adapter → Played size told config script image blank trace old new model
+    (old new : Option (List ℕ)) (values : Config) → TextReadsAsValidConfig config values → (server last : ServerView (Model S))
+    → IsNewServerOfNewModel size told values image blank server → RanFirstLines (device_at size told) is_starved trace script server last old new
+    → GoOn (device_at size told) → (model : Model S) → model ≡ last.adapter → PlaysFirstLines size told config script image blank trace old new model
 played_of size told config script image blank trace old new values read server last started ran laws model left =
     let begun = started.is_initial_server.starts_history in
     record {

@@ -19,7 +19,7 @@ use Rattle.block_server.specs.Promise.{Simulates}
 use Rattle.block_server.specs.ServerView.{ServerView}
 use Rattle.script.specs.Script.{Asks, AskForCalls, no_lines, IsFirstLine, IsScript, LineLaws, SplitsAt, asked_calls, lines_of, lines_after}
 use Rattle.play.specs.PrintedText.{call_text}
-use Rattle.play.specs.PlayedScript.{Prints, prints_nothing, prints_call, PrintsPart, RanFirstLines, RanWholeScript}
+use Rattle.play.specs.PlayedScript.{CallsAnswerAndPrint, prints_nothing, prints_call, PrintsPart, RanFirstLines, RanWholeScript}
 
 pub appends_none : (known : Option (List ℕ)) → Appends known known []
 appends_none None = tt
@@ -62,7 +62,7 @@ module _ {A : Type 0} (device : A → Device) (starved : A → Bool) (trace : Bo
     pub said : List (CallResult (ArrayVec Reply))
     pub text : List ℕ
     pub last : List ℕ
-    pub prints : Prints device starved trace first now shown played said text last
+    pub prints : CallsAnswerAndPrint device starved trace first now shown played said text last
     pub printed : Appends before after (text ++ last)
 
   pub played_none : (left : Option (Bor (List ℕ))) (before : Option (List ℕ)) → all ≡ lines_after left → PlayedSoFar first 0 left before before

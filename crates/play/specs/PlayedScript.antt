@@ -11,7 +11,7 @@ use Rattle.block_machine.specs.Histories.{JointState}
 use Rattle.block_server.specs.InitialServer.{IsInitialServer}
 use Rattle.block_server.specs.Promise.{KeepsPromise, Simulates}
 use Rattle.block_server.specs.ServerView.{ServerView, server_of}
-use Rattle.configuration.specs.Document.{TextReadsAs, IsTextFault}
+use Rattle.configuration.specs.Document.{TextReadsAsValidConfig, IsLeastTextFault}
 use Rattle.configuration.specs.declared.Config.{Config}
 use Rattle.configuration.specs.declared.ConfigFault.{ConfigFault}
 use Rattle.configuration.specs.declared.ConfigFault.TheVariants as config
@@ -50,25 +50,26 @@ pub record SettingsMatchConfig (config : Config) (settings : ModelConfig) : Type
   pub cache : settings.cache ≡ config.cache
 
 -- The model is new and as the configuration says, with these disks.
-pub record IsModelWith {S : Type 0} (size : S → ℕ) (told : S → Option (ℕ → List ℕ)) (config : Config) (disks : Disks S)
+pub record IsNewModelWithDisks {S : Type 0} (size : S → ℕ) (told : S → Option (ℕ
+    → List ℕ)) (config : Config) (disks : Disks S)
     (m : Model S) : Type 0 where
   pub settings : ModelConfig
   pub settings_match_config : SettingsMatchConfig config settings
   pub is_new_model : IsNewModel size told settings disks m
 
 -- the image is disk 0 of port 0, which is in it, and the blank disk is its disk 1; no other port has disks
-abbrev pub IsModelOf : {S : Type 0} → (S → ℕ) → (S → Option (ℕ → List ℕ)) → Config → (image blank : S) → Model S
+abbrev pub IsNewModelOfImage : {S : Type 0} → (S → ℕ) → (S → Option (ℕ → List ℕ)) → Config → (image blank : S) → Model S
     → Type 0
-IsModelOf size told config image blank m = IsModelWith size told config (port_0_alone image blank) m
+IsNewModelOfImage size told config image blank m = IsNewModelWithDisks size told config (port_0_alone image blank) m
 
 -- ---- the calls
 
 -- a new server, of this configuration, and of such a model
-pub record IsServerOfModel {S : Type 0} (size : S → ℕ) (told : S → Option (ℕ → List ℕ)) (config : Config)
+pub record IsNewServerOfNewModel {S : Type 0} (size : S → ℕ) (told : S → Option (ℕ → List ℕ)) (config : Config)
     (image blank : S)
     (server : ServerView (Model S)) : Type 0 where
   pub model : Model S
-  pub is_model : IsModelOf size told config image blank model
+  pub is_model : IsNewModelOfImage size told config image blank model
   pub is_initial_server : IsInitialServer (device_at size told) config model server
 
 -- What these calls answered, from this server to that one, keeps the server's promise. The history begins where a new
@@ -78,7 +79,7 @@ pub record AnswersKeepPromise {S : Type 0} (size : S → ℕ) (told : S → Opti
     (image blank : S)
     (server last : ServerView (Model S)) (calls : List (Call DeviceStep))
     (said : List (CallResult (ArrayVec Reply))) : Type 0 where
-  pub is_server_of_model : IsServerOfModel size told config image blank server
+  pub is_server_of_model : IsNewServerOfNewModel size told config image blank server
   pub initial_state : JointState Device
   pub history_begins : LeadsToServer initial_state [] (server_of (device_at size told) server)
   pub told_disks_are_told : IsSome (told image) → IsSome (told blank) → initial_state.device.telling ≡ true
@@ -87,15 +88,16 @@ pub record AnswersKeepPromise {S : Type 0} (size : S → ℕ) (told : S → Opti
 -- These calls lead from the old server to the new one, say this in turn, and keep the server's promise each; none is
 -- made of an adapter that is starved. The text of the last call stands by itself, after that of those before it; where
 -- there is none, both are empty. So many entries of the tape count as shown then: all, once a call was made.
-pub data Prints {A : Type 0} (device : A → Device) (starved : A → Bool) (trace : Bool) (old : ServerView A)
+pub data CallsAnswerAndPrint {A : Type 0} (device : A → Device) (starved : A → Bool) (trace : Bool) (old : ServerView A)
     : ServerView A → ℕ → List (Call DeviceStep) → List (CallResult (ArrayVec Reply)) → List ℕ → List ℕ → Type 0 where
-  prints_nothing : Prints device starved trace old old 0 [] [] [] []
+  prints_nothing : CallsAnswerAndPrint device starved trace old old 0 [] [] [] []
   prints_call : {mid new : ServerView A} {shown : ℕ} {calls : List (Call DeviceStep)} {asked : Call DeviceStep}
       {said : List (CallResult (ArrayVec Reply))} {one : CallResult (ArrayVec Reply)}
       {before last : List ℕ}
-      → Prints device starved trace old mid shown calls said before last → starved mid.adapter ≡ false
+      → CallsAnswerAndPrint device starved trace old mid shown calls said before last → starved mid.adapter ≡ false
       → Simulates device mid new (asked ∷ []) (one ∷ [])
-      → Prints device starved trace old new (length (device new.adapter).tape) (calls ++ asked ∷ []) (said ++ one ∷ [])
+      → CallsAnswerAndPrint device starved trace old new (length (device new.adapter).tape) (calls ++ asked ∷ [])
+      (said ++ one ∷ [])
       (before ++ last)
       (call_text trace shown (device new.adapter).tape one)
 
@@ -127,7 +129,7 @@ pub record RanFirstLines {A : Type 0} (device : A → Device) (starved : A → B
   pub call_results : List (CallResult (ArrayVec Reply))
   pub text : List ℕ
   pub last_text : List ℕ
-  pub prints : Prints device starved trace old new shown_entry_count played call_results text last_text
+  pub prints : CallsAnswerAndPrint device starved trace old new shown_entry_count played call_results text last_text
   pub part : ℕ
   pub text_is_printed : Appends before after (text ++ take part last_text)
   pub starved_prints_nothing : starved new.adapter ≡ true → part ≡ 0
@@ -145,11 +147,11 @@ pub record RanWholeScript {A : Type 0} {device : A → Device} {starved : A → 
 -- they print all was printed but for a part of the last one's. At first nothing of the tape counts as shown: so with a
 -- trace, what moved while the server was made stands before the first answer. What the last of these lines left the
 -- model as, the run gives back: so the disks are as it left them.
-pub record Played {S : Type 0} (size : S → ℕ) (told : S → Option (ℕ → List ℕ)) (config script : List ℕ)
+pub record PlaysFirstLines {S : Type 0} (size : S → ℕ) (told : S → Option (ℕ → List ℕ)) (config script : List ℕ)
     (image blank : S) (trace : Bool)
     (old new : Option (List ℕ)) (model : Model S) : Type 0 where
   pub values : Config
-  pub config_is_read : TextReadsAs config values
+  pub config_is_read : TextReadsAsValidConfig config values
   pub server : ServerView (Model S)
   pub last_server : ServerView (Model S)
   pub ran : RanFirstLines (device_at size told) is_starved trace script server last_server old new
@@ -173,15 +175,15 @@ ended_by_stop stop.Unwritten = Unwritten
 -- What is so where a run stopped at its last line, of whether the adapter is starved and how much of that line's text
 -- was printed: where want of memory is told, nothing was; where an output that failed is told, the adapter isn't
 -- starved.
-abbrev pub IsWhyItStopped : Bool → ℕ → PlayError → Type 0
-IsWhyItStopped starved part stop.NoMemory = part ≡ 0
-IsWhyItStopped starved part stop.Unwritten = starved ≡ false
+abbrev pub PlayErrorFitsPrintedPart : Bool → ℕ → PlayError → Type 0
+PlayErrorFitsPrintedPart starved part stop.NoMemory = part ≡ 0
+PlayErrorFitsPrintedPart starved part stop.Unwritten = starved ≡ false
 
 -- Why nothing is played: the configuration has a fault, or it has none and the script has a bad line, or memory was
 -- refused.
 abbrev pub IsWhyNothingIsPlayed : List ℕ → List ℕ → Ended → Type 0
-IsWhyNothingIsPlayed config script (BadConfig kind) = IsTextFault config kind
-IsWhyNothingIsPlayed config script (BadLine number) = (values : Config) × TextReadsAs config values
+IsWhyNothingIsPlayed config script (BadConfig kind) = IsLeastTextFault config kind
+IsWhyNothingIsPlayed config script (BadLine number) = (values : Config) × TextReadsAsValidConfig config values
     × IsFirstBadLine script number
 IsWhyNothingIsPlayed config script NoMemory = Unit {0}
 IsWhyNothingIsPlayed config script Done = ⊥
@@ -195,11 +197,11 @@ abbrev pub EndsPlay : {S : Type 0} → (S → ℕ) → (S → Option (ℕ → Li
     → Option (List ℕ)
     → Option (List ℕ) → Ended → Option (Model S) → Type 0
 EndsPlay size told config script image blank trace old new Done (Some model) =
-    (played : Played size told config script image blank trace old new model) × RanWholeScript played.ran
+    (played : PlaysFirstLines size told config script image blank trace old new model) × RanWholeScript played.ran
 EndsPlay size told config script image blank trace old new Unwritten (Some model) =
-    Played size told config script image blank trace old new model × (is_starved model ≡ false)
+    PlaysFirstLines size told config script image blank trace old new model × (is_starved model ≡ false)
 EndsPlay size told config script image blank trace old new NoMemory (Some model) =
-    (played : Played size told config script image blank trace old new model) × (played.ran.part ≡ 0)
+    (played : PlaysFirstLines size told config script image blank trace old new model) × (played.ran.part ≡ 0)
 EndsPlay size told config script image blank trace old new ended (Some model) = ⊥
 EndsPlay size told config script image blank trace old new ended None = IsWhyNothingIsPlayed config script ended
     × (new ≡ old)

@@ -3,7 +3,7 @@ ghost use Rattle.std.specs.Prelude.{◌≡◌, IfOk, string_bytes};
 ghost use Rattle.block_server.specs.InitialServer.{IsReadyFor};
 ghost use Rattle.configuration.specs.Rules.{LacksEveryFault, IsTrimWord};
 ghost use Rattle.device_model.specs.ModelState.{device_at};
-ghost use Rattle.play.specs.PlayedScript.{IsModelOf, IsModelWith, trim_word};
+ghost use Rattle.play.specs.PlayedScript.{IsNewModelOfImage, IsNewModelWithDisks, trim_word};
 
 use configuration::Config;
 use device_model::{Disks, Model, ModelConfig, NoMemory, Trim};
@@ -36,7 +36,7 @@ pub fn new_model<S: SectorStore>(
 ) -> Result<Model<S>, NoMemory>
     requires { LacksEveryFault config.now }
     ensures is_ready_for_config { IfOk result (λ m. IsReadyFor config.now (device_at S.size S.told m)) }
-    ensures is_model { IfOk result (IsModelOf S.size S.told config.now image blank) }
+    ensures is_model { IfOk result (IsNewModelOfImage S.size S.told config.now image blank) }
 {
     new_model_of_disks(alloc, config, Disks::of_port_0(image, blank))
 }
@@ -50,7 +50,7 @@ pub fn new_model_of_disks<S: SectorStore>(
 ) -> Result<Model<S>, NoMemory>
     requires { LacksEveryFault config.now }
     ensures is_ready_for_config { IfOk result (λ m. IsReadyFor config.now (device_at S.size S.told m)) }
-    ensures is_model { IfOk result (IsModelWith S.size S.told config.now disks) }
+    ensures is_model { IfOk result (IsNewModelWithDisks S.size S.told config.now disks) }
 {
     let settings = ModelConfig {
         frames: config.frames as u16,

@@ -3,10 +3,10 @@ ghost use Rattle.std.specs.{Prelude.{◌≡◌, ◌≤◌, ◌∷◌, ◌⊎◌,
 ghost use Rattle.ata_types.specs.{declared.call.Call.{Call}, declared.call.CallResult.{CallResult}};
 ghost use Rattle.adapter.specs.declared.access.DeviceStep.{DeviceStep};
 ghost use Rattle.block_server.specs.{CallResults.{with_replies}, InitialServer.{IsInitialServer, IsReadyFor}, Promise.{Simulates}, ServerView.{ServerView}};
-ghost use Rattle.configuration.specs.{Document.{TextReadsAs}, Rules.{LacksEveryFault}};
+ghost use Rattle.configuration.specs.{Document.{TextReadsAsValidConfig}, Rules.{LacksEveryFault}};
 ghost use Rattle.script.specs.Script.{IsScript};
 ghost use Rattle.device_model.specs.ModelState.{device_at, is_starved};
-ghost use Rattle.play.specs.PlayedScript.{EndsPlay, IsWhyNothingIsPlayed, IsServerOfModel, RanWholeScript, IsWhyItStopped, PrintsPart, RanFirstLines};
+ghost use Rattle.play.specs.PlayedScript.{EndsPlay, IsWhyNothingIsPlayed, IsNewServerOfNewModel, RanWholeScript, PlayErrorFitsPrintedPart, PrintsPart, RanFirstLines};
 
 use crate::model_setup::new_model;
 use crate::printed::{print_call, write_out};
@@ -105,7 +105,7 @@ impl From<BadLine> for Ended {
 
 /// The values of a configuration's text, where the lines of the script are good, too.
 pub fn parse_inputs(alloc: Global, config: &[u8], script: &[u8]) -> Result<Config, Ended>
-    ensures read { IfOk result (TextReadsAs config.now) }
+    ensures read { IfOk result (TextReadsAsValidConfig config.now) }
     ensures is_script { OnOk result ((calls : List (Call DeviceStep)) × IsScript script.now calls) }
     ensures refused { IfErr result (IsWhyNothingIsPlayed config.now script.now) }
 {
@@ -148,7 +148,7 @@ fn start<S: SectorStore>(
     blank: S,
 ) -> Result<Box<Server<Model<S>>>, NoMemory>
     requires { LacksEveryFault config.now }
-    ensures { IfOk result (λ server. IsServerOfModel S.size S.told config.now image blank server.value) }
+    ensures { IfOk result (λ server. IsNewServerOfNewModel S.size S.told config.now image blank server.value) }
 {
     let model = new_model(alloc, config, image, blank)?;
     // The configuration is sound, so memory is all that can be wanting.
@@ -162,7 +162,8 @@ fn start<S: SectorStore>(
 fn make_call<A: Stepped>(server: &mut Server<A>, call: &Call<DeviceStep>, said: &mut CallResults)
     requires { 1 ≤ vec_capacity said.old.earlier }
     ensures keeps { (one : CallResult (Unit {0})) × (said.new.last ≡ Some one)
-        × Simulates A.device server.old server.new (call.now ∷ []) (with_replies one said.new.replies.items ∷ []) }
+        × Simulates A.device server.old server.new (call.now ∷ [])
+        (with_replies one said.new.replies.items ∷ []) }
     ensures room { 1 ≤ vec_capacity said.new.earlier }
 {
     said.clear();
@@ -186,7 +187,8 @@ fn play_line<A: TapedAdapter, W: io::Write>(
     ensures room { 1 ≤ vec_capacity room.new.said.earlier }
     ensures printed { (p : PrintsPart A.device A.ended trace shown call.now server.old server.new
         (W.contents out.old) (W.contents out.new))
-        × OnOk result (length p.text ≤ p.part) × IfErr result (IsWhyItStopped (A.ended server.new.adapter) p.part) }
+        × OnOk result (length p.text ≤ p.part)
+        × IfErr result (PlayErrorFitsPrintedPart (A.ended server.new.adapter) p.part) }
     ensures fed { OnOk result (A.ended server.new.adapter ≡ false) }
     ensures shown { IfOk result (λ count. count ≡ length (A.device server.new.adapter).tape) }
 {
@@ -228,7 +230,8 @@ fn play_lines<A: TapedAdapter, W: io::Write>(
     requires good { (calls : List (Call DeviceStep)) × IsScript script.now calls }
     ensures { (ran : RanFirstLines A.device A.ended trace script.now server.old server.new (W.contents out.old)
         (W.contents out.new))
-        × OnOk result (RanWholeScript ran) × IfErr result (IsWhyItStopped (A.ended server.new.adapter) ran.part) }
+        × OnOk result (RanWholeScript ran)
+        × IfErr result (PlayErrorFitsPrintedPart (A.ended server.new.adapter) ran.part) }
 {
     law_lines_are_asked_in_turn();
     if server.adapter().is_exhausted() {
@@ -294,12 +297,14 @@ pub fn play_adapter<A: TapedAdapter + Drop, W: io::Write>(
     requires lacks_every_fault { LacksEveryFault config.now }
     requires is_script { (calls : List (Call DeviceStep)) × IsScript script.now calls }
     requires is_ready_for_config { IsReadyFor config.now (A.device adapter) }
-    ensures adapter_is_given_back { IfSome result.1 (λ left. ((left ≡ adapter) × (result.0 ≡ Err PlayError.NoMemory)
+    ensures given_back_adapter_is_as_played { IfSome result.1 (λ left. ((left ≡ adapter)
+        × (result.0 ≡ Err PlayError.NoMemory)
         × (W.contents out.new ≡ W.contents out.old))
         ⊎ ((server last : ServerView A) × IsInitialServer A.device config.now adapter server
         × (left ≡ last.adapter)
         × (ran : RanFirstLines A.device A.ended trace script.now server last (W.contents out.old) (W.contents out.new))
-        × OnOk result.0 (RanWholeScript ran) × IfErr result.0 (IsWhyItStopped (A.ended last.adapter) ran.part))) }
+        × OnOk result.0 (RanWholeScript ran)
+        × IfErr result.0 (PlayErrorFitsPrintedPart (A.ended last.adapter) ran.part))) }
     ensures no_adapter_means_no_memory { result.1 ≡ None → (result.0 ≡ Err PlayError.NoMemory)
         × (W.contents out.new ≡ W.contents out.old) }
 {

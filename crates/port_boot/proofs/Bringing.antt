@@ -12,12 +12,12 @@ use Rattle.refinement.specs.Fragments.{AnySlotStates, ReadsPortOrWrites, IsSimul
 use Rattle.refinement.specs.Driver.{AllFree}
 use Rattle.refinement.specs.Slots.{SlotStates}
 use Rattle.refinement.specs.Fragments.{TapeGrows}
-use Rattle.port_control.specs.Calls.{ResetsAndFindsDisk, ResetsAndFindsFault, StaysReceiving, Starts}
+use Rattle.port_control.specs.Calls.{ResetsAndFindsDisk, ResetsAndFindsFault, StaysReceivingWithLinkUpIfShown, Starts}
 use Rattle.port_control.specs.Engines.{StopsReceiving}
 use Rattle.port_control.specs.Ports.{IsCommandRegister, IsPlacingRegister, IsResetRegister, IsStoppedReceiving, BacksFault, SendsComresetThen, IsDeviceFound}
 use Rattle.port_control.specs.declared.PortFault.{PortFault}
 use Rattle.port_control.specs.declared.PortFault.TheVariants.{NoDevice, Busy, EngineStuck, NotAta}
-use Rattle.port_boot.specs.States.{BacksState, IsBootRegister, IsBootable, IsBroughtUp, EndsBeforeStart, IsStateOfFault}
+use Rattle.port_boot.specs.States.{BacksState, IsBootRegister, IsOnWithPortMemoryAndFreeSlots, IsBroughtUp, EndsBeforeStart, IsStateOfFault}
 use Rattle.port_boot.specs.Laws.SlotCondition.{AnyUses, PortUnused}
 use Rattle.port_boot.specs.Laws.RegisterSet.{BootRegisters, Commanding, PlacingRegisters, ResetRegisters}
 use Rattle.port_boot.specs.Laws.AccessPurpose.{Controlling}
@@ -61,7 +61,7 @@ module _ (laws : Laws) where
         let n : length new.tape ≡ length old.tape + length g.0 = ap (λ (es : List Entry). length es) g.1 ∙ length-append old.tape g.0 in
         omega (arith, n)
 
-    pub bootable_after : ((uses : SlotStates) → AllFree uses port.0 → slot_uses_meeting fitting port uses) → IsBootable port old → IsBootable port new
+    pub bootable_after : ((uses : SlotStates) → AllFree uses port.0 → slot_uses_meeting fitting port uses) → IsOnWithPortMemoryAndFreeSlots port old → IsOnWithPortMemoryAndFreeSlots port new
     bootable_after fits b =
         let s = same_over laws (ReadsPortOrWrites (registers_of set) port) old new f.is_driven in
         record {
@@ -82,12 +82,12 @@ module _ (laws : Laws) where
       ((r : PortReg) → registers_of set r → IsBootRegister r) → ((uses : SlotStates) → AllFree uses port.0 → slot_uses_meeting fitting port uses) → IsSimulated (ReadsPortOrWrites IsBootRegister port) (λ uses. AllFree uses port.0) old new
   boots set fitting port old new f wider fits = (told_boots (λ made. Unit {0}) set fitting port old new wider fits (record { is_simulated = f; accesses_are_such = tt })).is_simulated
 
-  pub placed_bootable : (port : Port) (old mid : Device) → IsBootable port old → IsSimulated (ReadsPortOrWrites IsPlacingRegister port) AnySlotStates old mid → IsBootable port mid
+  pub placed_bootable : (port : Port) (old mid : Device) → IsOnWithPortMemoryAndFreeSlots port old → IsSimulated (ReadsPortOrWrites IsPlacingRegister port) AnySlotStates old mid → IsOnWithPortMemoryAndFreeSlots port mid
   placed_bootable port old mid b first = bootable_after PlacingRegisters AnyUses port old mid first (λ uses free. tt) b
 
-  module _ (port : Port) (old mid reset : Device) (b : IsBootable port old) (first : IsSimulatedAlong (StopsReceiving port) (ReadsPortOrWrites IsPlacingRegister port) AnySlotStates old mid)
+  module _ (port : Port) (old mid reset : Device) (b : IsOnWithPortMemoryAndFreeSlots port old) (first : IsSimulatedAlong (StopsReceiving port) (ReadsPortOrWrites IsPlacingRegister port) AnySlotStates old mid)
       (second : IsSimulated (ReadsPortOrWrites IsResetRegister port) AnySlotStates mid reset) where
-    pub reset_bootable : IsBootable port reset
+    pub reset_bootable : IsOnWithPortMemoryAndFreeSlots port reset
     reset_bootable = bootable_after ResetRegisters AnyUses port mid reset second (λ uses free. tt) (placed_bootable port old mid b first.is_simulated)
 
     pub reset_boots : IsSimulatedAlong (StopsReceiving port) (ReadsPortOrWrites IsBootRegister port) (λ uses. AllFree uses port.0) old reset
@@ -104,27 +104,27 @@ module _ (laws : Laws) where
     reset_since was = le_trans (later PlacingRegisters AnyUses port old mid first.is_simulated) was.sctl_written_in_call
 
     -- what was found is so of the whole
-    found_before : IsDeviceFound port.0 mid reset → IsDeviceFound port.0 old reset
-    found_before found = record {
+    entry_is_found_in_earlier_book : IsDeviceFound port.0 mid reset → IsDeviceFound port.0 old reset
+    entry_is_found_in_earlier_book found = record {
       no_cause_is_set = found.no_cause_is_set;
-      errors_are_clear = record {
-        serr_n_is_clear = λ none. found.errors_are_clear.serr_n_is_clear (plugs_in_parts laws port.0 old mid reset early late none).1;
-        serr_x_is_clear = λ none. found.errors_are_clear.serr_x_is_clear (comes_in_parts laws port.0 old mid reset early late none).1;
+      serr_shows_only_new_plugs = record {
+        serr_n_is_clear = λ none. found.serr_shows_only_new_plugs.serr_n_is_clear (plugs_in_parts laws port.0 old mid reset early late none).1;
+        serr_x_is_clear = λ none. found.serr_shows_only_new_plugs.serr_x_is_clear (comes_in_parts laws port.0 old mid reset early late none).1;
       };
       no_link_is_due = λ none. found.no_link_is_due (comes_in_parts laws port.0 old mid reset early late none).1;
       link_is_up = λ none. found.link_is_up (plugs_in_parts laws port.0 old mid reset early late none).1;
       is_clean_to_start = found.is_clean_to_start;
     }
 
-    pub ends_early : (state : PortState) (fault : PortFault) → IsStateOfFault state fault → StaysReceiving port mid reset → ResetsAndFindsFault port fault mid reset → EndsBeforeStart port state old reset
+    pub ends_early : (state : PortState) (fault : PortFault) → IsStateOfFault state fault → StaysReceivingWithLinkUpIfShown port mid reset → ResetsAndFindsFault port fault mid reset → EndsBeforeStart port state old reset
     ends_early state fault told r f = record {
       fault = fault;
       state_is = told;
       placed = mid;
       places = first.is_simulated.is_driven;
       resets = f.comreset_is_sent;
-      link_is_coming_up = λ none. r.link_is_coming_up (comes_in_parts laws port.0 old mid reset early late none).1;
-      device_is_found = λ other. found_before (f.device_is_found other);
+      link_is_up_if_shown_unless_disk_comes = λ none. r.link_is_up_if_shown_unless_disk_comes (comes_in_parts laws port.0 old mid reset early late none).1;
+      device_is_found = λ other. entry_is_found_in_earlier_book (f.device_is_found other);
     }
 
     module _ (new : Device) (third : IsSimulated (ReadsPortOrWrites IsCommandRegister port) (λ uses. AllFree uses port.0) reset new) where
@@ -143,7 +143,7 @@ module _ (laws : Laws) where
           let since = reset_since f.comreset_is_sent in
           let still : (new.port port.0).notes.sctl_written_at ≤ length new.tape = omega (arith, written, l, marked) in
           let later_still : length old.tape ≤ (new.port port.0).notes.sctl_written_at = omega (arith, since, written) in
-          let found = found_before f.device_is_found in
+          let found = entry_is_found_in_earlier_book f.device_is_found in
           let quiet = found.is_clean_to_start (neither_second _ _ f.disk_is_seen.1) in
           let changes = s.errors_change_by_disks quiet.no_link_is_due in
           record {
@@ -151,14 +151,14 @@ module _ (laws : Laws) where
             runs = s.runs;
             no_comreset = s.other_notes_are_kept.0 ∙ f.comreset_is_sent.no_comreset;
             device_was_seen = (ap (λ (n : Notes). n.last_ssts % 16) s.other_notes_are_kept.1 ∙ f.disk_is_seen.0.0, ap (λ (n : Notes). n.link_wait_count) s.other_notes_are_kept.1 ∙ f.disk_is_seen.0.1);
-            st_set_in_tape = subst (λ (n : ℕ). n ≤ length new.tape) (sym s.st_set_is_last) (le_refl (length new.tape));
+            st_set_in_tape = subst (λ (n : ℕ). n ≤ length new.tape) (sym s.tape_is_as_at_st_set) (le_refl (length new.tape));
             sctl_written_in_boot = later_still;
             sctl_time_in_tape = still;
-            brings_up_port = record { placed = mid; places = first.is_simulated.is_driven; found = reset; resets = f.comreset_is_sent; starts = third.is_driven; st_set_is_last = s.st_set_is_last };
+            brings_up_port = record { placed = mid; places = first.is_simulated.is_driven; found = reset; resets = f.comreset_is_sent; starts = third.is_driven; tape_is_as_at_st_set = s.tape_is_as_at_st_set };
             no_cause_is_set = λ place small. s.no_cause_rises place (found.no_cause_is_set place small);
-            errors_are_clear = record {
-              serr_n_is_clear = λ none. let parts = plugs_in_parts laws port.0 old reset new (laws.tape.growth_is_transitive old mid reset early late) last none in changes.serr_n_rises_by_plug_events parts.1 (found.errors_are_clear.serr_n_is_clear parts.0);
-              serr_x_is_clear = λ none. let parts = comes_in_parts laws port.0 old reset new (laws.tape.growth_is_transitive old mid reset early late) last none in changes.serr_x_rises_by_disk_coming parts.1 (found.errors_are_clear.serr_x_is_clear parts.0);
+            serr_shows_only_new_plugs = record {
+              serr_n_is_clear = λ none. let parts = plugs_in_parts laws port.0 old reset new (laws.tape.growth_is_transitive old mid reset early late) last none in changes.serr_n_rises_by_plug_events parts.1 (found.serr_shows_only_new_plugs.serr_n_is_clear parts.0);
+              serr_x_is_clear = λ none. let parts = comes_in_parts laws port.0 old reset new (laws.tape.growth_is_transitive old mid reset early late) last none in changes.serr_x_rises_by_disk_coming parts.1 (found.serr_shows_only_new_plugs.serr_x_is_clear parts.0);
             };
             faults_are_on_record = s.faults_are_on_record quiet;
             port_is_started = λ none. let parts = plugs_in_parts laws port.0 old reset new (laws.tape.growth_is_transitive old mid reset early late) last none in s.port_is_started (found.link_is_up parts.0) parts.1;

@@ -11,7 +11,7 @@ use Rattle.refinement.specs.PortFacts.{Undisturbed, RunsWell}
 use Rattle.refinement.specs.PreservedParts.{DoesNotWrite}
 use Rattle.refinement.specs.StartedPort.{IsUpForStart}
 use Rattle.refinement.specs.Fragments.{TapeGrows}
-use Rattle.port_boot.specs.States.{BitsRiseWithCause, StaysRunning}
+use Rattle.port_boot.specs.States.{BitsRiseWithCause, StaysRunningIfUndisturbed}
 use Rattle.port_boot.specs.Laws.{Laws}
 use Rattle.std.specs.List.{All}
 use Rattle.std.proofs.lemmas.List.Elements.{All-head, All-tail}
@@ -28,7 +28,7 @@ pub record Endures (port : ℕ) (old new : Device) : Type 0 where
 -- a port that runs does so still
 pub record Lasts (port : ℕ) (old new : Device) : Type 0 where
   pub grows : TapeGrows old new
-  pub runs : StaysRunning port old new
+  pub runs : StaysRunningIfUndisturbed port old new
 
 module _ (laws : Laws) where
   pub errors_more : (port : ℕ) (old mid new : Device) → TapeGrows old mid → TapeGrows mid new → ErrorBitsRiseByErrors port old mid → ErrorBitsRiseByErrors port mid new → ErrorBitsRiseByErrors port old new
@@ -44,15 +44,15 @@ module _ (laws : Laws) where
   pub goes_more : (port : ℕ) (old mid new : Device) → TapeGrows old mid → TapeGrows mid new → BitsRiseWithCause port old mid → BitsRiseWithCause port mid new → BitsRiseWithCause port old new
   goes_more port old mid new early late a b = record {
     no_link_gets_due = λ h. b.no_link_gets_due (a.no_link_gets_due h);
-    changes_by_disks = λ h. laws.tape.link_errors_transitive port old mid new early late (a.changes_by_disks h) (b.changes_by_disks (a.no_link_gets_due h));
-    changes_by_errors = errors_more port old mid new early late a.changes_by_errors b.changes_by_errors;
+    link_errors_rise_by_disks = λ h. laws.tape.link_errors_transitive port old mid new early late (a.link_errors_rise_by_disks h) (b.link_errors_rise_by_disks (a.no_link_gets_due h));
+    error_bits_rise_by_errors = errors_more port old mid new early late a.error_bits_rise_by_errors b.error_bits_rise_by_errors;
   }
 
   goes_none : (port : ℕ) (d : Device) → BitsRiseWithCause port d d
   goes_none port d = record {
     no_link_gets_due = λ h. h;
-    changes_by_disks = λ h. laws.tape.link_errors_reflexive port d;
-    changes_by_errors = record { fatal = λ none place low high clear. clear; fault = λ none clear. clear };
+    link_errors_rise_by_disks = λ h. laws.tape.link_errors_reflexive port d;
+    error_bits_rise_by_errors = record { fatal = λ none place low high clear. clear; fault = λ none clear. clear };
   }
 
   pub endures_more : (port : ℕ) (a b c : Device) → Endures port a b → Endures port b c → Endures port a c
@@ -67,7 +67,7 @@ module _ (laws : Laws) where
     grows = laws.tape.growth_is_transitive a b c x.grows y.grows;
     runs = record {
       bits_rise_with_cause = goes_more port a b c x.grows y.grows x.runs.bits_rise_with_cause y.runs.bits_rise_with_cause;
-      stays_started = λ calm h. let parts = calm_in_parts laws port a b c x.grows y.grows calm in y.runs.stays_started parts.1 (x.runs.stays_started parts.0 h);
+      undisturbed_stays_started = λ calm h. let parts = calm_in_parts laws port a b c x.grows y.grows calm in y.runs.undisturbed_stays_started parts.1 (x.runs.undisturbed_stays_started parts.0 h);
       faults_are_on_record = λ h. y.runs.faults_are_on_record (x.runs.faults_are_on_record h);
     };
   }
@@ -77,9 +77,9 @@ module _ (laws : Laws) where
   module _ (port : Port) (access : Access) (old new : Device) (on : IsOn old) (control : DoesNotWrite (Px port Sctl) access) (does : Does access old new) where
     goes_access : BitsRiseWithCause port.0 old new
     goes_access = record {
-      no_link_gets_due = λ h. laws.tape.access_makes_no_link_due port access old new on.no_reset h control does;
-      changes_by_disks = λ h. laws.tape.access_raises_by_disks port access old new on.no_reset h does;
-      changes_by_errors = laws.access_changes_by_errors port access old new does;
+      no_link_gets_due = λ h. laws.tape.access_but_sctl_write_makes_no_link_due port access old new on.no_reset h control does;
+      link_errors_rise_by_disks = λ h. laws.tape.access_raises_link_errors_by_disks port access old new on.no_reset h does;
+      error_bits_rise_by_errors = laws.access_changes_by_errors port access old new does;
     }
 
     pub endures_access : Endures port.0 old new
@@ -94,7 +94,7 @@ module _ (laws : Laws) where
       grows = laws.tape.access_grows access old new does;
       runs = record {
         bits_rise_with_cause = goes_access;
-        stays_started = λ calm h. laws.access_keeps_started port access old new on.no_reset
+        undisturbed_stays_started = λ calm h. laws.access_keeps_started port access old new on.no_reset
             (λ v is. absurd (subst (DoesNotWrite (Px port Cmd)) is command refl)) control calm does h;
         faults_are_on_record = λ h. laws.access_keeps_fault_record port access old new command control does h;
       };
@@ -115,7 +115,7 @@ module _ (laws : Laws) where
   pub lasts : (port : Port) (accesses : List Access) (old new : Device) → IsOn old → DoesAll accesses old new → All (DoesNotWrite Ghc) accesses → All (DoesNotWrite (Px port Sctl)) accesses →
       All (DoesNotWrite (Px port Cmd)) accesses → Lasts port.0 old new
   lasts port [] old new on is host control command =
-      subst (Lasts port.0 old) (sym is) (record { grows = laws.tape.growth_is_reflexive old; runs = record { bits_rise_with_cause = goes_none port.0 old; stays_started = λ calm h. h; faults_are_on_record = λ h. h } })
+      subst (Lasts port.0 old) (sym is) (record { grows = laws.tape.growth_is_reflexive old; runs = record { bits_rise_with_cause = goes_none port.0 old; undisturbed_stays_started = λ calm h. h; faults_are_on_record = λ h. h } })
   lasts port (access ∷ accesses) old new on (mid, does, rest) host control command =
       lasts_more port.0 old mid new
       (lasts_access port access old mid on (All-head (DoesNotWrite (Px port Sctl)) access accesses control) does (All-head (DoesNotWrite (Px port Cmd)) access accesses command))
@@ -123,17 +123,17 @@ module _ (laws : Laws) where
       (All-tail (DoesNotWrite (Px port Sctl)) access accesses control) (All-tail (DoesNotWrite (Px port Cmd)) access accesses command))
 
   -- a port that runs well runs on so, where nothing goes wrong on it: no bit tells of trouble either
-  pub well_on : (port : ℕ) (old new : Device) → StaysRunning port old new → Undisturbed port old new → RunsWell (old.port port) → RunsWell (new.port port)
+  pub well_on : (port : ℕ) (old new : Device) → StaysRunningIfUndisturbed port old new → Undisturbed port old new → RunsWell (old.port port) → RunsWell (new.port port)
   well_on port old new runs calm well =
       let none = laws.undisturbed_has_no_plug_events port old new calm in
-      let disks = runs.bits_rise_with_cause.changes_by_disks well.no_link_is_due in
-      laws.started_quiet_port_runs_well (new.port port) (runs.stays_started calm (laws.runs_well_is_started (old.port port) well)) (record {
+      let disks = runs.bits_rise_with_cause.link_errors_rise_by_disks well.no_link_is_due in
+      laws.started_quiet_port_runs_well (new.port port) (runs.undisturbed_stays_started calm (laws.runs_well_is_started (old.port port) well)) (record {
         serr_n_is_clear = disks.serr_n_rises_by_plug_events none well.shows_no_trouble.serr_n_is_clear;
         serr_x_is_clear = disks.serr_x_rises_by_disk_coming (laws.tape.no_plug_event_no_disk port old new none) well.shows_no_trouble.serr_x_is_clear;
-        no_error_bit_is_set = λ place low high. elim (cases_eq place 30) [
+        bits_27_to_30_are_clear = λ place low high. elim (cases_eq place 30) [
           | inl e ↦
               let P : ℕ → Type 0 = λ k. (new.port port).is k ≡ false in
-              subst P (sym e) (runs.bits_rise_with_cause.changes_by_errors.fault (laws.undisturbed_has_no_fault port old new calm) (well.shows_no_trouble.no_error_bit_is_set 30 (omega arith) (omega arith)))
-          | inr other ↦ runs.bits_rise_with_cause.changes_by_errors.fatal (laws.undisturbed_has_no_fatal port old new calm) place low (omega (arith, high, other)) (well.shows_no_trouble.no_error_bit_is_set place low high)
+              subst P (sym e) (runs.bits_rise_with_cause.error_bits_rise_by_errors.fault (laws.undisturbed_has_no_fault port old new calm) (well.shows_no_trouble.bits_27_to_30_are_clear 30 (omega arith) (omega arith)))
+          | inr other ↦ runs.bits_rise_with_cause.error_bits_rise_by_errors.fatal (laws.undisturbed_has_no_fatal port old new calm) place low (omega (arith, high, other)) (well.shows_no_trouble.bits_27_to_30_are_clear place low high)
         ];
       })

@@ -27,8 +27,8 @@ use Rattle.command_table.specs.TableStores.{IsUnused}
 use Rattle.disk_page.specs.PageRequests.{IsPageAccess, LeavesPortWhileAsking, BringsLastPage, ReadsPage}
 use Rattle.identify.specs.declared.DiskInfo.{DiskInfo}
 use Rattle.port_control.specs.Engines.{FailsToStop, FailsToStopReceiving, Stops, StopsReceiving, EngineSticks}
-use Rattle.port_control.specs.Ports.{IsCommandRegister, IsPlacingRegister, RunsWithoutCommands, ClearsStAlone, SawDevice}
-use Rattle.port_boot.specs.States.{HasLastIdentifyPage, IsFitAndWanted, IsStateByPage, BacksState, IsReadyAfterBoot, IsBootRegister, IsBootAccess, IsBoot, IsBootTo, IsBootable, IsBroughtUp, IsStoppedAs, IsAfterStart, StopsOnWay, IsStateOfFault}
+use Rattle.port_control.specs.Ports.{IsCommandRegister, IsPlacingRegister, RunsInPlaceWithoutCommands, ClearsStAlone, SawDevice}
+use Rattle.port_boot.specs.States.{HasLastIdentifyPage, IsFitAndWanted, IsStateByPage, BacksState, IsReadyAfterBoot, IsBootRegister, IsBootAccess, IsBoot, IsBootTo, IsOnWithPortMemoryAndFreeSlots, IsBroughtUp, IsStoppedAsOrStuck, IsStateStoppedAfterStart, StopsOnWay, IsStateOfFault}
 use Rattle.port_control.specs.declared.PortFault.{PortFault}
 use Rattle.port_control.specs.declared.PortFault.TheVariants.{NoDevice, Busy, EngineStuck, NotAta}
 use Rattle.port_boot.proofs.Bringing.{placing, starting, told_boots}
@@ -41,8 +41,8 @@ use Rattle.port_boot.proofs.Stretching.{followed_then, followed_wider, same_over
 
 -- the port runs, and has this page
 pub record IsIdentified (port : Port) (d : Device) (page : List ℕ) : Type 0 where
-  pub bootable : IsBootable port d
-  pub runs : RunsWithoutCommands port.0 (d.port port.0)
+  pub bootable : IsOnWithPortMemoryAndFreeSlots port d
+  pub runs : RunsInPlaceWithoutCommands port.0 (d.port port.0)
   pub det : (d.port port.0).sctl_det ≡ 0
   pub saw : SawDevice (d.port port.0).notes
   pub has : HasLastIdentifyPage port.0 d page
@@ -67,7 +67,7 @@ module _ (port : Port) (start old mid : Device) (up : IsBroughtUp port start old
   pub asked_saw : SawDevice (mid.port port.0).notes
   asked_saw = (ap (λ (n : Notes). n.last_ssts % 16) l.other_notes_are_kept ∙ up.device_was_seen.0, ap (λ (n : Notes). n.link_wait_count) l.other_notes_are_kept ∙ up.device_was_seen.1)
 
-  pub asked_running : Laws → IsOver (mid.port port.0) 0 → RunsWithoutCommands port.0 (mid.port port.0)
+  pub asked_running : Laws → IsOver (mid.port port.0) 0 → RunsInPlaceWithoutCommands port.0 (mid.port port.0)
   asked_running laws over =
       let r = up.runs in
       let none = laws.asking_leaves_no_command port.0 old mid l (λ slot. record { is_not_issued = r.ci_is_clear slot; is_not_taken = r.none_is_taken slot }) over in
@@ -108,7 +108,7 @@ unused : (port : Port) (uses : SlotStates) → AllFree uses port.0 → IsUnused 
 unused port uses free = free 0
 
 -- a port that was to stop was driven so, however it ended
-pub halt_driven : (port : Port) (wanted state : PortState) (old new : Device) → IsStoppedAs port wanted state old new → IsDrivenBy (ReadsPortOrWrites IsCommandRegister port) old new
+pub halt_driven : (port : Port) (wanted state : PortState) (old new : Device) → IsStoppedAsOrStuck port wanted state old new → IsDrivenBy (ReadsPortOrWrites IsCommandRegister port) old new
 halt_driven port wanted state old new (inl x) = x.1.is_simulated.is_simulated.is_driven
 halt_driven port wanted state old new (inr x) = x.2.is_simulated.is_simulated.is_driven
 
@@ -128,7 +128,7 @@ module _ (laws : Laws) where
   asking_adapter port = same_over laws (IsPageAccess port)
 
   -- PxIE may be written
-  pub enabling : (port : Port) (v : ℕ) (d : Device) → IsBootable port d → IsStable (MayWrite (Px port Ie) v) d
+  pub enabling : (port : Port) (v : ℕ) (d : Device) → IsOnWithPortMemoryAndFreeSlots port d → IsStable (MayWrite (Px port Ie) v) d
   enabling port v d b = laws.write_stays (Px port Ie) v d (λ p e. absurd cc) (b.adapter_is_on, b.has_port, tt)
 
   -- a stop is a part of the boot
@@ -176,7 +176,7 @@ module _ (laws : Laws) where
             (let f = laws.fragments.own_command_is_over (Booting Slot0Unused port) port Identify 1 old new (inr (refl, refl)) (λ uses free. free) over given.is_simulated in
             record { is_simulated = f.is_simulated; accesses_are_such = subst TapeTells (sym f.accesses_are_such) given.accesses_are_such })
 
-      pub unasked_ends : (wanted : Option (List ℕ)) (result : PortState) → IsStoppedAs port (Unfit 9) result mid new → BacksState wanted result port.0 new
+      pub unasked_ends : (wanted : Option (List ℕ)) (result : PortState) → IsStoppedAsOrStuck port (Unfit 9) result mid new → BacksState wanted result port.0 new
       unasked_ends wanted result (inl x) = let P : PortState → Type 0 = λ s. BacksState wanted s port.0 new in
           subst P (sym x.0) (
             x.1.stopped,
@@ -188,7 +188,7 @@ module _ (laws : Laws) where
           )
       unasked_ends wanted result (inr x) = let P : PortState → Type 0 = λ s. BacksState wanted s port.0 new in subst P (sym x.0) (x.1, x.2.stuck_is_backed)
 
-      pub unasked_boots : (result : PortState) → IsStoppedAs port (Unfit 9) result mid new → IsBootTo (Stops port) port result old new
+      pub unasked_boots : (result : PortState) → IsStoppedAsOrStuck port (Unfit 9) result mid new → IsBootTo (Stops port) port result old new
       unasked_boots result (inl x) =
           let P : PortState → Type 0 = λ s. IsBootTo (Stops port) port s old new in
           subst P (sym x.0) (stopped_boots (Stops port) (λ early late. laws.falls_with_earlier_accesses early late 0 15 port) x.1.is_simulated (record { is_not_issued = x.1.stopped.engine_is_stopped.no_command_is_issued 0; is_not_taken = x.1.stopped.engine_is_stopped.no_command_is_taken 0 }))
@@ -239,8 +239,8 @@ module _ (laws : Laws) where
           let r = h.runs in
           let k = w.keeps.ports_keep_what_steps_keep port.0 in
           let c = w.keeps.keeps_outside_reset.controls_are_kept port.0 in
-          let P : device.DevicePort → Type 0 = λ p. RunsWithoutCommands port.0 p in
-          let runs : RunsWithoutCommands port.0 (port_after_write Ie v (length w.at_access.tape) (w.at_access.port port.0)) = record {
+          let P : device.DevicePort → Type 0 = λ p. RunsInPlaceWithoutCommands port.0 p in
+          let runs : RunsInPlaceWithoutCommands port.0 (port_after_write Ie v (length w.at_access.tape) (w.at_access.port port.0)) = record {
             st_is_set = c.st_is_kept ∙ r.st_is_set;
             cr_is_set = c.engine_stays_running r.st_is_set r.cr_is_set;
             fre_is_set = c.fre_is_kept ∙ r.fre_is_set;
@@ -278,7 +278,7 @@ module _ (laws : Laws) where
     halted_as TapeTells since new stops = told_since laws TapeTells (Booting PortUnused port) since (λ uses. uses) old mid new asked_boots
         (told_wider laws TapeTells (Booting AnyUses port) (Booting PortUnused port) (λ uses. uses) mid new (λ access may. may) (λ uses free. tt) (stop_boots TapeTells port mid new stops))
 
-    pub halted_boots : (wanted : Option (List ℕ)) (state result : PortState) (new : Device) → IsStateByPage wanted state page → IsStoppedAs port state result mid new → IsBootTo (Stops port) port result old new
+    pub halted_boots : (wanted : Option (List ℕ)) (state result : PortState) (new : Device) → IsStateByPage wanted state page → IsStoppedAsOrStuck port state result mid new → IsBootTo (Stops port) port result old new
     halted_boots wanted state result new judged (inl x) =
         let P : PortState → Type 0 = λ s. IsBootTo (Stops port) port s old new in
         let alive : state ≢ Dead = λ (dead : state ≡ Dead). absurd (subst (λ (s : PortState). IsStateByPage wanted s page) dead judged) in
@@ -295,7 +295,7 @@ module _ (laws : Laws) where
           (driven_as (ReadsPortOrWrites IsCommandRegister port) (ReadsPortOrWrites (λ r. r ≢ Ci) port) mid new (laws.control_of_larger_set Commanding ButIssued port (λ r is same. command_quiet (subst IsCommandRegister same is))) stops) (λ slot. record { is_not_issued = h.runs.ci_is_clear slot; is_not_taken = h.runs.none_is_taken slot }) in
           page_on port.0 mid new page silent.0 (ap (λ (n : Notes). n.sctl_written_at) has.other_notes_are_kept) h.has
 
-      pub halted_ends : (wanted : Option (List ℕ)) (state result : PortState) → IsStateByPage wanted state page → IsStoppedAs port state result mid new → BacksState wanted result port.0 new
+      pub halted_ends : (wanted : Option (List ℕ)) (state result : PortState) → IsStateByPage wanted state page → IsStoppedAsOrStuck port state result mid new → BacksState wanted result port.0 new
       halted_ends wanted (Unfit n) result judged (inl x) = let P : PortState → Type 0 = λ s. BacksState wanted s port.0 new in subst P (sym x.0) (x.1.stopped, inr (inr (inr (page, halted_page, judged))))
       halted_ends wanted Foreign result judged (inl x) = let P : PortState → Type 0 = λ s. BacksState wanted s port.0 new in subst P (sym x.0) (x.1.stopped, (page, halted_page, judged))
       halted_ends wanted Absent result judged (inl x) = absurd judged
@@ -318,7 +318,7 @@ module _ (laws : Laws) where
       IsSimulatedAlong (StopsReceiving port) (ReadsPortOrWrites IsBootRegister port) (λ uses. AllFree uses port.0) old mid → IsBootTo (StopsOnWay port state) port state old mid
   faulty_boots port old mid fault other state told first = by fault other told
     where
-      early : (s : PortState) → state ≡ s → s ≢ Dead → (IsAfterStart s → ⊥) → IsBootTo (StopsOnWay port state) port state old mid
+      early : (s : PortState) → state ≡ s → s ≢ Dead → (IsStateStoppedAfterStart s → ⊥) → IsBootTo (StopsOnWay port state) port state old mid
       early s is alive late =
           let P : PortState → Type 0 = λ x. IsBootTo (StopsOnWay port x) port x old mid in
           subst P (sym is) (boots_to (StopsOnWay port s) port old mid s alive

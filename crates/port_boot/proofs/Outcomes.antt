@@ -29,7 +29,7 @@ use Rattle.identify.specs.declared.DiskInfo.{DiskInfo}
 use Rattle.identify.specs.declared.Unfit.{Unfit as Fault}
 use Rattle.identify.specs.declared.Unfit.TheVariants.{BadChecksum, Word83, No48Bit, SectorSize, NoFlush, NoSectors}
 use Rattle.port_boot.specs.Outcomes.{EndsReady, EndsUnready, FailsToIdentify, Identifies, BootBringsUp}
-use Rattle.port_boot.specs.States.{IsStateOfFault, IsStateByPage, IsBootRegister, IsBeforeStart, IsStoppedAs, IsBootAccess, IsBroughtUp, AsksDiskThenEnables, BringsReady, EndsBeforeStart, EndsAfterStart, IsAfterStart, ShowsOnlyNewErrors, BitsRiseWithCause, StaysRunning, StopsWithLinkUp}
+use Rattle.port_boot.specs.States.{IsStateOfFault, IsStateByPage, IsBootRegister, IsBeforeStart, IsStoppedAsOrStuck, IsBootAccess, IsBroughtUp, AsksDiskThenEnables, BringsReady, EndsBeforeStart, EndsAfterStart, IsStateStoppedAfterStart, ShowsOnlyNewErrors, BitsRiseWithCause, StaysRunningIfUndisturbed, StopsWithLinkUpIfUndisturbed}
 use Rattle.port_boot.proofs.Identifying.{whole_ended, whole_ready}
 use Rattle.port_boot.proofs.Staying.{boot_driven}
 use Rattle.port_boot.proofs.Enduring.{Endures, Lasts, endures, lasts, lasts_access, lasts_more, goes_more}
@@ -48,15 +48,15 @@ no_control : IsCommandRegister Sctl → ⊥
 no_control e = absurd (let k : Sctl ≡ Cmd = e in cc)
 
 -- a port that wasn't started isn't in a late state
-pub early_is_not_late : (port : Port) (state : PortState) (old new : Device) → (state ≡ Dead) ⊎ EndsBeforeStart port state old new → IsAfterStart state → EndsAfterStart port old new
-early_is_not_late port state old new (inl dead) late = absurd (subst IsAfterStart dead late)
+pub early_is_not_late : (port : Port) (state : PortState) (old new : Device) → (state ≡ Dead) ⊎ EndsBeforeStart port state old new → IsStateStoppedAfterStart state → EndsAfterStart port old new
+early_is_not_late port state old new (inl dead) late = absurd (subst IsStateStoppedAfterStart dead late)
 early_is_not_late port state old new (inr e) late = absurd (by e.fault e.state_is)
   where
     by : (fault : PortFault) → IsStateOfFault state fault → ⊥
-    by NoDevice told = subst IsAfterStart told late
-    by Busy told = let l : IsAfterStart (Unfit 7) = subst IsAfterStart told late in l.0 refl
-    by EngineStuck told = subst IsAfterStart told late
-    by (NotAta signature) told = let l : IsAfterStart (Unfit 8) = subst IsAfterStart told late in l.1 refl
+    by NoDevice told = subst IsStateStoppedAfterStart told late
+    by Busy told = let l : IsStateStoppedAfterStart (Unfit 7) = subst IsStateStoppedAfterStart told late in l.0 refl
+    by EngineStuck told = subst IsStateStoppedAfterStart told late
+    by (NotAta signature) told = let l : IsStateStoppedAfterStart (Unfit 8) = subst IsStateStoppedAfterStart told late in l.1 refl
 
 -- if it is in an early state, that is how it ended
 pub early_alone : (port : Port) (state : PortState) (old new : Device) → (state ≡ Dead) ⊎ EndsBeforeStart port state old new → IsBeforeStart state → EndsBeforeStart port state old new
@@ -64,7 +64,7 @@ early_alone port state old new (inl dead) early = absurd (subst IsBeforeStart de
 early_alone port state old new (inr e) early = e
 
 -- a port that was asked for its page doesn't end early, whatever is made of the page
-pub halted_late : (port : Port) (wanted state : PortState) (old new : Device) → (IsBeforeStart wanted → ⊥) → IsStoppedAs port wanted state old new → IsBeforeStart state → ⊥
+pub halted_late : (port : Port) (wanted state : PortState) (old new : Device) → (IsBeforeStart wanted → ⊥) → IsStoppedAsOrStuck port wanted state old new → IsBeforeStart state → ⊥
 halted_late port wanted state old new late (inl x) early = late (subst IsBeforeStart x.0 early)
 halted_late port wanted state old new late (inr x) early = subst IsBeforeStart x.0 early
 
@@ -107,14 +107,14 @@ module _ (laws : Laws) where
         (spares (Px port Sctl) (λ (e : Px port Ci ≡ Px port Sctl). absurd (cc))) (spares (Px port Cmd) (λ (e : Px port Ci ≡ Px port Cmd). absurd (cc)))
 
     -- and then PxIE is written
-    pub told_runs_on : (v : ℕ) (new : Device) → IsOn mid → Writes (Px port Ie) v mid new → StaysRunning port.0 old new
+    pub told_runs_on : (v : ℕ) (new : Device) → IsOn mid → Writes (Px port Ie) v mid new → StaysRunningIfUndisturbed port.0 old new
     told_runs_on v new on call =
         (lasts_more laws port.0 old mid new asked
         (lasts_access laws port (Writing (Px port Ie) v) mid new on
         (λ (e : Px port Ie ≡ Px port Sctl). absurd (cc)) call (λ (e : Px port Ie ≡ Px port Cmd). absurd (cc)))).runs
 
     -- or the port is stopped
-    pub stops_then : (new : Device) → IsOn mid → LeavesPortWhileAsking port.0 old mid → IsDrivenBy (ReadsPortOrWrites IsCommandRegister port) mid new → StopsWithLinkUp port old new
+    pub stops_then : (new : Device) → IsOn mid → LeavesPortWhileAsking port.0 old mid → IsDrivenBy (ReadsPortOrWrites IsCommandRegister port) mid new → StopsWithLinkUpIfUndisturbed port old new
     stops_then new on l stop =
         let late : Endures port.0 mid new = endures laws port stop.accesses mid new on stop.all_are_done
         (All-weaker (ReadsPortOrWrites IsCommandRegister port) (DoesNotWrite Ghc) (λ access is. laws.accesses_of_port_spare_ghc port access (laws.control_spares_other_ports Commanding port access is)) stop.accesses stop.accesses_are_of_kind)
@@ -125,7 +125,7 @@ module _ (laws : Laws) where
           bits_rise_with_cause = goes_more laws port.0 old mid new asked.grows late.grows asked.runs.bits_rise_with_cause late.goes;
           link_is_up = λ calm h.
               let parts = calm_in_parts laws port.0 old mid new asked.grows late.grows calm in
-              late.up parts.1 (laws.started_port_is_up (mid.port port.0) (asked.runs.stays_started parts.0 h) (λ e. absurd (omega (arith, det, e))));
+              late.up parts.1 (laws.started_port_is_up (mid.port port.0) (asked.runs.undisturbed_stays_started parts.0 h) (λ e. absurd (omega (arith, det, e))));
         }
 
   -- ---- the whole boot
@@ -136,18 +136,18 @@ module _ (laws : Laws) where
 
     clear_since : BitsRiseWithCause port.0 old new → SerrShowsOnlyNewPlugs port.0 start new
     clear_since goes =
-        let disks = goes.changes_by_disks linked in
+        let disks = goes.link_errors_rise_by_disks linked in
         record {
-          serr_n_is_clear = λ none. let parts = plugs_in_parts laws port.0 start old new early late none in disks.serr_n_rises_by_plug_events parts.1 (up.errors_are_clear.serr_n_is_clear parts.0);
-          serr_x_is_clear = λ none. let parts = comes_in_parts laws port.0 start old new early late none in disks.serr_x_rises_by_disk_coming parts.1 (up.errors_are_clear.serr_x_is_clear parts.0);
+          serr_n_is_clear = λ none. let parts = plugs_in_parts laws port.0 start old new early late none in disks.serr_n_rises_by_plug_events parts.1 (up.serr_shows_only_new_plugs.serr_n_is_clear parts.0);
+          serr_x_is_clear = λ none. let parts = comes_in_parts laws port.0 start old new early late none in disks.serr_x_rises_by_disk_coming parts.1 (up.serr_shows_only_new_plugs.serr_x_is_clear parts.0);
         }
 
     fatal_since : BitsRiseWithCause port.0 old new → NoFatalErrors port.0 start new → (place : ℕ) → 27 ≤ place → place ≤ 29 → (new.port port.0).is place ≡ false
     fatal_since goes none place low high =
-        goes.changes_by_errors.fatal (laws.tape.no_fatal_errors_in_parts port.0 start old new early.0 late.0 early.1 late.1 none).1 place low high (up.no_cause_is_set place (omega (arith, high)))
+        goes.error_bits_rise_by_errors.fatal (laws.tape.no_fatal_errors_in_parts port.0 start old new early.0 late.0 early.1 late.1 none).1 place low high (up.no_cause_is_set place (omega (arith, high)))
 
     fault_since : BitsRiseWithCause port.0 old new → NoFaults port.0 start new → (new.port port.0).is 30 ≡ false
-    fault_since goes none = goes.changes_by_errors.fault (laws.tape.no_faults_in_parts port.0 start old new early.0 late.0 early.1 late.1 none).1 (up.no_cause_is_set 30 (omega arith))
+    fault_since goes none = goes.error_bits_rise_by_errors.fault (laws.tape.no_faults_in_parts port.0 start old new early.0 late.0 early.1 late.1 none).1 (up.no_cause_is_set 30 (omega arith))
 
     -- where no disk went or came, and nothing else went wrong since the port was up
     no_trouble : BitsRiseWithCause port.0 old new → NoPlugEvents port.0 start new → Undisturbed port.0 old new → ShowsNoTrouble (new.port port.0)
@@ -156,9 +156,9 @@ module _ (laws : Laws) where
         record {
           serr_n_is_clear = clear.serr_n_is_clear plugs;
           serr_x_is_clear = clear.serr_x_is_clear (laws.tape.no_plug_event_no_disk port.0 start new plugs);
-          no_error_bit_is_set = λ place low high. elim (cases_eq place 30) [
-            | inl e ↦ let P : ℕ → Type 0 = λ k. (new.port port.0).is k ≡ false in subst P (sym e) (goes.changes_by_errors.fault (laws.undisturbed_has_no_fault port.0 old new calm) (up.no_cause_is_set 30 (omega arith)))
-            | inr ne ↦ goes.changes_by_errors.fatal (laws.undisturbed_has_no_fatal port.0 old new calm) place low (omega (arith, high, ne)) (up.no_cause_is_set place (omega (arith, high)))
+          bits_27_to_30_are_clear = λ place low high. elim (cases_eq place 30) [
+            | inl e ↦ let P : ℕ → Type 0 = λ k. (new.port port.0).is k ≡ false in subst P (sym e) (goes.error_bits_rise_by_errors.fault (laws.undisturbed_has_no_fault port.0 old new calm) (up.no_cause_is_set 30 (omega arith)))
+            | inr ne ↦ goes.error_bits_rise_by_errors.fatal (laws.undisturbed_has_no_fatal port.0 old new calm) place low (omega (arith, high, ne)) (up.no_cause_is_set place (omega (arith, high)))
           ];
         }
 
@@ -168,31 +168,31 @@ module _ (laws : Laws) where
         let parts = calm_in_parts laws port.0 start old new early late calm in
         (parts.1, up.port_is_started (laws.undisturbed_has_no_plug_events port.0 start old parts.0))
 
-    pub shows_news : StaysRunning port.0 old new → ShowsOnlyNewErrors port.0 start new
+    pub shows_news : StaysRunningIfUndisturbed port.0 old new → ShowsOnlyNewErrors port.0 start new
     shows_news runs = record {
-      errors_are_clear = clear_since runs.bits_rise_with_cause;
-      fatal_bits_are_clear = fatal_since runs.bits_rise_with_cause;
-      tfes_is_clear = fault_since runs.bits_rise_with_cause;
+      serr_shows_only_new_plugs = clear_since runs.bits_rise_with_cause;
+      fatal_bits_show_only_new_errors = fatal_since runs.bits_rise_with_cause;
+      tfes_shows_only_new_faults = fault_since runs.bits_rise_with_cause;
       faults_are_on_record = runs.faults_are_on_record up.faults_are_on_record;
-      port_runs_well = λ calm. let s = started_then calm in laws.started_quiet_port_runs_well (new.port port.0) (runs.stays_started s.0 s.1) (no_trouble runs.bits_rise_with_cause (laws.undisturbed_has_no_plug_events port.0 start new calm) s.0);
+      port_runs_well = λ calm. let s = started_then calm in laws.started_quiet_port_runs_well (new.port port.0) (runs.undisturbed_stays_started s.0 s.1) (no_trouble runs.bits_rise_with_cause (laws.undisturbed_has_no_plug_events port.0 start new calm) s.0);
     }
 
-    pub gets_ready : AsksDiskThenEnables port old new → StaysRunning port.0 old new → BringsReady port start new
+    pub gets_ready : AsksDiskThenEnables port old new → StaysRunningIfUndisturbed port.0 old new → BringsReady port start new
     gets_ready then runs = record {
       up = old;
       brings_up = up.brings_up_port;
       asks_disk = then;
       port_runs_well = λ plugs calm.
           let parts = plugs_in_parts laws port.0 start old new early late plugs in
-          laws.started_quiet_port_runs_well (new.port port.0) (runs.stays_started calm (up.port_is_started parts.0)) (no_trouble runs.bits_rise_with_cause plugs calm);
+          laws.started_quiet_port_runs_well (new.port port.0) (runs.undisturbed_stays_started calm (up.port_is_started parts.0)) (no_trouble runs.bits_rise_with_cause plugs calm);
     }
 
-    pub ends_late : StopsWithLinkUp port old new → EndsAfterStart port start new
+    pub ends_late : StopsWithLinkUpIfUndisturbed port old new → EndsAfterStart port start new
     ends_late stops = record {
       up = old;
       brings_up = up.brings_up_port;
       asks_then_stops = stops.asks_disk_then_stops;
-      errors_are_clear = clear_since stops.bits_rise_with_cause;
+      serr_shows_only_new_plugs = clear_since stops.bits_rise_with_cause;
       no_link_is_due = stops.bits_rise_with_cause.no_link_gets_due linked;
       undisturbed_link_is_up = λ calm. let s = started_then calm in stops.link_is_up s.0 s.1;
     }
@@ -226,6 +226,6 @@ module _ (laws : Laws) where
       state_is_backed = f.state_is_backed;
       sctl_written_in_boot = λ _. since;
       boots = whole_ended laws port start old new rises.boots (Err state) f.boots;
-      ends_before_start = λ early. absurd (f.was_started early);
-      ends_after_start = λ _. ends_late port start old new rises.is_brought_up risen (driven_grows laws (IsBootAccess port) old new (boot_driven (Stops port) port old new state f.boots)) f.stops_with_link_up;
+      unstarted_state_ends_before_start = λ early. absurd (f.was_started early);
+      stopped_state_ends_after_start = λ _. ends_late port start old new rises.is_brought_up risen (driven_grows laws (IsBootAccess port) old new (boot_driven (Stops port) port old new state f.boots)) f.stops_with_link_up;
     }

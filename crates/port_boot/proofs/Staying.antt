@@ -8,9 +8,9 @@ use Rattle.adapter.specs.Access.{Access}
 use Rattle.adapter.specs.Device.{Notes, Device}
 use Rattle.adapter.specs.Device as device
 use Rattle.adapter.specs.declared.command.Operation.TheVariants.{Identify}
-use Rattle.refinement.specs.Fragments.{IsDrivenBy, SparesOtherPorts, LeavesPort, GainsNoMove}
+use Rattle.refinement.specs.Fragments.{IsDrivenBy, SparesOtherPorts, OnlyDeviceChangesPort, GainsNoMove}
 use Rattle.identify.specs.declared.DiskInfo.{DiskInfo}
-use Rattle.port_control.specs.Ports.{IsStopped, RunsWithoutCommands, SawDevice, BacksFault}
+use Rattle.port_control.specs.Ports.{IsStopped, RunsInPlaceWithoutCommands, SawDevice, BacksFault}
 use Rattle.port_control.specs.declared.PortFault.{PortFault}
 use Rattle.port_boot.specs.States.{BacksState, HasFitDiskAndInterrupts, HasLastIdentifyPage, IsBootTo, IsBootAccess, IsReadyAfterBoot, IsUnfit}
 use Rattle.port_boot.proofs.Identifying.{page_on}
@@ -22,33 +22,33 @@ pub disk_on : (wanted : Option (List ℕ)) (port : ℕ) (old new : Device) (info
     (new.port port).notes.sctl_written_at ≡ (old.port port).notes.sctl_written_at → HasFitDiskAndInterrupts wanted port old info → HasFitDiskAndInterrupts wanted port new info
 disk_on wanted port old new info silent det ie same h = record { no_comreset = det ∙ h.no_comreset; ie_is_named = ie ∙ h.ie_is_named; last_identify_page = h.last_identify_page; page_is_last = page_on port old new h.last_identify_page silent same h.page_is_last; disk_is_fit = h.disk_is_fit }
 
-module _ (old new : device.DevicePort) (l : LeavesPort old new) where
+module _ (old new : device.DevicePort) (l : OnlyDeviceChangesPort old new) where
   stopped_on : IsStopped old → IsStopped new
   stopped_on s = record {
     engine_is_stopped = record {
-      st_is_clear = l.port_is_kept_by_device.st_stays_clear s.engine_is_stopped.st_is_clear;
-      cr_is_clear = l.port_is_kept_by_device.cr_stays_clear s.engine_is_stopped.cr_is_clear;
-      no_command_is_issued = λ slot. l.port_is_kept_by_device.ci_stays_clear slot (s.engine_is_stopped.no_command_is_issued slot);
-      no_command_is_taken = l.port_is_kept_by_device.stays_without_commands s.engine_is_stopped.cr_is_clear s.engine_is_stopped.no_command_is_taken;
+      st_is_clear = l.bits_only_fall.st_stays_clear s.engine_is_stopped.st_is_clear;
+      cr_is_clear = l.bits_only_fall.cr_stays_clear s.engine_is_stopped.cr_is_clear;
+      no_command_is_issued = λ slot. l.bits_only_fall.ci_stays_clear slot (s.engine_is_stopped.no_command_is_issued slot);
+      no_command_is_taken = l.bits_only_fall.none_stays_taken_while_cr_is_clear s.engine_is_stopped.cr_is_clear s.engine_is_stopped.no_command_is_taken;
     };
-    sact_is_clear = λ slot. l.port_is_kept_by_device.sact_stays_clear slot (s.sact_is_clear slot);
+    sact_is_clear = λ slot. l.bits_only_fall.sact_stays_clear slot (s.sact_is_clear slot);
   }
 
-  running_on : (port : ℕ) → RunsWithoutCommands port old → RunsWithoutCommands port new
+  running_on : (port : ℕ) → RunsInPlaceWithoutCommands port old → RunsInPlaceWithoutCommands port new
   running_on port r = record {
     st_is_set = l.controls.st_is_kept ∙ r.st_is_set;
     cr_is_set = l.controls.engine_stays_running r.st_is_set r.cr_is_set;
     fre_is_set = l.controls.fre_is_kept ∙ r.fre_is_set;
-    areas_are_in_place = l.port_is_kept_by_device.bases_are_kept ∙ r.areas_are_in_place;
-    ci_is_clear = λ slot. l.port_is_kept_by_device.ci_stays_clear slot (r.ci_is_clear slot);
-    sact_is_clear = λ slot. l.port_is_kept_by_device.sact_stays_clear slot (r.sact_is_clear slot);
-    none_is_taken = λ slot. l.port_is_kept_by_device.slots_stay_free slot (r.ci_is_clear slot) (r.none_is_taken slot);
+    areas_are_in_place = l.bits_only_fall.bases_are_kept ∙ r.areas_are_in_place;
+    ci_is_clear = λ slot. l.bits_only_fall.ci_stays_clear slot (r.ci_is_clear slot);
+    sact_is_clear = λ slot. l.bits_only_fall.sact_stays_clear slot (r.sact_is_clear slot);
+    none_is_taken = λ slot. l.bits_only_fall.slots_stay_free slot (r.ci_is_clear slot) (r.none_is_taken slot);
   }
 
   pub noted_on : (P : Notes → Type 0) → P old.notes → P new.notes
   noted_on P = subst P (sym l.notes)
 
-module _ (port : ℕ) (old new : Device) (l : LeavesPort (old.port port) (new.port port)) where
+module _ (port : ℕ) (old new : Device) (l : OnlyDeviceChangesPort (old.port port) (new.port port)) where
   written_on : (new.port port).notes.sctl_written_at ≡ (old.port port).notes.sctl_written_at
   written_on = ap (λ (n : Notes). n.sctl_written_at) l.notes
 
@@ -67,7 +67,7 @@ module _ (port : ℕ) (old new : Device) (l : LeavesPort (old.port port) (new.po
   ends_on wanted Absent silent (stopped, shown) = (stopped_on (old.port port) (new.port port) l stopped, noted_on (old.port port) (new.port port) l (λ k. BacksFault PortFault.NoDevice k) shown)
   ends_on wanted (Unfit n) silent (stopped, unfit) = (stopped_on (old.port port) (new.port port) l stopped, unfit_on (silent (λ e. absurd cc)) n unfit)
   ends_on wanted Foreign silent (stopped, (page, has, other)) = (stopped_on (old.port port) (new.port port) l stopped, (page, page_stays (silent (λ e. absurd cc)) page has, other))
-  ends_on wanted Dead silent (st, shown) = (l.port_is_kept_by_device.st_stays_clear st, noted_on (old.port port) (new.port port) l (λ k. BacksFault PortFault.EngineStuck k) shown)
+  ends_on wanted Dead silent (st, shown) = (l.bits_only_fall.st_stays_clear st, noted_on (old.port port) (new.port port) l (λ k. BacksFault PortFault.EngineStuck k) shown)
   ends_on wanted Ready silent none = absurd none
 
   pub ready_on : (wanted : Option (List ℕ)) (info : DiskInfo) → GainsNoMove port Identify old new → IsReadyAfterBoot wanted port old info → IsReadyAfterBoot wanted port new info

@@ -10,7 +10,7 @@ use Rattle.refinement.specs.Driver.{AllFree}
 use Rattle.refinement.specs.Halting.{HaltIsOfTaken}
 use Rattle.identify.specs.declared.DiskInfo.{DiskInfo}
 use Rattle.port_control.specs.Engines.{Stops, StopsReceiving}
-use Rattle.port_boot.specs.States.{BacksState, EndsBeforeStart, EndsAfterStart, AsksDiskThenEnables, BringsReady, IsBoot, IsBootTo, IsBootRegister, IsBroughtUp, IsBeforeStart, IsAfterStart, IsBootAccess, IsReadyAfterBoot, StaysRunning, ShowsOnlyNewErrors, StopsOnWay, StopsWithLinkUp}
+use Rattle.port_boot.specs.States.{BacksState, EndsBeforeStart, EndsAfterStart, AsksDiskThenEnables, BringsReady, IsBoot, IsBootTo, IsBootRegister, IsBroughtUp, IsBeforeStart, IsStateStoppedAfterStart, IsBootAccess, IsReadyAfterBoot, StaysRunningIfUndisturbed, ShowsOnlyNewErrors, StopsOnWay, StopsWithLinkUpIfUndisturbed}
 
 -- A boot that leaves the port ready: what stands behind that; PxSCTL was written in it; what it is to a machine that
 -- agrees; and its way, with what the port shows of trouble; and what halts it is of a command that is taken.
@@ -27,8 +27,8 @@ pub record EndsUnready (wanted : Option (List ℕ)) (port : Port) (state : PortS
   pub state_is_backed : BacksState wanted state port.0 new
   pub sctl_written_in_boot : state ≢ Dead → length old.tape ≤ (new.port port.0).notes.sctl_written_at
   pub boots : IsBootTo (StopsOnWay port state) port state old new
-  pub ends_before_start : IsBeforeStart state → EndsBeforeStart port state old new
-  pub ends_after_start : IsAfterStart state → EndsAfterStart port old new
+  pub unstarted_state_ends_before_start : IsBeforeStart state → EndsBeforeStart port state old new
+  pub stopped_state_ends_after_start : IsStateStoppedAfterStart state → EndsAfterStart port old new
 
 -- ---- the first part: FISes are received, COMRESET is sent, and the port is started
 
@@ -54,12 +54,12 @@ pub record Identifies (wanted : Option (List ℕ)) (port : Port) (info : DiskInf
   pub boots : IsSimulated (IsBootAccess port) (λ uses. AllFree uses port.0) old new
   pub asks_disk : AsksDiskThenEnables port old new
   pub halt_is_of_taken : HaltIsOfTaken (new.port port.0)
-  pub runs_on : StaysRunning port.0 old new
+  pub runs_on : StaysRunningIfUndisturbed port.0 old new
 
 -- Or the port was stopped again.
 pub record FailsToIdentify (wanted : Option (List ℕ)) (port : Port) (state : PortState)
     (old new : Device) : Type 0 where
   pub state_is_backed : BacksState wanted state port.0 new
   pub boots : IsBootTo (Stops port) port state old new
-  pub stops_with_link_up : StopsWithLinkUp port old new
+  pub stops_with_link_up : StopsWithLinkUpIfUndisturbed port old new
   pub was_started : IsBeforeStart state → ⊥

@@ -22,13 +22,13 @@ use Rattle.refinement.specs.Errors.{NoDiskComes, LinkErrorsRiseByDisks, ErrorBit
 use Rattle.refinement.specs.PortFacts.{RecordsFaultsIfSt, RunsWell, Undisturbed}
 use Rattle.refinement.specs.PreservedParts.{NoPlugEvents}
 use Rattle.refinement.specs.Slots.{Own, set_slot_state, IsMove}
-use Rattle.refinement.specs.StartedPort.{IsUpForStart, IsComingUp, IsStarted}
+use Rattle.refinement.specs.StartedPort.{IsUpForStart, IsStoppedAndUpForStartIfShown, IsStarted}
 use Rattle.disk_page.specs.PageRequests.{IsPageAccess}
 use Rattle.identify.specs.IdentityPage.{Describes, IsFitPage, IsFirstUnfit, IsSerial, unfit_number}
 use Rattle.identify.specs.declared.DiskInfo.{DiskInfo}
 use Rattle.identify.specs.declared.Unfit.{Unfit as Fault}
 use Rattle.port_control.specs.Engines.{Stops, StopsReceiving, EngineSticks}
-use Rattle.port_control.specs.Ports.{FailsToStopPort, PortStops, IsCommandRegister, IsStopped, RunsWithoutCommands, IsPlacingRegister, IsResetRegister, SawDevice, BacksFault, FindsSignature, SeesResetFault, SendsComresetThen, SerrShowsOnlyNewPlugs, IsDeviceFound}
+use Rattle.port_control.specs.Ports.{FailsToStopPort, PortStops, IsCommandRegister, IsStopped, RunsInPlaceWithoutCommands, IsPlacingRegister, IsResetRegister, SawDevice, BacksFault, FindsSignature, SeesResetFault, SendsComresetThen, SerrShowsOnlyNewPlugs, IsDeviceFound}
 use Rattle.port_control.specs.declared.PortFault.{PortFault}
 use Rattle.port_control.specs.declared.PortFault.TheVariants.{NoDevice, Busy, EngineStuck, NotAta}
 
@@ -113,7 +113,7 @@ pub record HasFitDiskAndInterrupts (wanted : Option (List ℕ)) (port : ℕ) (d 
 
 -- Behind Ready stands such a disk, on a port that runs, with no command in a slot, and on which a device was seen.
 pub record IsReadyAfterBoot (wanted : Option (List ℕ)) (port : ℕ) (d : Device) (info : DiskInfo) : Type 0 where
-  pub runs : RunsWithoutCommands port (d.port port)
+  pub runs : RunsInPlaceWithoutCommands port (d.port port)
   pub device_was_seen : SawDevice (d.port port).notes
   pub has_fit_disk : HasFitDiskAndInterrupts wanted port d info
 
@@ -151,7 +151,7 @@ pub record BringsUpPort (port : Port) (old new : Device) : Type 0 where
   pub found : Device
   pub resets : SendsComresetThen port (FindsSignature port 0x101) placed found
   pub starts : IsDrivenBy (ReadsPortOrWrites IsCommandRegister port) found new
-  pub st_set_is_last : (new.port port.0).notes.st_set_at ≡ length new.tape
+  pub tape_is_as_at_st_set : (new.port port.0).notes.st_set_at ≡ length new.tape
 
 -- The disk was asked for its page; and last of all the port was made to tell of the causes of interrupts.
 pub record AsksDiskThenEnables (port : Port) (old new : Device) : Type 0 where
@@ -175,7 +175,8 @@ pub record EndsBeforeStart (port : Port) (state : PortState) (old new : Device) 
   pub placed : Device
   pub places : IsDrivenBy (ReadsPortOrWrites IsPlacingRegister port) old placed
   pub resets : SendsComresetThen port (SeesResetFault port fault) placed new
-  pub link_is_coming_up : NoDiskComes port.0 old new → IsComingUp (new.port port.0)
+  pub link_is_up_if_shown_unless_disk_comes : NoDiskComes port.0 old new
+      → IsStoppedAndUpForStartIfShown (new.port port.0)
   pub device_is_found : fault ≢ NoDevice → IsDeviceFound port.0 old new
 
 -- the states in which a port wasn't started
@@ -185,15 +186,15 @@ IsBeforeStart (Unfit n) = (n ≡ 7) ⊎ (n ≡ 8)
 IsBeforeStart _ = ⊥
 
 -- those in which it was started, and stopped again
-abbrev pub IsAfterStart : PortState → Type 0
-IsAfterStart Foreign = Unit {0}
-IsAfterStart (Unfit n) = (n ≢ 7) × (n ≢ 8)
-IsAfterStart _ = ⊥
+abbrev pub IsStateStoppedAfterStart : PortState → Type 0
+IsStateStoppedAfterStart Foreign = Unit {0}
+IsStateStoppedAfterStart (Unfit n) = (n ≢ 7) × (n ≢ 8)
+IsStateStoppedAfterStart _ = ⊥
 
 -- What the accesses of a boot to a state that isn't Dead tell of the port's engines: the one that receives FISes fell;
 -- and where the port was started, so did the other.
 abbrev pub StopsOnWay : Port → PortState → List Access → Type 0
-StopsOnWay port state accesses = StopsReceiving port accesses × (IsAfterStart state → Stops port accesses)
+StopsOnWay port state accesses = StopsReceiving port accesses × (IsStateStoppedAfterStart state → Stops port accesses)
 
 -- ---- what a port shows of trouble after a boot
 
@@ -201,10 +202,10 @@ StopsOnWay port state accesses = StopsReceiving port accesses × (IsAfterStart s
 -- and HBFS of PxIS tell a fatal error since, and TFES a fault. Faults since ST was set are on record, so that no link
 -- is due. And where none of these is on the tape, the port runs well.
 pub record ShowsOnlyNewErrors (port : ℕ) (old new : Device) : Type 0 where
-  pub errors_are_clear : SerrShowsOnlyNewPlugs port old new
-  pub fatal_bits_are_clear : NoFatalErrors port old new → (place : ℕ) → 27 ≤ place → place ≤ 29
+  pub serr_shows_only_new_plugs : SerrShowsOnlyNewPlugs port old new
+  pub fatal_bits_show_only_new_errors : NoFatalErrors port old new → (place : ℕ) → 27 ≤ place → place ≤ 29
       → (new.port port).is place ≡ false
-  pub tfes_is_clear : NoFaults port old new → (new.port port).is 30 ≡ false
+  pub tfes_shows_only_new_faults : NoFaults port old new → (new.port port).is 30 ≡ false
   pub faults_are_on_record : RecordsFaultsIfSt new.tape (new.port port) port
   pub port_runs_well : Undisturbed port old new → RunsWell (new.port port)
 
@@ -220,7 +221,7 @@ pub record EndsAfterStart (port : Port) (old new : Device) : Type 0 where
   pub up : Device
   pub brings_up : BringsUpPort port old up
   pub asks_then_stops : AsksThenStops port up new
-  pub errors_are_clear : SerrShowsOnlyNewPlugs port.0 old new
+  pub serr_shows_only_new_plugs : SerrShowsOnlyNewPlugs port.0 old new
   pub no_link_is_due : (new.port port.0).link_due ≡ false
   pub undisturbed_link_is_up : Undisturbed port.0 old new → IsUpForStart (new.port port.0)
 
@@ -228,7 +229,7 @@ pub record EndsAfterStart (port : Port) (old new : Device) : Type 0 where
 
 -- The adapter is on and has the port and memory for the driver's frames; some machine agrees with a driver that uses no
 -- slot of the port.
-pub record IsBootable (port : Port) (d : Device) : Type 0 where
+pub record IsOnWithPortMemoryAndFreeSlots (port : Port) (d : Device) : Type 0 where
   pub adapter_is_on : IsOn d
   pub has_port : HasPort d port.0
   pub driver_memory_fits : DRIVER_BYTES ≤ d.memory_size
@@ -238,8 +239,8 @@ pub record IsBootable (port : Port) (d : Device) : Type 0 where
 -- clear, PxSERR tells no disk of before, the record of faults begins, and where no disk went or came, the port is
 -- started with its link up.
 pub record IsBroughtUp (port : Port) (old new : Device) : Type 0 where
-  pub bootable : IsBootable port new
-  pub runs : RunsWithoutCommands port.0 (new.port port.0)
+  pub bootable : IsOnWithPortMemoryAndFreeSlots port new
+  pub runs : RunsInPlaceWithoutCommands port.0 (new.port port.0)
   pub no_comreset : (new.port port.0).sctl_det ≡ 0
   pub device_was_seen : SawDevice (new.port port.0).notes
   pub st_set_in_tape : (new.port port.0).notes.st_set_at ≤ length new.tape
@@ -247,7 +248,7 @@ pub record IsBroughtUp (port : Port) (old new : Device) : Type 0 where
   pub sctl_time_in_tape : (new.port port.0).notes.sctl_written_at ≤ length new.tape
   pub brings_up_port : BringsUpPort port old new
   pub no_cause_is_set : (place : ℕ) → place < 32 → (new.port port.0).is place ≡ false
-  pub errors_are_clear : SerrShowsOnlyNewPlugs port.0 old new
+  pub serr_shows_only_new_plugs : SerrShowsOnlyNewPlugs port.0 old new
   pub faults_are_on_record : RecordsFaultsIfSt new.tape (new.port port.0) port.0
   pub port_is_started : NoPlugEvents port.0 old new → IsStarted (new.port port.0)
 
@@ -255,26 +256,26 @@ pub record IsBroughtUp (port : Port) (old new : Device) : Type 0 where
 -- trouble that PxIS tells by errors alone.
 pub record BitsRiseWithCause (port : ℕ) (old new : Device) : Type 0 where
   pub no_link_gets_due : (old.port port).link_due ≡ false → (new.port port).link_due ≡ false
-  pub changes_by_disks : (old.port port).link_due ≡ false → LinkErrorsRiseByDisks port old new
-  pub changes_by_errors : ErrorBitsRiseByErrors port old new
+  pub link_errors_rise_by_disks : (old.port port).link_due ≡ false → LinkErrorsRiseByDisks port old new
+  pub error_bits_rise_by_errors : ErrorBitsRiseByErrors port old new
 
 -- and while ST isn't cleared either: a port that was started is so still where nothing went wrong, and the record of
 -- faults goes on
-pub record StaysRunning (port : ℕ) (old new : Device) : Type 0 where
+pub record StaysRunningIfUndisturbed (port : ℕ) (old new : Device) : Type 0 where
   pub bits_rise_with_cause : BitsRiseWithCause port old new
-  pub stays_started : Undisturbed port old new → IsStarted (old.port port) → IsStarted (new.port port)
+  pub undisturbed_stays_started : Undisturbed port old new → IsStarted (old.port port) → IsStarted (new.port port)
   pub faults_are_on_record : RecordsFaultsIfSt old.tape (old.port port) port
       → RecordsFaultsIfSt new.tape (new.port port) port
 
 -- and where ST is cleared in the end, the link of a port that was started is up
-pub record StopsWithLinkUp (port : Port) (old new : Device) : Type 0 where
+pub record StopsWithLinkUpIfUndisturbed (port : Port) (old new : Device) : Type 0 where
   pub asks_disk_then_stops : AsksThenStops port old new
   pub bits_rise_with_cause : BitsRiseWithCause port.0 old new
   pub link_is_up : Undisturbed port.0 old new → IsStarted (old.port port.0) → IsUpForStart (new.port port.0)
 
 -- The port was stopped, and is in this state; or its engine is stuck, and it is dead.
-abbrev pub IsStoppedAs : Port → PortState → PortState → Device → Device → Type 0
-IsStoppedAs port wanted state old new = ((state ≡ wanted) × PortStops port old new)
+abbrev pub IsStoppedAsOrStuck : Port → PortState → PortState → Device → Device → Type 0
+IsStoppedAsOrStuck port wanted state old new = ((state ≡ wanted) × PortStops port old new)
     ⊎ ((state ≡ Dead) × ((new.port port.0).st ≡ false) × FailsToStopPort port old new)
 
 -- ---- what a port shows

@@ -3,9 +3,9 @@ ghost use Rattle.std.specs.Prelude.{ℕ, ◌≡◌, ◌≢◌, ◌++◌, true, f
 ghost use Rattle.ata_types.specs.{declared.Port.{Port}, declared.PortState.{PortState}, declared.PortState.TheVariants.{Dead}};
 ghost use Rattle.hba_regs.specs.{declared.reg.PortReg.TheVariants.{Cmd, Sctl}, declared.reg.Reg.TheVariants.{Ghc, Px}};
 ghost use Rattle.adapter.specs.{Access.{Access, Does, DoesAll, is_named_cause, is_pending, shown_interrupt}, Device.{Device}, PendingInterrupts.{LeavesIe, KeepsIsBit, SetsCause, interrupting_port}, Rules.{IsOn}, Steps.{Can, DeviceTransition, Steps, device_after}, declared.tape.Entry.{Entry}, declared.command.Operation.TheVariants.{Identify}};
-ghost use Rattle.refinement.specs.{Fragments.{ReadsPortOrWrites, IsDrivenBy, SparesOtherPorts, LeavesPort, GainsNoMove}, PortFacts.{RunsWell, Undisturbed}, PreservedParts.{DoesNotWrite}};
+ghost use Rattle.refinement.specs.{Fragments.{ReadsPortOrWrites, IsDrivenBy, SparesOtherPorts, OnlyDeviceChangesPort, GainsNoMove}, PortFacts.{RunsWell, Undisturbed}, PreservedParts.{DoesNotWrite}};
 ghost use Rattle.identify.specs.declared.DiskInfo.{DiskInfo};
-ghost use Rattle.port_boot.specs.States.{BacksState, BringsReady, HasFitDiskAndInterrupts, HasLastIdentifyPage, IsBootTo, IsBootAccess, IsReadyAfterBoot, StaysRunning, ShownDiskIsIn, StopsOnWay};
+ghost use Rattle.port_boot.specs.States.{BacksState, BringsReady, HasFitDiskAndInterrupts, HasLastIdentifyPage, IsBootTo, IsBootAccess, IsReadyAfterBoot, StaysRunningIfUndisturbed, ShownDiskIsIn, StopsOnWay};
 ghost use Rattle.port_control.specs.{Engines.{StopsBothEngines}, Ports.{IsCommandRegister}};
 
 use super::prerequisites::law_prerequisites;
@@ -26,11 +26,11 @@ pub fn law_what_was_found_goes_on()
         ≡ (old.port port).notes.sctl_written_at → HasFitDiskAndInterrupts wanted port old info
         → HasFitDiskAndInterrupts wanted port new info }
     ensures ready { (wanted : Option (List ℕ)) (port : ℕ) (old new : Device) (info : DiskInfo)
-        → LeavesPort (old.port port) (new.port port) → GainsNoMove port Identify old new
+        → OnlyDeviceChangesPort (old.port port) (new.port port) → GainsNoMove port Identify old new
         → IsReadyAfterBoot wanted port old info
         → IsReadyAfterBoot wanted port new info }
     ensures state_stays_backed { (wanted : Option (List ℕ)) (state : PortState) (port : ℕ) (old new : Device)
-        → LeavesPort (old.port port) (new.port port) → (state ≢ Dead → GainsNoMove port Identify old new)
+        → OnlyDeviceChangesPort (old.port port) (new.port port) → (state ≢ Dead → GainsNoMove port Identify old new)
         → BacksState wanted state port old → BacksState wanted state port new }
 {}
 
@@ -72,7 +72,8 @@ pub fn law_boots_are_driven()
     ensures stops { (port : Port) (state : PortState) (old new : Device)
         → IsBootTo (StopsBothEngines port) port state old new
         → IsDrivenBy (IsBootAccess port) old new }
-    ensures commanding { (port : Port) (access : Access) → ReadsPortOrWrites IsCommandRegister port access
+    ensures cmd_access_is_boot_access { (port : Port) (access : Access)
+        → ReadsPortOrWrites IsCommandRegister port access
         → IsBootAccess port access }
 {
     law_prerequisites();
@@ -83,12 +84,12 @@ pub fn law_boots_are_driven()
 pub fn law_a_port_runs_on()
     ensures one_access { (port : Port) (access : Access) (old new : Device) → IsOn old
         → DoesNotWrite (Px port Sctl) access
-        → DoesNotWrite (Px port Cmd) access → Does access old new → StaysRunning port.0 old new }
+        → DoesNotWrite (Px port Cmd) access → Does access old new → StaysRunningIfUndisturbed port.0 old new }
     ensures more_accesses { (port : Port) (accesses : List Access) (old new : Device) → IsOn old
         → DoesAll accesses old new
         → All (DoesNotWrite Ghc) accesses → All (DoesNotWrite (Px port Sctl)) accesses
-        → All (DoesNotWrite (Px port Cmd)) accesses → StaysRunning port.0 old new }
-    ensures healthy_port_stays_well { (port : ℕ) (old new : Device) → StaysRunning port old new
+        → All (DoesNotWrite (Px port Cmd)) accesses → StaysRunningIfUndisturbed port.0 old new }
+    ensures healthy_port_stays_well { (port : ℕ) (old new : Device) → StaysRunningIfUndisturbed port old new
         → Undisturbed port old new
         → RunsWell (old.port port) → RunsWell (new.port port) }
 {
@@ -98,7 +99,7 @@ pub fn law_a_port_runs_on()
 /// Where a port shows a device, a disk is in: this goes on, whatever the device does, and over each access, also one
 /// that resets the adapter. And a boot that leaves its port ready begins it, since COMRESET has a port show no device
 /// until its link comes up.
-pub fn law_a_disk_is_in_where_one_shows()
+pub fn law_shown_disk_is_in_is_kept()
     ensures steps { (port : ℕ) (old new : Device) → Steps old new → ShownDiskIsIn (old.port port)
         → ShownDiskIsIn (new.port port) }
     ensures access { (port : ℕ) (access : Access) (old new : Device) → Does access old new

@@ -9,7 +9,7 @@ ghost use Rattle.std.specs.Prelude.{Option, ◌≡◌, ◌↔◌, IsTrue, IfOk, 
 ghost use Rattle.adapter.specs.{Access.{named_causes_mask}, Device.{Device}, Rules.{IsOn, HasPort}, AccessBounds.{MakesAtMost}};
 ghost use Rattle.refinement.specs.Fragments.{SomeMachineAgreesWith, AnySlotStates};
 ghost use Rattle.port_control.specs.{Ports.{IsStopped, ClearsStAlone}, Costs.{STOP_ACCESSES}};
-ghost use Rattle.port_boot.specs.{Outcomes.{EndsReady, EndsUnready, FailsToIdentify, BootFailsToBringUp, Identifies, BootBringsUp}, States.{IsStateOfFault, SerialMatches, IsFitAndWanted, IsStateByPage, IsBootable, IsBroughtUp, IsStoppedAs}, Costs.{BOOT_ACCESSES, IDENTIFY_ACCESSES, BRING_UP_ACCESSES}};
+ghost use Rattle.port_boot.specs.{Outcomes.{EndsReady, EndsUnready, FailsToIdentify, BootFailsToBringUp, Identifies, BootBringsUp}, States.{IsStateOfFault, SerialMatches, IsFitAndWanted, IsStateByPage, IsOnWithPortMemoryAndFreeSlots, IsBroughtUp, IsStoppedAsOrStuck}, Costs.{BOOT_ACCESSES, IDENTIFY_ACCESSES, BRING_UP_ACCESSES}};
 
 use adapter::Adapter;
 use ata_types::{Port, PortState};
@@ -72,7 +72,7 @@ fn judge(page: &[u8; 512], wanted: &Option<[u8; 20]>) -> Result<DiskInfo, PortSt
 /// Has a stopped port receive FISes, sends COMRESET, and starts the port where it finds an ATA disk that is idle; else
 /// the state that tells what was found.
 fn bring_up<A: Adapter>(adapter: &mut A, stopped: Stopped) -> Result<Running, PortState>
-    requires bootable { IsBootable stopped.port (A.device adapter.old) }
+    requires bootable { IsOnWithPortMemoryAndFreeSlots stopped.port (A.device adapter.old) }
     requires stopped { IsStopped ((A.device adapter.old).port stopped.port.0) }
     ensures adapter_is_on { IsOn (A.device adapter.new) }
     ensures names { IfOk result (λ running. running.port ≡ stopped.port) }
@@ -99,7 +99,7 @@ fn halt<A: Adapter>(adapter: &mut A, port: Port, state: PortState) -> PortState
     requires some_machine_agrees { SomeMachineAgreesWith AnySlotStates (A.device adapter.old) }
     ensures adapter_is_on { IsOn (A.device adapter.new) }
     ensures has { ClearsStAlone ((A.device adapter.old).port port.0) ((A.device adapter.new).port port.0) }
-    ensures halted { IsStoppedAs port state result (A.device adapter.old) (A.device adapter.new) }
+    ensures halted { IsStoppedAsOrStuck port state result (A.device adapter.old) (A.device adapter.new) }
     ensures cost { MakesAtMost STOP_ACCESSES (A.access_count adapter.old) (A.access_count adapter.new) }
 {
     match stop(adapter, port) {
@@ -157,7 +157,7 @@ pub fn boot<A: Adapter>(
     stopped: Stopped,
     wanted: &Option<[u8; 20]>,
 ) -> Result<DiskInfo, PortState>
-    requires bootable { IsBootable stopped.port (A.device adapter.old) }
+    requires bootable { IsOnWithPortMemoryAndFreeSlots stopped.port (A.device adapter.old) }
     requires stopped { IsStopped ((A.device adapter.old).port stopped.port.0) }
     ensures adapter_is_on { IsOn (A.device adapter.new) }
     ensures ready { IfOk result (λ info. EndsReady wanted.now stopped.port info (A.device adapter.old)

@@ -4,14 +4,17 @@ ghost use Rattle.port_boot.specs.Laws.{Laws};
 use adapter::laws::law_port_register_accesses;
 use disk_page::laws::law_asking_is_of_one_port;
 use port_control::laws::law_what_is_told_of_engines_stays;
-use refinement::access_kinds::{law_controls_are_of_a_port, law_fragment_prerequisites};
+use refinement::access_kinds::{
+    law_fragment_prerequisites, law_port_register_accesses_are_of_port,
+};
 use refinement::fragments::{
     law_other_ports_are_untouched, law_tape_prerequisites, law_unused_slots_are_silent,
 };
-use refinement::laws::law_writing_stays_permitted;
+use refinement::laws::law_writes_but_ci_stay_permitted;
 use refinement::port_facts::{
-    law_adapter_stays, law_cleared_stays, law_faults_are_recorded, law_link_comes_up,
-    law_running_well_is_found, law_undisturbed_ports_tell_nothing,
+    law_adapter_stays, law_clear_error_bits_stay_clear, law_faults_are_recorded,
+    law_running_well_is_found, law_shown_link_is_up_for_start,
+    law_undisturbed_has_no_error_or_plug,
 };
 use refinement::recovering::law_halts_are_of_taken_commands;
 use std::marker::Brand;
@@ -22,14 +25,14 @@ pub fn law_prerequisites()
 {
     law_port_register_accesses();
     law_adapter_stays();
-    law_cleared_stays();
+    law_clear_error_bits_stay_clear();
     law_faults_are_recorded();
-    law_link_comes_up();
-    law_undisturbed_ports_tell_nothing();
+    law_shown_link_is_up_for_start();
+    law_undisturbed_has_no_error_or_plug();
     law_running_well_is_found();
     law_fragment_prerequisites::<Brand>();
-    law_controls_are_of_a_port::<Brand>();
-    law_writing_stays_permitted();
+    law_port_register_accesses_are_of_port::<Brand>();
+    law_writes_but_ci_stay_permitted();
     law_halts_are_of_taken_commands();
     law_other_ports_are_untouched();
     law_tape_prerequisites();

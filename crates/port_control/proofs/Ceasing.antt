@@ -16,7 +16,7 @@ use Rattle.refinement.specs.Driver.{KeepsSlotStates}
 use Rattle.refinement.specs.PortFacts.{IsQuiescentPort}
 use Rattle.refinement.specs.Slots.{SlotStates}
 use Rattle.port_control.specs.Engines.{AwaitsEngineStop, EngineFalls, ShowsStillRunning}
-use Rattle.port_control.specs.Ports.{IsCommandRegister, IsOnAndAgrees, IsStopped, IsStoppedReceiving, SameSctlAndNotes, ClearsStAlone, programmed_bases}
+use Rattle.port_control.specs.Ports.{IsCommandRegister, IsOnWithPortAndAgrees, IsStopped, IsStoppedReceiving, SameSctlAndNotesButCmd, ClearsStAlone, programmed_bases}
 use Rattle.port_control.proofs.Awaiting.{awaits_none, awaits_more, awaits_falls}
 use Rattle.port_control.proofs.Using.{usable_after, usable_read, beside_then, beside_read, beside_command, bases_command, stopped_on, stopped_read, stopped_write}
 use Rattle.port_control.specs.Laws.RegisterSet.{Commanding}
@@ -31,25 +31,25 @@ IsButAt at was v = (k : ℕ) → k < 32 → k ≢ at → bit v k ≡ bit was k
 -- ST was cleared, and so many readings found CR set
 pub record IsFalling (port : Port) (start : Device) (n : ℕ) (d : Device) : Type 0 where
   pub told : IsSimulatedAlong (AwaitsEngineStop 0 15 port n) (ReadsPortOrWrites IsCommandRegister port) AnySlotStates start d
-  pub usable : IsOnAndAgrees AnySlotStates port d
+  pub usable : IsOnWithPortAndAgrees AnySlotStates port d
   pub has : ClearsStAlone (start.port port.0) (d.port port.0)
-  pub low : n ≤ (d.port port.0).notes.engine_count
-  pub high : 0 < n → (d.port port.0).notes.engine_count ≤ MOST_READINGS
+  pub low : n ≤ (d.port port.0).notes.engine_wait_count
+  pub high : 0 < n → (d.port port.0).notes.engine_wait_count ≤ MOST_READINGS
 
 -- the port is stopped still, FRE is 0, and all else is as it was
 pub record HasEmptied (port : Port) (start d : Device) : Type 0 where
-  pub usable : IsOnAndAgrees AnySlotStates port d
+  pub usable : IsOnWithPortAndAgrees AnySlotStates port d
   pub stopped : IsStopped (d.port port.0)
   pub fre : (d.port port.0).fre ≡ false
   pub bases : (d.port port.0).bases ≡ (start.port port.0).bases
-  pub same : SameSctlAndNotes (start.port port.0) (d.port port.0)
+  pub same : SameSctlAndNotesButCmd (start.port port.0) (d.port port.0)
 
 -- FRE was cleared, and so many readings found FR set
 pub record IsEmptying (port : Port) (start : Device) (n : ℕ) (d : Device) : Type 0 where
   pub told : IsSimulatedAlong (AwaitsEngineStop 4 14 port n) (ReadsPortOrWrites IsCommandRegister port) AnySlotStates start d
   pub has : HasEmptied port start d
-  pub low : n ≤ (d.port port.0).notes.engine_count
-  pub high : 0 < n → (d.port port.0).notes.engine_count ≤ MOST_READINGS
+  pub low : n ≤ (d.port port.0).notes.engine_wait_count
+  pub high : 0 < n → (d.port port.0).notes.engine_wait_count ≤ MOST_READINGS
 
 -- one more reading that the wait goes on for
 pub counted_again : (again : Bool) (n count : ℕ) → again ≡ true → n ≤ count → n < MOST_READINGS → (n + 1 ≤ count_after_reading again count) × (count_after_reading again count ≤ MOST_READINGS)
@@ -102,11 +102,11 @@ module _ (laws : Laws) where
     told_awaits n all old new a = subst (λ (k : ℕ). IsSimulatedAlong (AwaitsEngineStop start running port k) (ReadsPortOrWrites IsCommandRegister port) AnySlotStates old new) all a
 
   -- PxCMD is read, and written
-  module _ (port : Port) (was v : ℕ) (old mid : Device) (u : IsOnAndAgrees AnySlotStates port old) (read : Reads (Px port Cmd) was old mid) where
+  module _ (port : Port) (was v : ℕ) (old mid : Device) (u : IsOnWithPortAndAgrees AnySlotStates port old) (read : Reads (Px port Cmd) was old mid) where
     p : DevicePort
     p = mid.port port.0
 
-    here : IsOnAndAgrees AnySlotStates port mid
+    here : IsOnWithPortAndAgrees AnySlotStates port mid
     here = usable_read laws AnySlotStates port Cmd was old mid u read
 
     s : PortRegisterRead port.0 Cmd was old mid
@@ -133,7 +133,7 @@ module _ (laws : Laws) where
       stop_leaves : (uses : SlotStates) → AnySlotStates uses → KeepsSlotStates uses (Px port Cmd) v mid
       stop_leaves uses is = record {
         start = λ on. absurd (true≢false (sym on ∙ zero));
-        receive = λ on. let r = here.machine_is_related.2.driver_relation.state_relation.received_areas_are_placed port.0 (sym fre_same ∙ on) in (r.port_is_below_4, r.area_is_in_place);
+        receive = λ on. let r = here.machine_is_related.2.driver_relation.state_relation.received_areas_in_use_are_placed port.0 (sym fre_same ∙ on) in (r.port_is_below_4, r.area_is_in_place);
       }
 
       module _ (new : Device) (write : Writes (Px port Cmd) v mid new) where
@@ -142,7 +142,7 @@ module _ (laws : Laws) where
 
         pub stop_has : ClearsStAlone (old.port port.0) (new.port port.0)
         stop_has =
-            let after : IsOnAndAgrees AnySlotStates port new = usable_after laws Commanding port old new u stop_told.is_simulated in
+            let after : IsOnWithPortAndAgrees AnySlotStates port new = usable_after laws Commanding port old new u stop_told.is_simulated in
             let set = laws.cmd_write_sets_st_and_fre port v mid new write in
             let same = beside_then (old.port port.0) (mid.port port.0) (new.port port.0) (beside_read laws port was old mid u.adapter_is_on.no_reset read) (beside_command laws port v mid new here.adapter_is_on.no_reset zero write) in
             let bits : (slot : ℕ) → ((new.port port.0).ci slot ≡ false) × ((new.port port.0).sact slot ≡ false) =
@@ -174,7 +174,7 @@ module _ (laws : Laws) where
 
       module _ (new : Device) (write : Writes (Px port Cmd) v mid new) where
         pub empty_begins : IsSimulatedAlong (AwaitsEngineStop 4 14 port 0) (ReadsPortOrWrites IsCommandRegister port) AnySlotStates old new × IsStopped (new.port port.0) × ((new.port port.0).fre ≡ false)
-            × ((new.port port.0).bases ≡ (old.port port.0).bases) × SameSctlAndNotes (old.port port.0) (new.port port.0)
+            × ((new.port port.0).bases ≡ (old.port port.0).bases) × SameSctlAndNotesButCmd (old.port port.0) (new.port port.0)
         empty_begins = (
           told_clears 4 14 port was v old mid new zero read empty_may empty_leaves write,
           stopped_write laws port Cmd v mid new empty_may (λ _. st_zero) (λ (e : Cmd ≡ Sact). cc) write still,
@@ -204,7 +204,7 @@ module _ (laws : Laws) where
       receive_leaves uses is = record { start = λ on. absurd (true≢false (sym on ∙ (st_same ∙ stands.engine_is_stopped.st_is_clear))); receive = λ on. (here.has_port.0, ap (λ (b : Bases). b.fb) in_place) }
 
       module _ (new : Device) (write : Writes (Px port Cmd) v mid new) where
-        pub receive_done : IsSimulated (ReadsPortOrWrites IsCommandRegister port) AnySlotStates old new × IsStoppedReceiving port.0 (new.port port.0) × SameSctlAndNotes (old.port port.0) (new.port port.0)
+        pub receive_done : IsSimulated (ReadsPortOrWrites IsCommandRegister port) AnySlotStates old new × IsStoppedReceiving port.0 (new.port port.0) × SameSctlAndNotesButCmd (old.port port.0) (new.port port.0)
         receive_done = (
           followed_then laws (Controlling Commanding port) old mid new (reading port was old mid read)
               (followed_write laws (Controlling Commanding port) (Px port Cmd) v mid new (refl, refl) receive_may receive_leaves write),
@@ -224,7 +224,7 @@ module _ (laws : Laws) where
     pub falls : bit v 15 ≡ false → IsSimulatedAlong (EngineFalls 0 15 port) (ReadsPortOrWrites IsCommandRegister port) AnySlotStates start e
     falls clear = told_falls 0 15 port n v start d e w.told call clear
 
-    pub falling_on : IsOnAndAgrees AnySlotStates port e
+    pub falling_on : IsOnWithPortAndAgrees AnySlotStates port e
     falling_on = usable_read laws AnySlotStates port Cmd v d e w.usable call
 
     pub has_still : ClearsStAlone (start.port port.0) (e.port port.0)
@@ -254,8 +254,8 @@ module _ (laws : Laws) where
 
     pub falls_still : n < MOST_READINGS → bit v 15 ≡ true → IsFalling port start (n + 1) e
     falls_still small set =
-        let count = ap (λ (k : Notes). k.engine_count) (laws.notes_read port Cmd v d e off call) in
-        let one = counted_again _ n (d.port port.0).notes.engine_count (awaited set) w.low small in
+        let count = ap (λ (k : Notes). k.engine_wait_count) (laws.notes_read port Cmd v d e off call) in
+        let one = counted_again _ n (d.port port.0).notes.engine_wait_count (awaited set) w.low small in
         record {
           told = told_stuck 0 15 port n v start d e w.told call ((laws.shown_after port Cmd v d e off call).0 ∙ has_still.st_is_clear, set);
           usable = falling_on;
@@ -291,8 +291,8 @@ module _ (laws : Laws) where
 
     pub empties_still : n < MOST_READINGS → bit v 14 ≡ true → IsEmptying port start (n + 1) e
     empties_still small set =
-        let count = ap (λ (k : Notes). k.engine_count) (laws.notes_read port Cmd v d e quiet call) in
-        let one = counted_again _ n (d.port port.0).notes.engine_count (held set) w.low small in
+        let count = ap (λ (k : Notes). k.engine_wait_count) (laws.notes_read port Cmd v d e quiet call) in
+        let one = counted_again _ n (d.port port.0).notes.engine_wait_count (held set) w.low small in
         record {
           told = told_stuck 4 14 port n v start d e w.told call ((laws.shown_after port Cmd v d e quiet call).1 ∙ empties.fre, set);
           has = empties;

@@ -12,7 +12,7 @@ use Rattle.adapter.specs.Device.{Device}
 use Rattle.adapter.specs.Rules.{IsOn, MayWrite, IsStable}
 use Rattle.refinement.specs.Fragments.{AnySlotStates, ReadsPortOrWrites, IsSimulated}
 use Rattle.refinement.specs.PreservedParts.{DoesNotWrite}
-use Rattle.port_control.specs.Ports.{IsSerrOrIs, IsOnAndAgrees, IsStoppedReceiving, SawDevice, ClearsErrors, SerrShowsOnlyNewPlugs, ClearsErrorState}
+use Rattle.port_control.specs.Ports.{IsSerrOrIs, IsOnWithPortAndAgrees, IsStoppedReceiving, SawDevice, ClearsErrors, SerrShowsOnlyNewPlugs, ClearsErrorState}
 use Rattle.port_control.proofs.Using.{usable_after}
 use Rattle.port_control.proofs.Settling.{comes_in_parts, plugs_in_parts, Settles, settles}
 use Rattle.port_control.specs.Laws.RegisterSet.{Clearing}
@@ -24,10 +24,10 @@ pub ones : (place : ℕ) → place < 32 → bit 0xffffffff place ≡ true
 ones place small = ap (λ (n : ℕ). n == 1) (bit_at_ones 32 place small)
 
 module _ (laws : Laws) where
-  pub serr_may : (port : Port) (v : ℕ) (d : Device) → IsOnAndAgrees AnySlotStates port d → IsStable (MayWrite (Px port Serr) v) d
+  pub serr_may : (port : Port) (v : ℕ) (d : Device) → IsOnWithPortAndAgrees AnySlotStates port d → IsStable (MayWrite (Px port Serr) v) d
   serr_may port v d u = laws.write_stays (Px port Serr) v d (λ p e. cc) (u.adapter_is_on, u.has_port, tt)
 
-  pub is_may : (port : Port) (v : ℕ) (d : Device) → IsOnAndAgrees AnySlotStates port d → IsStable (MayWrite (Px port Is) v) d
+  pub is_may : (port : Port) (v : ℕ) (d : Device) → IsOnWithPortAndAgrees AnySlotStates port d → IsStable (MayWrite (Px port Is) v) d
   is_may port v d u = laws.write_stays (Px port Is) v d (λ p e. cc) (u.adapter_is_on, u.has_port, tt)
 
   -- what PxSSTS was read as stays
@@ -37,11 +37,11 @@ module _ (laws : Laws) where
       let link = (laws.access_notes port (Writing (Px port r) v) old new call).link tt in
       (ap (λ (n : ℕ). n % 16) link.0 ∙ saw.0, link.1 spares ∙ saw.1)
 
-  module _ (port : Port) (old mid new : Device) (u : IsOnAndAgrees AnySlotStates port old) (serr : Writes (Px port Serr) 0xffffffff old mid) where
+  module _ (port : Port) (old mid new : Device) (u : IsOnWithPortAndAgrees AnySlotStates port old) (serr : Writes (Px port Serr) 0xffffffff old mid) where
     pub first : IsSimulated (ReadsPortOrWrites IsSerrOrIs port) AnySlotStates old mid
     first = followed_write laws (Controlling Clearing port) (Px port Serr) 0xffffffff old mid (refl, inl refl) (serr_may port 0xffffffff old u) (λ uses is. tt) serr
 
-    pub clearing : IsOnAndAgrees AnySlotStates port mid
+    pub clearing : IsOnWithPortAndAgrees AnySlotStates port mid
     clearing = usable_after laws Clearing port old mid u first
 
     -- PxSERR tells no disk of before, whatever is cleared after it
@@ -79,10 +79,10 @@ module _ (laws : Laws) where
 
   -- ---- and PxTFD is read then
 
-  module _ (port : Port) (v : ℕ) (old mid new : Device) (u : IsOnAndAgrees AnySlotStates port old) (receives : IsStoppedReceiving port.0 (old.port port.0))
+  module _ (port : Port) (v : ℕ) (old mid new : Device) (u : IsOnWithPortAndAgrees AnySlotStates port old) (receives : IsStoppedReceiving port.0 (old.port port.0))
       (undue : (old.port port.0).link_due ≡ false) (det : (old.port port.0).sctl_det ≡ 0) (first : IsSimulated (ReadsPortOrWrites IsSerrOrIs port) AnySlotStates old mid)
       (clears : ClearsErrors port old mid) (read : Reads (Px port Tfd) v mid new) where
-    forgetting : IsOnAndAgrees AnySlotStates port mid
+    forgetting : IsOnWithPortAndAgrees AnySlotStates port mid
     forgetting = usable_after laws Clearing port old mid u first
 
     then : IsSimulated (ReadsPortOrWrites IsSerrOrIs port) AnySlotStates mid new
@@ -123,9 +123,9 @@ module _ (laws : Laws) where
           receives = after;
           last_tfd_is = laws.last_tfd_is_read port v mid new read;
           last_ssts_is_kept = same_link.0;
-          link_count_is_kept = same_link.1;
+          link_wait_count_is_kept = same_link.1;
           no_cause_is_set = quiet;
-          errors_are_clear = record {
+          serr_shows_only_new_plugs = record {
             serr_n_is_clear = λ none. let n = plugs_in_parts laws port.0 old mid new s.grows t.grows none in c.serr_n_rises_by_plug_events n.1 (clear.serr_n_is_clear n.0);
             serr_x_is_clear = λ none. let n = comes_in_parts laws port.0 old mid new s.grows t.grows none in c.serr_x_rises_by_disk_coming n.1 (clear.serr_x_is_clear n.0);
           };

@@ -15,9 +15,9 @@ use Rattle.adapter.specs.Access.Access.{Reading}
 use Rattle.adapter.specs.Device.{Notes, DevicePort, Device}
 use Rattle.refinement.specs.Fragments.{AnySlotStates, ReadsPortOrWrites, IsSimulated}
 use Rattle.refinement.specs.Errors.{NoDiskComes}
-use Rattle.refinement.specs.PortFacts.{StoppedWithDrqTillLink, IsCleanToStart, StoppedTfesClear}
-use Rattle.refinement.specs.StartedPort.{IsUpForStart, IsComingUp}
-use Rattle.port_control.specs.Ports.{IsSerrOrIs, IsOnAndAgrees, HasLink, ShowsIdle, SawDevice, SawIdle, IsVainReading, ReadsInVain, ReadsUntil, LastSignatureIsShown}
+use Rattle.refinement.specs.PortFacts.{IsStoppedWithDrqWhileLinkAwaited, IsCleanToStart, CrAndTfesAreClear}
+use Rattle.refinement.specs.StartedPort.{IsUpForStart, IsStoppedAndUpForStartIfShown}
+use Rattle.port_control.specs.Ports.{IsSerrOrIs, IsOnWithPortAndAgrees, HasLink, ShowsIdle, SawDevice, SawIdle, IsVainReading, ReadsInVain, ReadsUntil, LastSignatureIsShown}
 use Rattle.port_control.proofs.Using.{usable_read}
 use Rattle.port_control.proofs.Ceasing.{counted_again}
 use Rattle.port_control.proofs.Settling.{comes_in_parts, Settles, settles}
@@ -29,8 +29,8 @@ use Rattle.port_control.proofs.Stretching.{followed_read, followed_then}
 -- so many readings of PxSSTS showed no device with a link
 pub record IsMissing (port : Port) (start : Device) (n : ℕ) (d : Device) : Type 0 where
   pub followed : IsSimulated (ReadsPortOrWrites IsSerrOrIs port) AnySlotStates start d
-  pub usable : IsOnAndAgrees AnySlotStates port d
-  pub on : IsOnAndAgrees AnySlotStates port start
+  pub usable : IsOnWithPortAndAgrees AnySlotStates port d
+  pub on : IsOnWithPortAndAgrees AnySlotStates port start
   pub det : (d.port port.0).sctl_det ≡ 0
   pub low : n ≤ (d.port port.0).notes.link_wait_count
   pub high : 0 < n → (d.port port.0).notes.link_wait_count ≤ MOST_READINGS
@@ -39,12 +39,12 @@ pub record IsMissing (port : Port) (start : Device) (n : ℕ) (d : Device) : Typ
 
 -- a link is awaited on a port whose TFES is clear
 abbrev AwaitsEngineStop : DevicePort → Type 0
-AwaitsEngineStop p = StoppedWithDrqTillLink p × StoppedTfesClear p
+AwaitsEngineStop p = IsStoppedWithDrqWhileLinkAwaited p × CrAndTfesAreClear p
 
 -- so many readings of PxTFD showed BSY or DRQ
 pub record IsBusyStill (port : Port) (start : Device) (n : ℕ) (d : Device) : Type 0 where
   pub followed : IsSimulated (ReadsPortOrWrites IsSerrOrIs port) AnySlotStates start d
-  pub usable : IsOnAndAgrees AnySlotStates port d
+  pub usable : IsOnWithPortAndAgrees AnySlotStates port d
   pub det : (d.port port.0).sctl_det ≡ 0
   pub saw : SawDevice (d.port port.0).notes
   pub low : n ≤ (d.port port.0).notes.busy_count
@@ -106,7 +106,7 @@ module _ (laws : Laws) where
     pub device_seen : v % 16 ≡ 3 → SawDevice (e.port port.0).notes
     device_seen three = (ap (λ (k : ℕ). k % 16) missing_last ∙ three, missing_count ∙ ap (λ (k : ℕ). link_count_after_reading k (d.port port.0).notes.link_wait_count) three)
 
-    pub device_up : v % 16 ≡ 3 → NoDiskComes port.0 start e → IsComingUp (start.port port.0) → IsUpForStart (e.port port.0)
+    pub device_up : v % 16 ≡ 3 → NoDiskComes port.0 start e → IsStoppedAndUpForStartIfShown (start.port port.0) → IsUpForStart (e.port port.0)
     device_up three none coming =
         let s : Settles port start d = settles laws port start d w.on.adapter_is_on w.followed.is_driven in
         let t : Settles port d e = settles laws port d e w.usable.adapter_is_on (looks port Ssts v d e call).is_driven in
@@ -174,7 +174,7 @@ module _ (laws : Laws) where
 
   -- ---- the signature is read
 
-  module _ (port : Port) (d e : Device) (v : ℕ) (u : IsOnAndAgrees AnySlotStates port d) (call : Reads (Px port Sig) v d e) where
+  module _ (port : Port) (d e : Device) (v : ℕ) (u : IsOnWithPortAndAgrees AnySlotStates port d) (call : Reads (Px port Sig) v d e) where
     signed : (e.port port.0).notes ≡ record (d.port port.0).notes { last_sig = v }
     signed = laws.notes_read port Sig v d e u.adapter_is_on.no_reset call
 

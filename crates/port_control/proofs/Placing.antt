@@ -14,7 +14,7 @@ use Rattle.refinement.specs.Driver.{KeepsSlotStates}
 use Rattle.refinement.specs.PortFacts.{IsQuiescentPort}
 use Rattle.refinement.specs.MemoryLayout.{command_list_address, received_fis_address}
 use Rattle.refinement.specs.Slots.{SlotStates}
-use Rattle.port_control.specs.Ports.{IsPlacingRegister, IsOnAndAgrees, SameButCmdNotes, SameSctlAndNotes, programmed_bases}
+use Rattle.port_control.specs.Ports.{IsPlacingRegister, IsOnWithPortAndAgrees, SameButCmdNotes, SameSctlAndNotesButCmd, programmed_bases}
 use Rattle.port_control.proofs.Using.{usable_after, beside_none, beside_then, same_adapter}
 use Rattle.port_control.specs.Laws.AccessPurpose.{Controlling}
 use Rattle.port_control.specs.Laws.{Laws}
@@ -24,19 +24,19 @@ use Rattle.port_control.proofs.Stretching.{followed_then, followed_write}
 -- some of the four were written, and the addresses are these
 pub record IsPlacedBy (port : Port) (start d : Device) (b : Bases) : Type 0 where
   pub followed : IsSimulated (ReadsPortOrWrites IsPlacingRegister port) AnySlotStates start d
-  pub usable : IsOnAndAgrees AnySlotStates port d
+  pub usable : IsOnWithPortAndAgrees AnySlotStates port d
   pub quiet : IsQuiescentPort (d.port port.0)
   pub room : DRIVER_BYTES ≤ d.memory_size
   pub bases : (d.port port.0).bases ≡ b
-  pub same : SameSctlAndNotes (start.port port.0) (d.port port.0)
+  pub same : SameSctlAndNotesButCmd (start.port port.0) (d.port port.0)
 
 -- all four
 pub programmed_by : (port list : ℕ) (b : Bases) → list ≡ command_list_address port → (record b { clb = list; fb = list + RECEIVED_FIS_OFFSET; clb_set = true; clbu_set = true; fb_set = true; fbu_set = true }) ≡ programmed_bases port
 programmed_by port list b is = ap (λ (n : ℕ). record b { clb = n; fb = n + RECEIVED_FIS_OFFSET; clb_set = true; clbu_set = true; fb_set = true; fbu_set = true }) is
 
 module _ (laws : Laws) where
-  pub placed_first : (port : Port) (d : Device) → IsOnAndAgrees AnySlotStates port d → IsQuiescentPort (d.port port.0) → DRIVER_BYTES ≤ d.memory_size → IsPlacedBy port d d (d.port port.0).bases
-  placed_first port d u quiet room = record { followed = (laws.fragments.no_access_is_simulated (Controlling Placing port) d).is_simulated; usable = u; quiet = quiet; room = room; bases = refl; same = beside_none (d.port port.0) }
+  pub placed_first : (port : Port) (d : Device) → IsOnWithPortAndAgrees AnySlotStates port d → IsQuiescentPort (d.port port.0) → DRIVER_BYTES ≤ d.memory_size → IsPlacedBy port d d (d.port port.0).bases
+  placed_first port d u quiet room = record { followed = (laws.fragments.empty_fragment_is_simulated (Controlling Placing port) d).is_simulated; usable = u; quiet = quiet; room = room; bases = refl; same = beside_none (d.port port.0) }
 
   module _ (port : Port) (start d e : Device) (b : Bases) (w : IsPlacedBy port start d b) where
     -- one more

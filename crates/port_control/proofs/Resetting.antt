@@ -12,10 +12,10 @@ use Rattle.adapter.specs.Device.{Device}
 use Rattle.adapter.specs.Rules.{IsOn, MayWrite, IsStable}
 use Rattle.refinement.specs.Fragments.{AnySlotStates, ReadsPortOrWrites, IsSimulated}
 use Rattle.refinement.specs.Errors.{NoDiskComes}
-use Rattle.refinement.specs.PortFacts.{StoppedWithDrqTillLink, IsCleanToStart, StoppedTfesClear}
-use Rattle.refinement.specs.StartedPort.{IsUpForStart, IsComingUp}
+use Rattle.refinement.specs.PortFacts.{IsStoppedWithDrqWhileLinkAwaited, IsCleanToStart, CrAndTfesAreClear}
+use Rattle.refinement.specs.StartedPort.{IsUpForStart, IsStoppedAndUpForStartIfShown}
 use Rattle.refinement.specs.Fragments.{TapeGrows}
-use Rattle.port_control.specs.Ports.{IsSerrOrIs, IsResetRegister, IsOnAndAgrees, IsStoppedReceiving, HasLink, ShowsIdle, ReadsInVain, ReadsUntil, ClearsErrors, FindsLinkAndClearsErrors, FindsSignature, FindsBusy, SendsComresetThen, SerrShowsOnlyNewPlugs, FindsAwaitedLink, IsDeviceFound}
+use Rattle.port_control.specs.Ports.{IsSerrOrIs, IsResetRegister, IsOnWithPortAndAgrees, IsStoppedReceiving, HasLink, ShowsIdle, ReadsInVain, ReadsUntil, ClearsErrors, FindsLinkAndClearsErrors, FindsSignature, FindsBusy, SendsComresetThen, SerrShowsOnlyNewPlugs, FindsAwaitedLink, IsDeviceFound}
 use Rattle.port_control.proofs.Using.{usable_after, receiving_write, stays_on, tape_gains}
 use Rattle.port_control.proofs.Settling.{comes_in_parts, plugs_in_parts, no_start, Settles, settles}
 use Rattle.port_control.specs.Laws.RegisterSet.{Clearing, Resetting}
@@ -58,14 +58,14 @@ pub finds_signature : (port : Port) (signature : ℕ) {old linked idle new : Dev
 finds_signature port signature {old} {linked} {idle} {new} links waits reads = record { linked = linked; finds_link = links; idle = idle; waits = waits; reads = reads }
 
 module _ (laws : Laws) where
-  pub sctl_may : (port : Port) (v : ℕ) (d : Device) → IsOnAndAgrees AnySlotStates port d → IsStoppedReceiving port.0 (d.port port.0) → (v % 16 ≡ 0) ⊎ (v % 16 ≡ 1) → IsStable (MayWrite (Px port Sctl) v) d
+  pub sctl_may : (port : Port) (v : ℕ) (d : Device) → IsOnWithPortAndAgrees AnySlotStates port d → IsStoppedReceiving port.0 (d.port port.0) → (v % 16 ≡ 0) ⊎ (v % 16 ≡ 1) → IsStable (MayWrite (Px port Sctl) v) d
   sctl_may port v d u r det = laws.write_stays (Px port Sctl) v d (λ p e. cc) (u.adapter_is_on, u.has_port, (r.stopped.engine_is_stopped.st_is_clear, det))
 
-  module _ (port : Port) (old sent : Device) (u : IsOnAndAgrees AnySlotStates port old) (receives : IsStoppedReceiving port.0 (old.port port.0)) (one : Writes (Px port Sctl) 1 old sent) where
+  module _ (port : Port) (old sent : Device) (u : IsOnWithPortAndAgrees AnySlotStates port old) (receives : IsStoppedReceiving port.0 (old.port port.0)) (one : Writes (Px port Sctl) 1 old sent) where
     first : IsSimulated (ReadsPortOrWrites IsResetRegister port) AnySlotStates old sent
     first = followed_write laws (Controlling Resetting port) (Px port Sctl) 1 old sent (refl, inl refl) (sctl_may port 1 old u receives (inr refl)) (λ uses is. tt) one
 
-    sending : IsOnAndAgrees AnySlotStates port sent
+    sending : IsOnWithPortAndAgrees AnySlotStates port sent
     sending = usable_after laws Resetting port old sent u first
 
     receives_still : IsStoppedReceiving port.0 (sent.port port.0)
@@ -104,12 +104,12 @@ module _ (laws : Laws) where
             sctl_time_in_tape = omega (arith, at);
           }
 
-      pub reset_awaited : StoppedWithDrqTillLink (new.port port.0)
+      pub reset_awaited : IsStoppedWithDrqWhileLinkAwaited (new.port port.0)
       reset_awaited = laws.writes_keep_drq_till_link port.0 (Px port Sctl) 0 sent new ending_may
-          (λ d steps. ((laws.law_step_lists_keep_what_steps_keep _ _ steps).ports_are_kept port.0).cr_stays_clear receives_still.stopped.engine_is_stopped.cr_is_clear) zero
-          (laws.comreset_begins port 1 old sent receives.stopped.engine_is_stopped.cr_is_clear refl one)
+          (λ d steps. ((laws.law_step_lists_keep_what_steps_keep _ _ steps).port_bits_only_fall port.0).cr_stays_clear receives_still.stopped.engine_is_stopped.cr_is_clear) zero
+          (laws.comreset_shows_drq_till_link port 1 old sent receives.stopped.engine_is_stopped.cr_is_clear refl one)
 
-      pub reset_coming : NoDiskComes port.0 old new → IsComingUp (new.port port.0)
+      pub reset_coming : NoDiskComes port.0 old new → IsStoppedAndUpForStartIfShown (new.port port.0)
       reset_coming none =
           let parts = comes_in_parts laws port.0 old sent new early late none in
           laws.access_keeps_coming_up port (Writing (Px port Sctl) 0) sent new
@@ -117,12 +117,12 @@ module _ (laws : Laws) where
           (laws.comreset_begins_coming_up port 1 old sent receives.stopped.engine_is_stopped.cr_is_clear refl one)
 
   -- what was found since, where the link was coming up
-  pub found_on : (port : ℕ) (old mid new : Device) → TapeGrows old mid → TapeGrows mid new → (NoDiskComes port old mid → IsComingUp (mid.port port)) → StoppedWithDrqTillLink (mid.port port) → FindsAwaitedLink port mid new → IsDeviceFound port old new
+  pub found_on : (port : ℕ) (old mid new : Device) → TapeGrows old mid → TapeGrows mid new → (NoDiskComes port old mid → IsStoppedAndUpForStartIfShown (mid.port port)) → IsStoppedWithDrqWhileLinkAwaited (mid.port port) → FindsAwaitedLink port mid new → IsDeviceFound port old new
   found_on port old mid new early late coming awaited finds = record {
     no_cause_is_set = finds.no_cause_is_set;
-    errors_are_clear = record {
-      serr_n_is_clear = λ none. let parts = plugs_in_parts laws port old mid new early late none in (finds.errors_are_clear (coming (laws.tape.no_plug_event_no_disk port old mid parts.0))).serr_n_is_clear parts.1;
-      serr_x_is_clear = λ none. let parts = comes_in_parts laws port old mid new early late none in (finds.errors_are_clear (coming parts.0)).serr_x_is_clear parts.1;
+    serr_shows_only_new_plugs = record {
+      serr_n_is_clear = λ none. let parts = plugs_in_parts laws port old mid new early late none in (finds.serr_shows_only_new_plugs (coming (laws.tape.no_plug_event_no_disk port old mid parts.0))).serr_n_is_clear parts.1;
+      serr_x_is_clear = λ none. let parts = comes_in_parts laws port old mid new early late none in (finds.serr_shows_only_new_plugs (coming parts.0)).serr_x_is_clear parts.1;
     };
     no_link_is_due = λ none. let parts = comes_in_parts laws port old mid new early late none in finds.no_link_is_due parts.1 (coming parts.0);
     link_is_up = λ none. let parts = plugs_in_parts laws port old mid new early late none in finds.link_is_up parts.1 (coming (laws.tape.no_plug_event_no_disk port old mid parts.0));
@@ -130,8 +130,8 @@ module _ (laws : Laws) where
   }
 
   -- the two together
-  module _ (port : Port) (old mid new : Device) (u : IsOnAndAgrees AnySlotStates port old) (sends : IsSimulated (ReadsPortOrWrites IsResetRegister port) AnySlotStates old mid) (looks : IsSimulated (ReadsPortOrWrites IsSerrOrIs port) AnySlotStates mid new) where
-    pub looking : IsOnAndAgrees AnySlotStates port mid
+  module _ (port : Port) (old mid new : Device) (u : IsOnWithPortAndAgrees AnySlotStates port old) (sends : IsSimulated (ReadsPortOrWrites IsResetRegister port) AnySlotStates old mid) (looks : IsSimulated (ReadsPortOrWrites IsSerrOrIs port) AnySlotStates mid new) where
+    pub looking : IsOnWithPortAndAgrees AnySlotStates port mid
     looking = usable_after laws Resetting port old mid u sends
 
     pub looked : Settles port mid new
@@ -146,20 +146,20 @@ module _ (laws : Laws) where
     sent_grows : TapeGrows old mid
     sent_grows = tape_gains laws Resetting port old mid sends.is_driven
 
-    module _ (coming : NoDiskComes port.0 old mid → IsComingUp (mid.port port.0)) where
-      pub both_coming : NoDiskComes port.0 old new → IsComingUp (new.port port.0)
+    module _ (coming : NoDiskComes port.0 old mid → IsStoppedAndUpForStartIfShown (mid.port port.0)) where
+      pub both_coming : NoDiskComes port.0 old new → IsStoppedAndUpForStartIfShown (new.port port.0)
       both_coming none = let parts = comes_in_parts laws port.0 old mid new sent_grows looked.grows none in looked.coming parts.1 (coming parts.0)
 
-      pub both_found : StoppedWithDrqTillLink (mid.port port.0) → FindsAwaitedLink port.0 mid new → IsDeviceFound port.0 old new
+      pub both_found : IsStoppedWithDrqWhileLinkAwaited (mid.port port.0) → FindsAwaitedLink port.0 mid new → IsDeviceFound port.0 old new
       both_found awaited finds = found_on port.0 old mid new sent_grows looked.grows coming awaited finds
 
   -- ---- looking for the device
 
   module _ (port : Port) (old seen cleared new : Device) (receives : IsStoppedReceiving port.0 (old.port port.0)) (a : Settles port old seen) (b : Settles port seen cleared) (c : Settles port cleared new)
-      (up : NoDiskComes port.0 old seen → IsComingUp (old.port port.0) → IsUpForStart (seen.port port.0))
+      (up : NoDiskComes port.0 old seen → IsStoppedAndUpForStartIfShown (old.port port.0) → IsUpForStart (seen.port port.0))
       (calm : (place : ℕ) → place < 32 → (cleared.port port.0).is place ≡ false)
       (clear : (seen.port port.0).link_due ≡ false → SerrShowsOnlyNewPlugs port.0 seen cleared)
-      (quiet : StoppedWithDrqTillLink (cleared.port port.0) → StoppedTfesClear (cleared.port port.0) → bit (new.port port.0).notes.last_tfd 3 ≡ false → IsCleanToStart (new.port port.0)) where
+      (quiet : IsStoppedWithDrqWhileLinkAwaited (cleared.port port.0) → CrAndTfesAreClear (cleared.port port.0) → bit (new.port port.0).notes.last_tfd 3 ≡ false → IsCleanToStart (new.port port.0)) where
     early_half : TapeGrows old cleared
     early_half = laws.tape.growth_is_transitive old seen cleared a.grows b.grows
 
@@ -173,7 +173,7 @@ module _ (laws : Laws) where
     receives_cleared = b.receiving receives_seen
 
     -- where no disk came until the device was seen, no link is due from then on
-    undue_seen : NoDiskComes port.0 old seen → IsComingUp (old.port port.0) → (seen.port port.0).link_due ≡ false
+    undue_seen : NoDiskComes port.0 old seen → IsStoppedAndUpForStartIfShown (old.port port.0) → (seen.port port.0).link_due ≡ false
     undue_seen none coming = (up none coming).no_link_is_due
 
     -- and what shows then came since
@@ -188,7 +188,7 @@ module _ (laws : Laws) where
     pub has_device : FindsAwaitedLink port.0 old new
     has_device = record {
       no_cause_is_set = λ place small. c.calm receives_cleared place (calm place small);
-      errors_are_clear = λ coming. record {
+      serr_shows_only_new_plugs = λ coming. record {
         serr_n_is_clear = λ none.
             let parts = plugs_in_parts laws port.0 old seen new a.grows late_half none in
             (clear_since (undue_seen (laws.tape.no_plug_event_no_disk port.0 old seen parts.0) coming)).serr_n_is_clear parts.1;

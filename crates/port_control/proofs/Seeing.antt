@@ -10,7 +10,7 @@ use Rattle.adapter.specs.Access.Access.{Writing}
 use Rattle.adapter.specs.Device.{Notes, Device}
 use Rattle.adapter.specs.Rules.{IsOn}
 use Rattle.refinement.specs.Fragments.{AnySlotStates, ReadsPortOrWrites, IsSimulated}
-use Rattle.port_control.specs.Ports.{IsSerrOrIs, IsStopped, IsOnAndAgrees, SerrShowsOnlyNewPlugs, BacksFault}
+use Rattle.port_control.specs.Ports.{IsSerrOrIs, IsStopped, IsOnWithPortAndAgrees, SerrShowsOnlyNewPlugs, BacksFault}
 use Rattle.port_control.specs.declared.PortFault.TheVariants.{NoDevice}
 use Rattle.port_control.specs.Laws.{Laws}
 use Rattle.port_control.specs.Laws.RegisterSet.{Clearing}
@@ -34,9 +34,9 @@ full_noted det shown = elim (eqb_tells det 0) [
   | inr both ↦ rw both.0 refl
 ]
 
-module _ (laws : Laws) (port : Port) (v : ℕ) (old mid new : Device) (u : IsOnAndAgrees AnySlotStates port old) (serr : Writes (Px port Serr) 0xffffffff old mid)
+module _ (laws : Laws) (port : Port) (v : ℕ) (old mid new : Device) (u : IsOnWithPortAndAgrees AnySlotStates port old) (serr : Writes (Px port Serr) 0xffffffff old mid)
     (read : Reads (Px port Ssts) v mid new) where
-  usable : IsOnAndAgrees AnySlotStates port mid
+  usable : IsOnWithPortAndAgrees AnySlotStates port mid
   usable = clearing laws port old mid new u serr
 
   pub seen_followed : IsSimulated (ReadsPortOrWrites IsSerrOrIs port) AnySlotStates old new

@@ -8,9 +8,9 @@ use Rattle.adapter.specs.Device.{Device}
 use Rattle.adapter.specs.Rules.{IsOn}
 use Rattle.refinement.specs.Fragments.{ReadsPortOrWrites, IsDrivenBy}
 use Rattle.refinement.specs.Errors.{NoDiskComes, LinkErrorsRiseByDisks}
-use Rattle.refinement.specs.PortFacts.{StoppedWithDrqTillLink, IsCleanToStart}
+use Rattle.refinement.specs.PortFacts.{IsStoppedWithDrqWhileLinkAwaited, IsCleanToStart}
 use Rattle.refinement.specs.PreservedParts.{DoesNotWrite, NoPlugEvents}
-use Rattle.refinement.specs.StartedPort.{IsUpForStart, IsComingUp, SetsNoStart}
+use Rattle.refinement.specs.StartedPort.{IsUpForStart, IsStoppedAndUpForStartIfShown, SetsNoStart}
 use Rattle.refinement.specs.Fragments.{TapeGrows}
 use Rattle.port_control.specs.Ports.{IsSerrOrIs, IsStoppedReceiving}
 use Rattle.port_control.proofs.Using.{receiving_read, receiving_write}
@@ -24,10 +24,10 @@ pub record Settles (port : Port) (old new : Device) : Type 0 where
   pub receiving : IsStoppedReceiving port.0 (old.port port.0) → IsStoppedReceiving port.0 (new.port port.0)
   pub det : (new.port port.0).sctl_det ≡ (old.port port.0).sctl_det
   pub written : (new.port port.0).notes.sctl_written_at ≡ (old.port port.0).notes.sctl_written_at
-  pub coming : NoDiskComes port.0 old new → IsComingUp (old.port port.0) → IsComingUp (new.port port.0)
+  pub coming : NoDiskComes port.0 old new → IsStoppedAndUpForStartIfShown (old.port port.0) → IsStoppedAndUpForStartIfShown (new.port port.0)
   pub up : NoPlugEvents port.0 old new → IsStoppedReceiving port.0 (old.port port.0) → IsUpForStart (old.port port.0) → IsUpForStart (new.port port.0)
   pub calm : IsStoppedReceiving port.0 (old.port port.0) → (place : ℕ) → (old.port port.0).is place ≡ false → (new.port port.0).is place ≡ false
-  pub awaited : StoppedWithDrqTillLink (old.port port.0) → StoppedWithDrqTillLink (new.port port.0)
+  pub awaited : IsStoppedWithDrqWhileLinkAwaited (old.port port.0) → IsStoppedWithDrqWhileLinkAwaited (new.port port.0)
   pub quiet : IsCleanToStart (old.port port.0) → IsCleanToStart (new.port port.0)
   pub undue : (old.port port.0).link_due ≡ false → (new.port port.0).link_due ≡ false
   pub change : (old.port port.0).link_due ≡ false → LinkErrorsRiseByDisks port.0 old new
@@ -121,8 +121,8 @@ module _ (laws : Laws) where
           calm = λ r place h. laws.access_keeps_cause_clear port place access old new r.stopped.engine_is_stopped.cr_is_clear does h;
           awaited = λ h. laws.access_keeps_drq_till_link port access old new (laws.control_spares_other_registers Clearing port Cmd spares_command access kind) control does h;
           quiet = quiets;
-          undue = λ h. laws.tape.access_makes_no_link_due port access old new on.no_reset h control does;
-          change = λ h. laws.tape.access_raises_by_disks port access old new on.no_reset h does;
+          undue = λ h. laws.tape.access_but_sctl_write_makes_no_link_due port access old new on.no_reset h control does;
+          change = λ h. laws.tape.access_raises_link_errors_by_disks port access old new on.no_reset h does;
         }
 
   -- over a stretch

@@ -19,7 +19,7 @@ use Rattle.refinement.specs.HaltRecovery.{IsLinked, RunsLinked}
 use Rattle.refinement.specs.Slots.{SlotState, Free, SlotStates, IsOver, RelatesSlot, IsEmptySlot}
 use Rattle.refinement.specs.StartedPort.{IsUpForStart, IsStarted}
 use Rattle.refinement.specs.Fragments.{TapeGrows}
-use Rattle.port_control.specs.Ports.{IsCommandRegister, IsOnAndAgrees, IsStoppedReceiving, RunsWithoutCommands, SawIdle, SameButStart}
+use Rattle.port_control.specs.Ports.{IsCommandRegister, IsOnWithPortAndAgrees, IsStoppedReceiving, RunsInPlaceWithoutCommands, SawIdle, SameSctlAndNotesButCmdAndStart}
 use Rattle.port_control.proofs.Using.{usable_read, receiving_read, usable_by}
 use Rattle.port_control.proofs.Ceasing.{IsButAt, bit_four}
 use Rattle.port_control.proofs.Resetting.{grows_longer}
@@ -45,20 +45,20 @@ command_bases v tape p = by (bit v 0) p.st refl
     by true false is = subst (λ (x : DevicePort). SameBases p (port_after_fre_write (bit v 4) x)) (sym (cond-false p.st p _ is)) (refl, refl)
 
 -- what PxCMD was read as, and then when ST was set
-start_notes : (old mid new : Notes) (last count at : ℕ) → mid ≡ record old { last_cmd = last; engine_count = count } → new ≡ record mid { st_set_at = at } →
-    new ≡ record old { last_cmd = new.last_cmd; engine_count = new.engine_count; st_set_at = new.st_set_at }
+start_notes : (old mid new : Notes) (last count at : ℕ) → mid ≡ record old { last_cmd = last; engine_wait_count = count } → new ≡ record mid { st_set_at = at } →
+    new ≡ record old { last_cmd = new.last_cmd; engine_wait_count = new.engine_wait_count; st_set_at = new.st_set_at }
 start_notes old mid new last count at read set =
-    let both : new ≡ record old { last_cmd = last; engine_count = count; st_set_at = at } = set ∙ ap (λ (n : Notes). record n { st_set_at = at }) read in
-    subst (λ (n : Notes). n ≡ record old { last_cmd = n.last_cmd; engine_count = n.engine_count; st_set_at = n.st_set_at }) (sym both) refl
+    let both : new ≡ record old { last_cmd = last; engine_wait_count = count; st_set_at = at } = set ∙ ap (λ (n : Notes). record n { st_set_at = at }) read in
+    subst (λ (n : Notes). n ≡ record old { last_cmd = n.last_cmd; engine_wait_count = n.engine_wait_count; st_set_at = n.st_set_at }) (sym both) refl
 
 -- a free slot has no command
 over_free : (P : SlotState → Type 0) (u : SlotState) → u ≡ Free → P u → P Free
 over_free P u is h = subst P is h
 
 module _ (laws : Laws) where
-  module _ (port : Port) (was v : ℕ) (old mid : Device) (u : IsOnAndAgrees (NoneUsed port) port old) (read : Reads (Px port Cmd) was old mid) (receives : IsStoppedReceiving port.0 (old.port port.0))
+  module _ (port : Port) (was v : ℕ) (old mid : Device) (u : IsOnWithPortAndAgrees (NoneUsed port) port old) (read : Reads (Px port Cmd) was old mid) (receives : IsStoppedReceiving port.0 (old.port port.0))
       (linked : (old.port port.0).notes.last_ssts % 16 ≡ 3) (idle : SawIdle (old.port port.0).notes) (one : bit v 0 ≡ true) (others : IsButAt 0 was v) where
-    here : IsOnAndAgrees (NoneUsed port) port mid
+    here : IsOnWithPortAndAgrees (NoneUsed port) port mid
     here = usable_read laws (NoneUsed port) port Cmd was old mid u read
 
     still : IsStoppedReceiving port.0 (mid.port port.0)
@@ -67,9 +67,9 @@ module _ (laws : Laws) where
     fre : bit v 4 ≡ true
     fre = bit_four was v others ∙ (laws.shown_after port Cmd was old mid u.adapter_is_on.no_reset read).1 ∙ still.fre_is_set
 
-    same : (mid.port port.0).notes ≡ record (old.port port.0).notes { last_cmd = was; engine_count = (mid.port port.0).notes.engine_count }
+    same : (mid.port port.0).notes ≡ record (old.port port.0).notes { last_cmd = was; engine_wait_count = (mid.port port.0).notes.engine_wait_count }
     same = let n = laws.notes_read port Cmd was old mid u.adapter_is_on.no_reset read in
-        subst (λ (k : Notes). k ≡ record (old.port port.0).notes { last_cmd = was; engine_count = k.engine_count }) (sym n) refl
+        subst (λ (k : Notes). k ≡ record (old.port port.0).notes { last_cmd = was; engine_wait_count = k.engine_wait_count }) (sym n) refl
 
     pub start_may : IsStable (MayWrite (Px port Cmd) v) mid
     start_may = laws.starting_is_permitted port was v mid here.adapter_is_on here.has_port (laws.last_cmd_is_read port was old mid read)
@@ -83,7 +83,7 @@ module _ (laws : Laws) where
             fbu_is_written = ap (λ (b : Bases). b.fbu_set) still.areas_are_in_place;
           };
           link_was_seen = ap (λ (n : Notes). n.last_ssts % 16) same ∙ linked;
-          not_busy = ap (λ (n : Notes). bit n.last_tfd 7 || bit n.last_tfd 3) same ∙ idle;
+          last_tfd_was_idle = ap (λ (n : Notes). bit n.last_tfd 7 || bit n.last_tfd 3) same ∙ idle;
         })
         (record { start = one; receive = fre; others = λ k small st fre. others k small st })
 
@@ -95,16 +95,16 @@ module _ (laws : Laws) where
       start_followed = followed_then laws (Starting port) old mid new (followed_read laws (Starting port) (Px port Cmd) was old mid refl read)
           (followed_write laws (Starting port) (Px port Cmd) v mid new (refl, refl) start_may start_leaves write)
 
-      pub start_usable : IsOnAndAgrees (NoneUsed port) port new
+      pub start_usable : IsOnWithPortAndAgrees (NoneUsed port) port new
       start_usable = usable_by laws Commanding port old new (NoneUsed port) start_followed.is_driven (λ uses free. laws.fragments.some_machine_agrees (Starting port) (λ uses. uses) uses old new free start_followed) u
 
       started : ((new.port port.0).cr ≡ true) × ((new.port port.0).notes.st_set_at ≡ length new.tape)
-      started = laws.start_set port v mid new still.stopped.engine_is_stopped.st_is_clear one write
+      started = laws.start_sets_cr_and_time port v mid new still.stopped.engine_is_stopped.st_is_clear one write
 
       w : PortRegisterWritten port.0 Cmd v mid new
       w = laws.write_changes_port_register port Cmd v mid new write here.adapter_is_on.no_reset
 
-      pub start_runs : RunsWithoutCommands port.0 (new.port port.0)
+      pub start_runs : RunsInPlaceWithoutCommands port.0 (new.port port.0)
       start_runs =
           let a = start_usable.machine_is_related in
           let over : (slot : ℕ) → IsOver (new.port port.0) slot =
@@ -122,11 +122,11 @@ module _ (laws : Laws) where
             none_is_taken = λ slot. (over slot).is_not_taken;
           }
 
-      pub start_same : SameButStart (old.port port.0) (new.port port.0)
+      pub start_same : SameSctlAndNotesButCmdAndStart (old.port port.0) (new.port port.0)
       start_same =
           let s : PortRegisterRead port.0 Cmd was old mid = laws.read_changes_port_register port Cmd was old mid read u.adapter_is_on.no_reset in (
             ap (λ (p : DevicePort). p.sctl_det) w.port_is_written ∙ (command_bases v _ (w.at_access.port port.0)).1 ∙ (w.keeps.keeps_outside_reset.controls_are_kept port.0).sctl_det_is_kept ∙ (s.keeps.keeps_outside_reset.controls_are_kept port.0).sctl_det_is_kept,
-            start_notes (old.port port.0).notes (mid.port port.0).notes (new.port port.0).notes _ _ _ same (laws.cmd_write_keeps_notes port v mid new write),
+            start_notes (old.port port.0).notes (mid.port port.0).notes (new.port port.0).notes _ _ _ same (laws.cmd_write_keeps_notes_but_st_time port v mid new write),
           )
 
       pub start_set_at : (new.port port.0).notes.st_set_at ≡ length new.tape
@@ -147,7 +147,7 @@ module _ (laws : Laws) where
       pub start_well : IsUpForStart (old.port port.0) → NoPlugEvents port.0 old new → IsStarted (new.port port.0)
       start_well up none =
           let parts = plugs_in_parts laws port.0 old mid new early late none in
-          laws.start_is_made port v mid new here.adapter_is_on.no_reset still.stopped.engine_is_stopped.st_is_clear still.stopped.engine_is_stopped.cr_is_clear one write
+          laws.start_of_up_port_is_started port v mid new here.adapter_is_on.no_reset still.stopped.engine_is_stopped.st_is_clear still.stopped.engine_is_stopped.cr_is_clear one write
           (laws.access_keeps_up port (Reading (Px port Cmd) was) old mid u.adapter_is_on.no_reset receives.stopped.engine_is_stopped.cr_is_clear (λ n (e : Reading (Px port Cmd) was ≡ Writing (Px port Cmd) n). absurd (cc)) tt parts.0 read up)
           parts.1
 
@@ -165,15 +165,15 @@ module _ (laws : Laws) where
           (laws.access_keeps_cause_clear port place (Reading (Px port Cmd) was) old mid receives.stopped.engine_is_stopped.cr_is_clear read clear)
 
       undue_mid : (old.port port.0).link_due ≡ false → (mid.port port.0).link_due ≡ false
-      undue_mid undue = laws.tape.access_makes_no_link_due port (Reading (Px port Cmd) was) old mid u.adapter_is_on.no_reset undue tt read
+      undue_mid undue = laws.tape.access_but_sctl_write_makes_no_link_due port (Reading (Px port Cmd) was) old mid u.adapter_is_on.no_reset undue tt read
 
       pub start_undue : (old.port port.0).link_due ≡ false → (new.port port.0).link_due ≡ false
-      start_undue undue = laws.tape.access_makes_no_link_due port (Writing (Px port Cmd) v) mid new here.adapter_is_on.no_reset (undue_mid undue) (λ (e : Px port Cmd ≡ Px port Sctl). absurd (cc)) write
+      start_undue undue = laws.tape.access_but_sctl_write_makes_no_link_due port (Writing (Px port Cmd) v) mid new here.adapter_is_on.no_reset (undue_mid undue) (λ (e : Px port Cmd ≡ Px port Sctl). absurd (cc)) write
 
       pub start_changes : (old.port port.0).link_due ≡ false → LinkErrorsRiseByDisks port.0 old new
       start_changes undue = laws.tape.link_errors_transitive port.0 old mid new early late
-          (laws.tape.access_raises_by_disks port (Reading (Px port Cmd) was) old mid u.adapter_is_on.no_reset undue read)
-          (laws.tape.access_raises_by_disks port (Writing (Px port Cmd) v) mid new here.adapter_is_on.no_reset (undue_mid undue) write)
+          (laws.tape.access_raises_link_errors_by_disks port (Reading (Px port Cmd) was) old mid u.adapter_is_on.no_reset undue read)
+          (laws.tape.access_raises_link_errors_by_disks port (Writing (Px port Cmd) v) mid new here.adapter_is_on.no_reset (undue_mid undue) write)
 
       -- ST is set on a quiet port
       pub start_recorded : IsCleanToStart (old.port port.0) → RecordsFaultsIfSt new.tape (new.port port.0) port.0

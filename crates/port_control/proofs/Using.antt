@@ -17,7 +17,7 @@ use Rattle.refinement.specs.Fragments.{AnySlotStates, SomeMachineAgrees, ReadsPo
 use Rattle.refinement.specs.PreservedParts.{SameAdapter}
 use Rattle.refinement.specs.Slots.{SlotStates}
 use Rattle.port_control.specs.Engines.{AwaitsEngineStop, FailsToStop, FailsToStopReceiving, EngineFalls, ShowsStillRunning, ReadsPortCmd, ShowsEngineStillRunning, EngineSticks}
-use Rattle.port_control.specs.Ports.{IsResetRegister, IsOnAndAgrees, IsStopped, IsStoppedReceiving, SameButCmdNotes, SameSctlAndNotes}
+use Rattle.port_control.specs.Ports.{IsResetRegister, IsOnWithPortAndAgrees, IsStopped, IsStoppedReceiving, SameButCmdNotes, SameSctlAndNotesButCmd}
 use Rattle.port_control.specs.Laws.RegisterSet.{Commanding}
 use Rattle.port_control.specs.Laws.AccessPurpose.{Controlling}
 use Rattle.port_control.specs.Laws.{Laws, RegisterSet, registers_of}
@@ -26,18 +26,18 @@ use Rattle.port_control.proofs.Stretching.{followed_read}
 pub there_after : {old new : Device} {port : ℕ} → SameAdapter old new → HasPort old port → HasPort new port
 there_after {old} {new} {port} s h = (h.0, ap (λ (pi : ℕ). bit pi port) s.pi ∙ h.1)
 
-pub beside_none : (p : DevicePort) → SameSctlAndNotes p p
+pub beside_none : (p : DevicePort) → SameSctlAndNotesButCmd p p
 beside_none p = (refl, refl)
 
-pub beside_then : (a b c : DevicePort) → SameSctlAndNotes a b → SameSctlAndNotes b c → SameSctlAndNotes a c
+pub beside_then : (a b c : DevicePort) → SameSctlAndNotesButCmd a b → SameSctlAndNotesButCmd b c → SameSctlAndNotesButCmd a c
 beside_then a b c x y =
-    (y.0 ∙ x.0, subst (λ (n : Notes). c.notes ≡ record n { last_cmd = c.notes.last_cmd; engine_count = c.notes.engine_count }) x.1 y.1)
+    (y.0 ∙ x.0, subst (λ (n : Notes). c.notes ≡ record n { last_cmd = c.notes.last_cmd; engine_wait_count = c.notes.engine_wait_count }) x.1 y.1)
 
 -- ---- a stopped port stays stopped
 
 pub stopped_on : {p q : DevicePort} → PortBitsOnlyFall p q → IsStopped p → IsStopped q
 stopped_on k h = record {
-  engine_is_stopped = record { st_is_clear = k.st_stays_clear h.engine_is_stopped.st_is_clear; cr_is_clear = k.cr_stays_clear h.engine_is_stopped.cr_is_clear; no_command_is_issued = λ slot. k.ci_stays_clear slot (h.engine_is_stopped.no_command_is_issued slot); no_command_is_taken = k.stays_without_commands h.engine_is_stopped.cr_is_clear h.engine_is_stopped.no_command_is_taken };
+  engine_is_stopped = record { st_is_clear = k.st_stays_clear h.engine_is_stopped.st_is_clear; cr_is_clear = k.cr_stays_clear h.engine_is_stopped.cr_is_clear; no_command_is_issued = λ slot. k.ci_stays_clear slot (h.engine_is_stopped.no_command_is_issued slot); no_command_is_taken = k.none_stays_taken_while_cr_is_clear h.engine_is_stopped.cr_is_clear h.engine_is_stopped.no_command_is_taken };
   sact_is_clear = λ slot. k.sact_stays_clear slot (h.sact_is_clear slot);
 }
 
@@ -164,30 +164,30 @@ module _ (laws : Laws) where
     pub tape_gains : IsDrivenBy (ReadsPortOrWrites (registers_of set) port) old new → TapeGrows old new
     tape_gains driven = laws.accesses_extend_tape old new (any driven)
 
-    pub usable_by : (Fits : SlotStates → Type 0) → IsDrivenBy (ReadsPortOrWrites (registers_of set) port) old new → ((uses : SlotStates) → Fits uses → SomeMachineAgrees uses old → SomeMachineAgrees uses new) → IsOnAndAgrees Fits port old → IsOnAndAgrees Fits port new
+    pub usable_by : (Fits : SlotStates → Type 0) → IsDrivenBy (ReadsPortOrWrites (registers_of set) port) old new → ((uses : SlotStates) → Fits uses → SomeMachineAgrees uses old → SomeMachineAgrees uses new) → IsOnWithPortAndAgrees Fits port old → IsOnWithPortAndAgrees Fits port new
     usable_by Fits driven agrees u = record {
       adapter_is_on = stays_on driven u.adapter_is_on;
       has_port = there_after (same_adapter driven) u.has_port;
       machine_is_related = (u.machine_is_related.0, u.machine_is_related.1, agrees u.machine_is_related.0 u.machine_is_related.1 u.machine_is_related.2);
     }
 
-    pub usable_after : IsOnAndAgrees AnySlotStates port old → IsSimulated (ReadsPortOrWrites (registers_of set) port) AnySlotStates old new → IsOnAndAgrees AnySlotStates port new
+    pub usable_after : IsOnWithPortAndAgrees AnySlotStates port old → IsSimulated (ReadsPortOrWrites (registers_of set) port) AnySlotStates old new → IsOnWithPortAndAgrees AnySlotStates port new
     usable_after u f = usable_by AnySlotStates f.is_driven (λ uses fits. laws.fragments.some_machine_agrees (Controlling set port) (λ uses. uses) uses old new fits f) u
 
   -- over a reading, whatever uses fit
-  pub usable_read : (Fits : SlotStates → Type 0) (port : Port) (r : PortReg) (v : ℕ) (old new : Device) → IsOnAndAgrees Fits port old → Reads (Px port r) v old new → IsOnAndAgrees Fits port new
+  pub usable_read : (Fits : SlotStates → Type 0) (port : Port) (r : PortReg) (v : ℕ) (old new : Device) → IsOnWithPortAndAgrees Fits port old → Reads (Px port r) v old new → IsOnWithPortAndAgrees Fits port new
   usable_read Fits port r v old new u call =
       let f = followed_read laws (Controlling Commanding port) (Px port r) v old new refl call in
       usable_by Commanding port old new Fits f.is_driven (λ uses fits. laws.fragments.some_machine_agrees (Controlling Commanding port) (λ uses. uses) uses old new tt f) u
 
   -- PxCMD is read
-  pub beside_read : (port : Port) (v : ℕ) (old new : Device) → old.hr ≡ false → Reads (Px port Cmd) v old new → SameSctlAndNotes (old.port port.0) (new.port port.0)
+  pub beside_read : (port : Port) (v : ℕ) (old new : Device) → old.hr ≡ false → Reads (Px port Cmd) v old new → SameSctlAndNotesButCmd (old.port port.0) (new.port port.0)
   beside_read port v old new off call =
       let s : PortRegisterRead port.0 Cmd v old new = laws.read_changes_port_register port Cmd v old new call off in
       ((s.keeps.keeps_outside_reset.controls_are_kept port.0).sctl_det_is_kept, subst (SameButCmdNotes (old.port port.0).notes) (sym (laws.notes_read port Cmd v old new off call)) refl)
 
   module _ (port : Port) (v : ℕ) (old new : Device) (off : old.hr ≡ false) (zero : bit v 0 ≡ false) (call : Writes (Px port Cmd) v old new) where
-    pub beside_command : SameSctlAndNotes (old.port port.0) (new.port port.0)
+    pub beside_command : SameSctlAndNotesButCmd (old.port port.0) (new.port port.0)
     beside_command =
         let w : PortRegisterWritten port.0 Cmd v old new = laws.write_changes_port_register port Cmd v old new call off in
         let same = laws.writes_keep_notes port Cmd v old new (λ (e : Cmd ≡ Sctl). absurd (cc)) (λ (e : Cmd ≡ Is). absurd (cc)) (λ _. zero) call in (

@@ -6,9 +6,9 @@ use Rattle.hba_regs.specs.Bits.{bit}
 use Rattle.hba_regs.specs.declared.reg.PortReg.TheVariants.{Ssts, Tfd}
 use Rattle.adapter.specs.Device.{Device, DevicePort}
 use Rattle.refinement.specs.Errors.{NoDiskComes}
-use Rattle.refinement.specs.PortFacts.{IsQuiescentPort, StoppedWithDrqTillLink, IsCleanToStart, StoppedTfesClear}
-use Rattle.refinement.specs.StartedPort.{IsUpForStart, IsComingUp}
-use Rattle.port_control.specs.Ports.{BacksFault, ClearsErrors, FindsAwaitedLink, FindsSignature, SerrShowsOnlyNewPlugs, HasLink, IsStopped, SeesResetFault, ReadsUntil, ReadsInVain, IsStoppedReceiving, SameSctlAndNotes, SawDevice, SawIdle, ShowsIdle, LastSignatureIsShown, SendsComresetThen, programmed_bases}
+use Rattle.refinement.specs.PortFacts.{IsQuiescentPort, IsStoppedWithDrqWhileLinkAwaited, IsCleanToStart, CrAndTfesAreClear}
+use Rattle.refinement.specs.StartedPort.{IsUpForStart, IsStoppedAndUpForStartIfShown}
+use Rattle.port_control.specs.Ports.{BacksFault, ClearsErrors, FindsAwaitedLink, FindsSignature, SerrShowsOnlyNewPlugs, HasLink, IsStopped, SeesResetFault, ReadsUntil, ReadsInVain, IsStoppedReceiving, SameSctlAndNotesButCmd, SawDevice, SawIdle, ShowsIdle, LastSignatureIsShown, SendsComresetThen, programmed_bases}
 use Rattle.port_control.specs.declared.PortFault.{PortFault}
 use Rattle.port_control.specs.declared.PortFault.TheVariants.{Busy, EngineStuck, NoDevice, NotAta}
 
@@ -18,28 +18,30 @@ pub record ClearsFre (old new : DevicePort) : Type 0 where
   pub stopped : IsStopped new
   pub fre_is_clear : new.fre ≡ false
   pub bases_are_kept : new.bases ≡ old.bases
-  pub sctl_and_notes_are_kept : SameSctlAndNotes old new
+  pub sctl_and_notes_but_cmd_are_kept : SameSctlAndNotesButCmd old new
 
 -- The command list and the received FIS area are in their places; PxSCTL.DET and what readings noted, but of PxCMD, are
 -- as they were.
 pub record PlacesAreas (port : ℕ) (old new : DevicePort) : Type 0 where
   pub is_quiescent : IsQuiescentPort new
   pub areas_are_in_place : new.bases ≡ programmed_bases port
-  pub sctl_and_notes_are_kept : SameSctlAndNotes old new
+  pub sctl_and_notes_but_cmd_are_kept : SameSctlAndNotesButCmd old new
 
 -- COMRESET was sent and ended: the port receives FISes still, and awaits its link, which is coming up where no disk
 -- came.
 pub record SendsComreset (port : Port) (old new : Device) : Type 0 where
   pub comreset_is_sent : SendsComresetThen port (λ ended now. now ≡ ended) old new
   pub receives : IsStoppedReceiving port.0 (new.port port.0)
-  pub shows_drq_till_link : StoppedWithDrqTillLink (new.port port.0)
-  pub link_is_coming_up : NoDiskComes port.0 old new → IsComingUp (new.port port.0)
+  pub shows_drq_till_link : IsStoppedWithDrqWhileLinkAwaited (new.port port.0)
+  pub link_is_up_if_shown_unless_disk_comes : NoDiskComes port.0 old new
+      → IsStoppedAndUpForStartIfShown (new.port port.0)
 
 -- A device with a link was awaited, and found.
 pub record FindsAwaitedDevice (port : Port) (old new : Device) : Type 0 where
   pub reads_until_link : ReadsUntil port Ssts HasLink old new
   pub device_was_seen : SawDevice (new.port port.0).notes
-  pub link_is_up : NoDiskComes port.0 old new → IsComingUp (old.port port.0) → IsUpForStart (new.port port.0)
+  pub link_is_up : NoDiskComes port.0 old new → IsStoppedAndUpForStartIfShown (old.port port.0)
+      → IsUpForStart (new.port port.0)
 
 -- Or it was awaited in vain.
 pub record MissesDevice (port : Port) (old new : Device) : Type 0 where
@@ -48,19 +50,19 @@ pub record MissesDevice (port : Port) (old new : Device) : Type 0 where
 
 -- PxSERR and PxIS were cleared. No cause is told of then; nor an error, where no link was due, but of disks that went
 -- or came since.
-pub record LeavesNoError (port : Port) (old new : Device) : Type 0 where
+pub record LeavesOnlyNewPlugErrors (port : Port) (old new : Device) : Type 0 where
   pub clears : ClearsErrors port old new
   pub no_cause_is_set : (place : ℕ) → place < 32 → (new.port port.0).is place ≡ false
-  pub errors_are_clear : (old.port port.0).link_due ≡ false → SerrShowsOnlyNewPlugs port.0 old new
+  pub serr_shows_only_new_plugs : (old.port port.0).link_due ≡ false → SerrShowsOnlyNewPlugs port.0 old new
 
 -- A device was awaited that is neither busy nor asks for a transfer: whether one was found. Where the link was awaited,
 -- the engine stood and TFES was clear, and PxTFD shows no DRQ by now, nothing is due.
 pub record AwaitsIdle (port : Port) (found : Bool) (old new : Device) : Type 0 where
   pub device_was_seen : SawDevice (new.port port.0).notes
-  pub disk_is_idle : found ≡ true → SawIdle (new.port port.0).notes × ReadsUntil port Tfd ShowsIdle old new
+  pub found_disk_is_idle : found ≡ true → SawIdle (new.port port.0).notes × ReadsUntil port Tfd ShowsIdle old new
   pub busy_is_backed : found ≡ false → BacksFault Busy (new.port port.0).notes
       × ReadsInVain port Tfd ShowsIdle MOST_READINGS old new
-  pub is_clean_to_start : StoppedWithDrqTillLink (old.port port.0) → StoppedTfesClear (old.port port.0)
+  pub is_clean_to_start : IsStoppedWithDrqWhileLinkAwaited (old.port port.0) → CrAndTfesAreClear (old.port port.0)
       → bit (new.port port.0).notes.last_tfd 3 ≡ false → IsCleanToStart (new.port port.0)
 
 -- An ATA disk was found that is idle.

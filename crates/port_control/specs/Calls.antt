@@ -11,8 +11,8 @@ use Rattle.refinement.specs.Errors.{NoDiskComes, LinkErrorsRiseByDisks}
 use Rattle.refinement.specs.PortFacts.{IsCleanToStart, RecordsFaultsIfSt}
 use Rattle.refinement.specs.PreservedParts.{NoPlugEvents}
 use Rattle.refinement.specs.HaltRecovery.{IsLinked, RunsLinked}
-use Rattle.refinement.specs.StartedPort.{IsUpForStart, IsComingUp, IsStarted}
-use Rattle.port_control.specs.Ports.{FindsSignature, SerrShowsOnlyNewPlugs, IsDeviceFound, RunsWithoutCommands, IsStopped, SeesResetFault, IsStoppedReceiving, SameSctlAndNotes, SameButStart, SawDevice, SawIdle, BacksFault, LastSignatureIsShown, SendsComresetThen}
+use Rattle.refinement.specs.StartedPort.{IsUpForStart, IsStoppedAndUpForStartIfShown, IsStarted}
+use Rattle.port_control.specs.Ports.{FindsSignature, SerrShowsOnlyNewPlugs, IsDeviceFound, RunsInPlaceWithoutCommands, IsStopped, SeesResetFault, IsStoppedReceiving, SameSctlAndNotesButCmd, SameSctlAndNotesButCmdAndStart, SawDevice, SawIdle, BacksFault, LastSignatureIsShown, SendsComresetThen}
 use Rattle.port_control.specs.declared.PortFault.{PortFault}
 use Rattle.port_control.specs.declared.PortFault.TheVariants.{NoDevice, EngineStuck, NotAta}
 
@@ -29,9 +29,9 @@ pub record MayBeginReceiving (port : Port) (d : Device) : Type 0 where
 
 -- Whether it receives FISes then or not: it is stopped still, and PxSCTL.DET and what readings noted, but of PxCMD, are
 -- as they were.
-pub record StaysStopped (port : Port) (old new : Device) : Type 0 where
+pub record StaysStoppedWithNotesButCmdKept (port : Port) (old new : Device) : Type 0 where
   pub stopped : IsStopped (new.port port.0)
-  pub sctl_and_notes_are_kept : SameSctlAndNotes (old.port port.0) (new.port port.0)
+  pub sctl_and_notes_but_cmd_are_kept : SameSctlAndNotesButCmd (old.port port.0) (new.port port.0)
 
 -- ---- errors, and devices that go and come
 
@@ -48,7 +48,7 @@ pub record MayClearErrorState (port : Port) (d : Device) : Type 0 where
 -- as after 64 readings that found none. A stopped port is stopped still (AHCI 1.3.1, 3.3.10 and 3.3.12).
 pub record AsksForDevice (port : Port) (found : Bool) (old new : Device) : Type 0 where
   pub stopped : IsStopped (old.port port.0) → IsStopped (new.port port.0)
-  pub errors_are_clear : (old.port port.0).link_due ≡ false → SerrShowsOnlyNewPlugs port.0 old new
+  pub serr_shows_only_new_plugs : (old.port port.0).link_due ≡ false → SerrShowsOnlyNewPlugs port.0 old new
   pub device_is_shown : found ≡ true → (new.port port.0).ssts_det ≡ 3
   pub no_device_is_backed : found ≡ false → (old.port port.0).notes.link_wait_count ≡ MOST_READINGS
       → BacksFault NoDevice (new.port port.0).notes
@@ -63,9 +63,10 @@ pub record MayResetLink (port : Port) (d : Device) : Type 0 where
   pub receives : IsStoppedReceiving port.0 (d.port port.0)
 
 -- Whatever was found then: it receives FISes still; and where no disk came meanwhile, its link is coming up, or is up.
-pub record StaysReceiving (port : Port) (old new : Device) : Type 0 where
+pub record StaysReceivingWithLinkUpIfShown (port : Port) (old new : Device) : Type 0 where
   pub receives : IsStoppedReceiving port.0 (new.port port.0)
-  pub link_is_coming_up : NoDiskComes port.0 old new → IsComingUp (new.port port.0)
+  pub link_is_up_if_shown_unless_disk_comes : NoDiskComes port.0 old new
+      → IsStoppedAndUpForStartIfShown (new.port port.0)
 
 -- COMRESET was sent, and an ATA disk was found that is idle, as the readings since showed (AHCI 1.3.1, 10.1.2 and
 -- 10.4.2).
@@ -98,13 +99,14 @@ pub record MayBeStarted (port : Port) (d : Device) : Type 0 where
 -- before, where no disk went or came; no cause is told that wasn't; and what had no error has none, but for disks that
 -- went or came (AHCI 1.3.1, 10.3.1).
 pub record Starts (port : Port) (old new : Device) : Type 0 where
-  pub runs : RunsWithoutCommands port.0 (new.port port.0)
-  pub other_notes_are_kept : SameButStart (old.port port.0) (new.port port.0)
-  pub st_set_is_last : (new.port port.0).notes.st_set_at ≡ length new.tape
+  pub runs : RunsInPlaceWithoutCommands port.0 (new.port port.0)
+  pub other_notes_are_kept : SameSctlAndNotesButCmdAndStart (old.port port.0) (new.port port.0)
+  pub tape_is_as_at_st_set : (new.port port.0).notes.st_set_at ≡ length new.tape
   pub sctl_time_in_tape : (old.port port.0).notes.sctl_written_at ≤ length old.tape
       → (new.port port.0).notes.sctl_written_at ≤ length new.tape
   pub port_is_started : IsUpForStart (old.port port.0) → NoPlugEvents port.0 old new → IsStarted (new.port port.0)
-  pub link_stays_up : IsLinked (old.port port.0) → NoPlugEvents port.0 old new → RunsLinked (new.port port.0)
+  pub link_stays_up_without_plug_events : IsLinked (old.port port.0) → NoPlugEvents port.0 old new
+      → RunsLinked (new.port port.0)
   pub faults_are_on_record : IsCleanToStart (old.port port.0) → RecordsFaultsIfSt new.tape (new.port port.0) port.0
   pub no_cause_rises : (place : ℕ) → (old.port port.0).is place ≡ false → (new.port port.0).is place ≡ false
   pub no_link_gets_due : (old.port port.0).link_due ≡ false → (new.port port.0).link_due ≡ false

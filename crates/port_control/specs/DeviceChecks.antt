@@ -16,7 +16,7 @@ pub record ChecksForDevice (port : Port) (result : Bool) (old new : Device) : Ty
 
 -- PxIS was read, and then PxSSTS. The device went, or its link came up, since PxSERR was cleared, if PRCS or PCS is
 -- set; and it isn't there if DET isn't 3.
-pub record ChecksForChange (port : Port) (result : Bool) (old new : Device) : Type 0 where
+pub record ChecksForChangeOrNoDevice (port : Port) (result : Bool) (old new : Device) : Type 0 where
   pub causes : ℕ
   pub after_is_read : Device
   pub reads : Reads (Px port Is) causes old after_is_read

@@ -15,11 +15,11 @@ use Rattle.adapter.specs.Rules.{IsOn, MayWrite, IsStable}
 use Rattle.adapter.specs.RegisterEffects.{PortRegisterWritten}
 use Rattle.adapter.specs.Steps.{Steps}
 use Rattle.refinement.specs.Laws.{FragmentLaws, TapeLaws}
-use Rattle.refinement.specs.Fragments.{AnyAccess, AnySlotStates, IsDrivenBy, SparesOtherPorts, SameSlotStates, LeavesPort}
+use Rattle.refinement.specs.Fragments.{AnyAccess, AnySlotStates, IsDrivenBy, SparesOtherPorts, SameSlotStates, OnlyDeviceChangesPort}
 use Rattle.refinement.specs.Errors.{ErrorBitsRiseByErrors, NoFaults, ErrorBitsStayClear}
 use Rattle.refinement.specs.PortFacts.{IsFaulted, RecordsFaultsIfSt, RunsWell, ShowsNoTrouble, PxisValueTellsNoTrouble, Undisturbed}
-use Rattle.refinement.specs.PreservedParts.{LeavesControls, LinkIsSameOrComesUp, NoPlugEvents, SameAdapter, DoesNotWrite}
-use Rattle.refinement.specs.PortNotes.{LeavesNotes}
+use Rattle.refinement.specs.PreservedParts.{ControlsChangeOnlyByTheirWrites, LinkIsSameOrComesUp, NoPlugEvents, SameAdapter, DoesNotWrite}
+use Rattle.refinement.specs.PortNotes.{ReadingNotesChangeByReadOrSctlWriteOnly}
 use Rattle.refinement.specs.Slots.{SlotStates}
 use Rattle.refinement.specs.StartedPort.{ClearsNoStart, IsStarted}
 use Rattle.port_control.specs.PortEvents.{IsEventAccess}
@@ -45,14 +45,14 @@ pub record Laws : Type 0 where
   pub write_changes_port_register : (port : Port) (r : PortReg) (v : ℕ) (old new : Device)
       → Writes (Px port r) v old new → old.hr ≡ false
       → PortRegisterWritten port.0 r v old new
-  pub store_leaves : (at : ℕ) (bytes : List ℕ) (old new : Device) → Stores at bytes old new
+  pub store_after_steps_leaves_ports_tape_hr : (at : ℕ) (bytes : List ℕ) (old new : Device) → Stores at bytes old new
       → (mid : Device) × Steps old mid × ((port : ℕ) → new.port port ≡ mid.port port) × (new.tape ≡ mid.tape)
       × (new.hr ≡ mid.hr)
   pub access_keeps_on : (access : Access) (old new : Device) → IsOn old
       → ((v : ℕ) → access ≡ Writing Ghc v → (bit v 31 ≡ true) × (bit v 0 ≡ false)) → Does access old new → IsOn new
   pub access_keeps_adapter : (access : Access) (old new : Device) → Does access old new → SameAdapter old new
   pub access_controls : (port : Port) (access : Access) (old new : Device) → old.hr ≡ false → Does access old new
-      → LeavesControls access port (old.port port.0) (new.port port.0)
+      → ControlsChangeOnlyByTheirWrites access port (old.port port.0) (new.port port.0)
   pub shown_after : (port : Port) (r : PortReg) (v : ℕ) (old new : Device) → old.hr ≡ false
       → Reads (Px port r) v old new → PortShows r v (new.port port.0)
   -- what may be written
@@ -76,7 +76,7 @@ pub record Laws : Type 0 where
       → IsStarted (old.port port.0) → IsStarted (new.port port.0)
   pub started_quiet_port_runs_well : (p : DevicePort) → IsStarted p → ShowsNoTrouble p → RunsWell p
   pub runs_well_is_started : (p : DevicePort) → RunsWell p → IsStarted p
-  pub access_stays_clear : (port : Port) (access : Access) (old new : Device) → old.hr ≡ false
+  pub access_keeps_error_bits_clear : (port : Port) (access : Access) (old new : Device) → old.hr ≡ false
       → (old.port port.0).link_due ≡ false → Undisturbed port.0 old new → Does access old new
       → ErrorBitsStayClear (old.port port.0) (new.port port.0)
   pub stays_clear_shows_no_trouble : (p new : DevicePort) → ErrorBitsStayClear p new → ShowsNoTrouble p
@@ -107,7 +107,7 @@ pub record Laws : Type 0 where
       → RecordsFaultsIfSt new.tape (new.port port.0) port.0
   pub access_changes_by_errors : (port : Port) (access : Access) (old new : Device) → Does access old new
       → ErrorBitsRiseByErrors port.0 old new
-  pub access_leaves_link : (port : Port) (access : Access) (old new : Device) → old.hr ≡ false
+  pub link_stays_or_comes_up : (port : Port) (access : Access) (old new : Device) → old.hr ≡ false
       → DoesNotWrite (Px port Sctl) access → Does access old new → NoPlugEvents port.0 old new
       → LinkIsSameOrComesUp (old.port port.0) (new.port port.0)
   pub change_read_has_cause : (port : Port) (v : ℕ) (old new : Device) → old.hr ≡ false
@@ -131,7 +131,7 @@ pub record Laws : Type 0 where
       → DoesNotWrite (Px port Is) access → Does access old new → HidesNoFatal port.0 old new
   pub access_hides_no_plug_event : (port : Port) (access : Access) (old new : Device) → old.hr ≡ false
       → DoesNotWrite (Px port Serr) access → Does access old new → HidesNoPlugEvent port.0 old new
-  pub fault_told : (port : Port) (v : ℕ) (old new : Device) → old.hr ≡ false → (old.port port.0).st ≡ true
+  pub tfes_read_means_faulted : (port : Port) (v : ℕ) (old new : Device) → old.hr ≡ false → (old.port port.0).st ≡ true
       → RecordsFaultsIfSt old.tape (old.port port.0) port.0 → Reads (Px port Is) v old new → bit v 30 ≡ true
       → IsFaulted (new.port port.0).halt
   pub read_keeps_faulted : (port : ℕ) (r : Reg) (v : ℕ) (old new : Device) → old.hr ≡ false → (old.port port).st ≡ true
@@ -143,10 +143,10 @@ pub record Laws : Type 0 where
   pub last_ssts_is_read : (port : Port) (v : ℕ) (old new : Device) → Reads (Px port Ssts) v old new
       → (new.port port.0).notes.last_ssts ≡ v
   pub access_notes : (port : Port) (access : Access) (old new : Device) → Does access old new
-      → LeavesNotes access port (old.port port.0).notes (new.port port.0).notes
+      → ReadingNotesChangeByReadOrSctlWriteOnly access port (old.port port.0).notes (new.port port.0).notes
   -- fragments
   pub other_ports_are_left : (port : Port) (q : ℕ) (old new : Device) → q ≢ port.0 → IsOn old
       → IsDrivenBy (SparesOtherPorts port) old new
-      → LeavesPort (old.port q) (new.port q)
+      → OnlyDeviceChangesPort (old.port q) (new.port q)
   pub accesses_keep_adapter : (old new : Device) → IsDrivenBy AnyAccess old new → SameAdapter old new
   pub fragments : FragmentLaws AccessPurpose accesses_for slot_uses_for

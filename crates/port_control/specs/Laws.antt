@@ -13,15 +13,15 @@ use Rattle.adapter.specs.declared.tape.Entry.{Entry}
 use Rattle.refinement.specs.Slots.{Free, SlotStates}
 use Rattle.hba_regs.specs.declared.reg.Reg.TheVariants.{Ghc, Px}
 use Rattle.adapter.specs.Rules.{HasPort, IsOn, MaySetFre, MayStart, MayStopReceiving, MayWrite, IsStable}
-use Rattle.refinement.specs.PortFacts.{IsQuiescentPort, StoppedWithDrqTillLink, IsEngineStopped, IsCleanToStart, RecordsFaultsIfSt, StoppedTfesClear, KeepsFaultRecord}
+use Rattle.refinement.specs.PortFacts.{IsQuiescentPort, IsStoppedWithDrqWhileLinkAwaited, IsEngineStopped, IsCleanToStart, RecordsFaultsIfSt, CrAndTfesAreClear, StartsCleanAndWritesSctlStopped}
 use Rattle.port_control.specs.Ports.{IsSerrOrIs, IsPlacingRegister, IsResetRegister, IsCommandRegister}
 use Rattle.refinement.specs.HaltRecovery.{IsLinked, RunsLinked}
-use Rattle.refinement.specs.StartedPort.{IsComingUp, IsStarted, IsUpForStart, SetsNoStart}
+use Rattle.refinement.specs.StartedPort.{IsStoppedAndUpForStartIfShown, IsStarted, IsUpForStart, SetsNoStart}
 use Rattle.block_machine.specs.Histories.{IsReachable}
 use Rattle.adapter.specs.KeptBySteps.{KeepsOverSteps}
 use Rattle.ata_types.specs.declared.memory.TheConstants.{LIST_BYTES, RECEIVED_FIS_BYTES}
-use Rattle.refinement.specs.PreservedParts.{LeavesControls, NoPlugEvents, SameAdapter, DoesNotWrite}
-use Rattle.refinement.specs.PortNotes.{LeavesNotes}
+use Rattle.refinement.specs.PreservedParts.{ControlsChangeOnlyByTheirWrites, NoPlugEvents, SameAdapter, DoesNotWrite}
+use Rattle.refinement.specs.PortNotes.{ReadingNotesChangeByReadOrSctlWriteOnly}
 use Rattle.block_machine.specs.State.{Machine}
 use Rattle.hba_regs.specs.declared.reg.PortReg.{PortReg}
 use Rattle.adapter.specs.RegisterEffects.{PortRegisterWritten, PortRegisterRead}
@@ -107,16 +107,16 @@ pub record Laws : Type 0 where
   pub shown_after : (port : Port) (r : PortReg) (v : ℕ) (old new : Device) → old.hr ≡ false
       → Reads (Px port r) v old new → PortShows r v (new.port port.0)
   pub access_notes : (port : Port) (access : Access) (old new : Device) → Does access old new
-      → LeavesNotes access port (old.port port.0).notes (new.port port.0).notes
+      → ReadingNotesChangeByReadOrSctlWriteOnly access port (old.port port.0).notes (new.port port.0).notes
   pub writes_keep_notes : (port : Port) (r : PortReg) (v : ℕ) (old new : Device) → r ≢ Sctl → r ≢ Is
       → (r ≡ Cmd → bit v 0 ≡ false) → Writes (Px port r) v old new → (new.port port.0).notes ≡ (old.port port.0).notes
-  pub cmd_write_keeps_notes : (port : Port) (v : ℕ) (old new : Device) → Writes (Px port Cmd) v old new
+  pub cmd_write_keeps_notes_but_st_time : (port : Port) (v : ℕ) (old new : Device) → Writes (Px port Cmd) v old new
       → (new.port port.0).notes ≡ record (old.port port.0).notes { st_set_at = (new.port port.0).notes.st_set_at }
   pub access_controls : (port : Port) (access : Access) (old new : Device) → old.hr ≡ false → Does access old new
-      → LeavesControls access port (old.port port.0) (new.port port.0)
+      → ControlsChangeOnlyByTheirWrites access port (old.port port.0) (new.port port.0)
   pub cmd_write_sets_st_and_fre : (port : Port) (v : ℕ) (old new : Device) → Writes (Px port Cmd) v old new
       → ((new.port port.0).st ≡ bit v 0) × ((new.port port.0).fre ≡ bit v 4)
-  pub start_set : (port : Port) (v : ℕ) (old new : Device) → (old.port port.0).st ≡ false → bit v 0 ≡ true
+  pub start_sets_cr_and_time : (port : Port) (v : ℕ) (old new : Device) → (old.port port.0).st ≡ false → bit v 0 ≡ true
       → Writes (Px port Cmd) v old new → ((new.port port.0).cr ≡ true)
       × ((new.port port.0).notes.st_set_at ≡ length new.tape)
   pub sctl_write_sets_det : (port : Port) (v : ℕ) (old new : Device) → Writes (Px port Sctl) v old new
@@ -149,23 +149,25 @@ pub record Laws : Type 0 where
   pub free_unarmed : (uses : SlotStates) (m : Machine) (d : Device) → StateRelation uses m d → (port slot : ℕ)
       → uses port slot ≡ Free → (d.port port).sact slot ≡ false
   -- the link
-  pub comreset_begins : (port : Port) (v : ℕ) (old new : Device) → (old.port port.0).cr ≡ false → v % 16 ≡ 1
-      → Writes (Px port Sctl) v old new → StoppedWithDrqTillLink (new.port port.0)
+  pub comreset_shows_drq_till_link : (port : Port) (v : ℕ) (old new : Device) → (old.port port.0).cr ≡ false
+      → v % 16 ≡ 1 → Writes (Px port Sctl) v old new → IsStoppedWithDrqWhileLinkAwaited (new.port port.0)
   pub writes_keep_drq_till_link : (port : ℕ) (r : Reg) (v : ℕ) (old new : Device) → IsStable (MayWrite r v) old
-      → IsStable (KeepsFaultRecord r v) old → Writes r v old new → StoppedWithDrqTillLink (old.port port)
-      → StoppedWithDrqTillLink (new.port port)
+      → IsStable (StartsCleanAndWritesSctlStopped r v) old → Writes r v old new
+      → IsStoppedWithDrqWhileLinkAwaited (old.port port)
+      → IsStoppedWithDrqWhileLinkAwaited (new.port port)
   pub reads_keep_drq_till_link : (port : ℕ) (r : Reg) (v : ℕ) (old new : Device) → Reads r v old new
-      → StoppedWithDrqTillLink (old.port port)
-      → StoppedWithDrqTillLink (new.port port)
+      → IsStoppedWithDrqWhileLinkAwaited (old.port port)
+      → IsStoppedWithDrqWhileLinkAwaited (new.port port)
   pub access_keeps_drq_till_link : (port : Port) (access : Access) (old new : Device)
       → DoesNotWrite (Px port Cmd) access
-      → DoesNotWrite (Px port Sctl) access → Does access old new → StoppedWithDrqTillLink (old.port port.0)
-      → StoppedWithDrqTillLink (new.port port.0)
+      → DoesNotWrite (Px port Sctl) access → Does access old new → IsStoppedWithDrqWhileLinkAwaited (old.port port.0)
+      → IsStoppedWithDrqWhileLinkAwaited (new.port port.0)
   pub comreset_begins_coming_up : (port : Port) (v : ℕ) (old new : Device) → (old.port port.0).cr ≡ false → v % 16 ≡ 1
-      → Writes (Px port Sctl) v old new → IsComingUp (new.port port.0)
+      → Writes (Px port Sctl) v old new → IsStoppedAndUpForStartIfShown (new.port port.0)
   pub access_keeps_coming_up : (port : Port) (access : Access) (old new : Device) → SetsNoStart port access
       → Does access old new
-      → NoDiskComes port.0 old new → IsComingUp (old.port port.0) → IsComingUp (new.port port.0)
+      → NoDiskComes port.0 old new → IsStoppedAndUpForStartIfShown (old.port port.0)
+      → IsStoppedAndUpForStartIfShown (new.port port.0)
   pub access_keeps_up : (port : Port) (access : Access) (old new : Device) → old.hr ≡ false
       → (old.port port.0).cr ≡ false
       → SetsNoStart port access → DoesNotWrite (Px port Sctl) access → NoPlugEvents port.0 old new
@@ -173,8 +175,9 @@ pub record Laws : Type 0 where
       → IsUpForStart (old.port port.0) → IsUpForStart (new.port port.0)
   pub up_is_found : (port : Port) (v : ℕ) (old new : Device) → NoDiskComes port.0 old new
       → Reads (Px port Ssts) v old new
-      → v % 16 ≡ 3 → IsComingUp (old.port port.0) → IsUpForStart (new.port port.0)
-  pub start_is_made : (port : Port) (v : ℕ) (old new : Device) → old.hr ≡ false → (old.port port.0).st ≡ false
+      → v % 16 ≡ 3 → IsStoppedAndUpForStartIfShown (old.port port.0) → IsUpForStart (new.port port.0)
+  pub start_of_up_port_is_started : (port : Port) (v : ℕ) (old new : Device) → old.hr ≡ false
+      → (old.port port.0).st ≡ false
       → (old.port port.0).cr ≡ false → bit v 0 ≡ true → Writes (Px port Cmd) v old new → IsUpForStart (old.port port.0)
       → NoPlugEvents port.0 old new → IsStarted (new.port port.0)
   pub access_keeps_linked : (port : Port) (access : Access) (old new : Device) → old.hr ≡ false
@@ -185,8 +188,9 @@ pub record Laws : Type 0 where
       → IsLinked (old.port port.0) → RunsLinked (new.port port.0)
   pub last_tfd_is_read : (port : Port) (v : ℕ) (old new : Device) → Reads (Px port Tfd) v old new
       → (new.port port.0).notes.last_tfd ≡ v
-  pub law_clean_to_start_is_found : (port : Port) (v : ℕ) (old new : Device) → StoppedWithDrqTillLink (old.port port.0)
-      → StoppedTfesClear (old.port port.0) → Reads (Px port Tfd) v old new → bit v 3 ≡ false
+  pub law_clean_to_start_is_found : (port : Port) (v : ℕ) (old new : Device)
+      → IsStoppedWithDrqWhileLinkAwaited (old.port port.0)
+      → CrAndTfesAreClear (old.port port.0) → Reads (Px port Tfd) v old new → bit v 3 ≡ false
       → IsCleanToStart (new.port port.0)
   pub steps_keep_clean_to_start : (port : ℕ) (old new : Device) → Steps old new → IsCleanToStart (old.port port)
       → IsCleanToStart (new.port port)
@@ -198,13 +202,14 @@ pub record Laws : Type 0 where
       → (r ≡ Px port Sctl → v % 16 ≢ 1) → Writes r v old new → IsCleanToStart (old.port port.0)
       → IsCleanToStart (new.port port.0)
   pub reads_keep_tfes_clear : (port : ℕ) (r : Reg) (v : ℕ) (old new : Device) → Reads r v old new
-      → StoppedTfesClear (old.port port) → StoppedTfesClear (new.port port)
+      → CrAndTfesAreClear (old.port port) → CrAndTfesAreClear (new.port port)
   -- what the tape tells
   pub tape : TapeLaws
   pub stopped_port_has_fault_record : (tape : List Entry) (p : DevicePort) (port : ℕ) → p.st ≡ false
       → RecordsFaultsIfSt tape p port
   pub writes_keep_fault_record : (port : ℕ) (r : Reg) (v : ℕ) (old new : Device) → IsStable (MayWrite r v) old
-      → IsStable (KeepsFaultRecord r v) old → Writes r v old new → RecordsFaultsIfSt old.tape (old.port port) port
+      → IsStable (StartsCleanAndWritesSctlStopped r v) old → Writes r v old new
+      → RecordsFaultsIfSt old.tape (old.port port) port
       → RecordsFaultsIfSt new.tape (new.port port) port
   -- fragments
   pub accesses_of_port_keep_on : (port : Port) (old new : Device) → IsOn old

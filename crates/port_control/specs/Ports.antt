@@ -13,11 +13,11 @@ use Rattle.adapter.specs.Device.{Bases, Notes, DevicePort, Device}
 use Rattle.adapter.specs.Rules.{IsOn, HasPort}
 use Rattle.refinement.specs.Fragments.{SomeMachineAgreesWith, AnySlotStates, ReadsPortOrWrites, IsDrivenBy, IsSimulatedAlong}
 use Rattle.refinement.specs.Errors.{NoDiskComes}
-use Rattle.refinement.specs.PortFacts.{StoppedWithDrqTillLink, IsEngineStopped, IsCleanToStart}
+use Rattle.refinement.specs.PortFacts.{IsStoppedWithDrqWhileLinkAwaited, IsEngineStopped, IsCleanToStart}
 use Rattle.refinement.specs.PreservedParts.{NoPlugEvents}
 use Rattle.refinement.specs.MemoryLayout.{command_list_address, received_fis_address}
 use Rattle.refinement.specs.Slots.{SlotStates}
-use Rattle.refinement.specs.StartedPort.{IsUpForStart, IsComingUp}
+use Rattle.refinement.specs.StartedPort.{IsUpForStart, IsStoppedAndUpForStartIfShown}
 use Rattle.port_control.specs.Engines.{FailsToStop, FailsToStopReceiving, Stops, StopsReceiving}
 use Rattle.port_control.specs.declared.PortFault.{PortFault}
 use Rattle.port_control.specs.declared.PortFault.TheVariants.{NoDevice, Busy, EngineStuck, NotAta}
@@ -43,7 +43,7 @@ IsResetRegister r = (r ≡ Sctl) ⊎ IsSerrOrIs r
 -- ---- the states of a port
 
 -- The adapter is on and has the port; and some machine agrees with its device, with uses of the slots that fit.
-pub record IsOnAndAgrees (Fits : SlotStates → Type 0) (port : Port) (d : Device) : Type 0 where
+pub record IsOnWithPortAndAgrees (Fits : SlotStates → Type 0) (port : Port) (d : Device) : Type 0 where
   pub adapter_is_on : IsOn d
   pub has_port : HasPort d port.0
   pub machine_is_related : SomeMachineAgreesWith Fits d
@@ -72,7 +72,7 @@ pub record IsStoppedReceiving (port : ℕ) (p : DevicePort) : Type 0 where
   pub areas_are_in_place : p.bases ≡ programmed_bases port
 
 -- It runs and receives FISes, with list and area in their places, and no command is issued, active or taken.
-pub record RunsWithoutCommands (port : ℕ) (p : DevicePort) : Type 0 where
+pub record RunsInPlaceWithoutCommands (port : ℕ) (p : DevicePort) : Type 0 where
   pub st_is_set : p.st ≡ true
   pub cr_is_set : p.cr ≡ true
   pub fre_is_set : p.fre ≡ true
@@ -104,26 +104,26 @@ SawIdle n = ShowsIdle n.last_tfd
 abbrev pub BacksFault : PortFault → Notes → Type 0
 BacksFault NoDevice n = (n.last_ssts % 16 ≢ 3) × (n.link_wait_count ≡ MOST_READINGS)
 BacksFault Busy n = SawDevice n × (n.busy_count ≡ MOST_READINGS)
-BacksFault EngineStuck n = n.engine_count ≡ MOST_READINGS
+BacksFault EngineStuck n = n.engine_wait_count ≡ MOST_READINGS
 BacksFault (NotAta signature) n = SawDevice n × ShowsIdle n.last_tfd × (n.last_sig ≡ signature) × (signature ≢ 0x101)
 
 -- ---- what the calls leave
 
 -- all that readings noted is as it was, but for those of PxCMD
 abbrev pub SameButCmdNotes : Notes → Notes → Type 0
-SameButCmdNotes old new = new ≡ record old { last_cmd = new.last_cmd; engine_count = new.engine_count }
+SameButCmdNotes old new = new ≡ record old { last_cmd = new.last_cmd; engine_wait_count = new.engine_wait_count }
 
 -- so are PxSCTL.DET and all that readings noted
-abbrev pub SameSctlAndNotes : DevicePort → DevicePort → Type 0
-SameSctlAndNotes old new = (new.sctl_det ≡ old.sctl_det) × SameButCmdNotes old.notes new.notes
+abbrev pub SameSctlAndNotesButCmd : DevicePort → DevicePort → Type 0
+SameSctlAndNotesButCmd old new = (new.sctl_det ≡ old.sctl_det) × SameButCmdNotes old.notes new.notes
 
 -- the same where ST is set, but for when that was
-abbrev pub SameButStart : DevicePort → DevicePort → Type 0
-SameButStart old new =
+abbrev pub SameSctlAndNotesButCmdAndStart : DevicePort → DevicePort → Type 0
+SameSctlAndNotesButCmdAndStart old new =
     (new.sctl_det ≡ old.sctl_det)
     × (new.notes ≡ record old.notes {
       last_cmd = new.notes.last_cmd;
-      engine_count = new.notes.engine_count;
+      engine_wait_count = new.notes.engine_wait_count;
       st_set_at = new.notes.st_set_at;
     })
 
@@ -215,7 +215,7 @@ pub record SerrShowsOnlyNewPlugs (port : ℕ) (old new : Device) : Type 0 where
 -- is read without DRQ, which it shows from COMRESET until the link comes up, the link isn't due, so that ST may be set.
 pub record IsDeviceFound (port : ℕ) (old new : Device) : Type 0 where
   pub no_cause_is_set : (place : ℕ) → place < 32 → (new.port port).is place ≡ false
-  pub errors_are_clear : SerrShowsOnlyNewPlugs port old new
+  pub serr_shows_only_new_plugs : SerrShowsOnlyNewPlugs port old new
   pub no_link_is_due : NoDiskComes port old new → (new.port port).link_due ≡ false
   pub link_is_up : NoPlugEvents port old new → IsUpForStart (new.port port)
   pub is_clean_to_start : bit (new.port port).notes.last_tfd 3 ≡ false → IsCleanToStart (new.port port)
@@ -223,10 +223,13 @@ pub record IsDeviceFound (port : ℕ) (old new : Device) : Type 0 where
 -- So it is where the link was coming up before, and was awaited.
 pub record FindsAwaitedLink (port : ℕ) (old new : Device) : Type 0 where
   pub no_cause_is_set : (place : ℕ) → place < 32 → (new.port port).is place ≡ false
-  pub errors_are_clear : IsComingUp (old.port port) → SerrShowsOnlyNewPlugs port old new
-  pub no_link_is_due : NoDiskComes port old new → IsComingUp (old.port port) → (new.port port).link_due ≡ false
-  pub link_is_up : NoPlugEvents port old new → IsComingUp (old.port port) → IsUpForStart (new.port port)
-  pub is_clean_to_start : StoppedWithDrqTillLink (old.port port) → bit (new.port port).notes.last_tfd 3 ≡ false
+  pub serr_shows_only_new_plugs : IsStoppedAndUpForStartIfShown (old.port port) → SerrShowsOnlyNewPlugs port old new
+  pub no_link_is_due : NoDiskComes port old new → IsStoppedAndUpForStartIfShown (old.port port)
+      → (new.port port).link_due ≡ false
+  pub link_is_up : NoPlugEvents port old new → IsStoppedAndUpForStartIfShown (old.port port)
+      → IsUpForStart (new.port port)
+  pub is_clean_to_start : IsStoppedWithDrqWhileLinkAwaited (old.port port)
+      → bit (new.port port).notes.last_tfd 3 ≡ false
       → IsCleanToStart (new.port port)
 
 -- Each bit of PxSERR and PxIS was cleared, and PxTFD was read with this value. The port receives FISes still; nothing
@@ -238,9 +241,9 @@ pub record ClearsErrorState (port : Port) (shown : ℕ) (old new : Device) : Typ
   pub receives : IsStoppedReceiving port.0 (new.port port.0)
   pub last_tfd_is : (new.port port.0).notes.last_tfd ≡ shown
   pub last_ssts_is_kept : (new.port port.0).notes.last_ssts ≡ (old.port port.0).notes.last_ssts
-  pub link_count_is_kept : (new.port port.0).notes.link_wait_count ≡ (old.port port.0).notes.link_wait_count
+  pub link_wait_count_is_kept : (new.port port.0).notes.link_wait_count ≡ (old.port port.0).notes.link_wait_count
   pub no_cause_is_set : (place : ℕ) → place < 32 → (new.port port.0).is place ≡ false
-  pub errors_are_clear : SerrShowsOnlyNewPlugs port.0 old new
+  pub serr_shows_only_new_plugs : SerrShowsOnlyNewPlugs port.0 old new
   pub is_clean_to_start : IsCleanToStart (new.port port.0)
 
 -- the signature that was read last is the one that the port shows

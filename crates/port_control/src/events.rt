@@ -1,7 +1,7 @@
 //! Looks at a port: what its interrupts and its link tell (AHCI 1.3.1, 5.5.3 and 6.2).
 //!
 //! `take_event` is for ready ports, and acknowledges what it has read. `has_device` and
-//! `has_device_changed` are for others, and write nothing. No call asks for a machine, and none hides
+//! `has_device_changed_or_missing` are for others, and write nothing. No call asks for a machine, and none hides
 //! trouble that it hasn't read. Here stand, too, the words and laws on accesses that serve ports
 //! (`IsServiceAccess`, `law_services_keep_ports_running`): they let these write PxCI, since it is between issues that
 //! ports are looked at.
@@ -9,7 +9,7 @@ ghost use Rattle.std.specs.Prelude.{◌≡◌, ◌||◌, ◌==◌, ◌%◌, not}
 ghost use Rattle.adapter.specs.{Rules.{IsOn, HasPort}, AccessBounds.{MakesAtMost}};
 ghost use Rattle.refinement.specs.Fragments.{AnySlotStates, IsSimulated};
 ghost use Rattle.hba_regs.specs.Bits.{bit};
-ghost use Rattle.port_control.specs.{DeviceChecks.{ChecksForChange, ChecksForDevice}, PortEvents.{port_event_of, IsEventAccess, TakesEvent}, EventCosts.{CHANGE_CHECK_ACCESSES, TAKE_EVENT_ACCESSES}};
+ghost use Rattle.port_control.specs.{DeviceChecks.{ChecksForChangeOrNoDevice, ChecksForDevice}, PortEvents.{port_event_of, IsEventAccess, TakesEvent}, EventCosts.{CHANGE_CHECK_ACCESSES, TAKE_EVENT_ACCESSES}};
 
 use adapter::Adapter;
 use ata_types::Port;
@@ -113,11 +113,11 @@ pub fn has_device<A: Adapter>(adapter: &mut A, port: Port) -> bool
 /// Looks at a port for a change of its device: whether it went, or its link came up, since PxSERR was last cleared
 /// (PRCS and PCS of PxIS show N and X of PxSERR), or isn't there (DET of PxSSTS isn't 3; AHCI 1.3.1, 3.3.5, 3.3.10 and
 /// 3.3.12). PxIS is read, and then PxSSTS; neither is written, so that a change is told until the port is booted.
-pub fn has_device_changed<A: Adapter>(adapter: &mut A, port: Port) -> bool
+pub fn has_device_changed_or_missing<A: Adapter>(adapter: &mut A, port: Port) -> bool
     requires adapter_is_on { IsOn (A.device adapter.old) }
     requires has_port { HasPort (A.device adapter.old) port.0 }
     ensures adapter_is_on { IsOn (A.device adapter.new) }
-    ensures finds { ChecksForChange port result (A.device adapter.old) (A.device adapter.new) }
+    ensures finds { ChecksForChangeOrNoDevice port result (A.device adapter.old) (A.device adapter.new) }
     ensures followed { IsSimulated (IsEventAccess port) AnySlotStates (A.device adapter.old) (A.device adapter.new) }
     ensures cost { MakesAtMost CHANGE_CHECK_ACCESSES (A.access_count adapter.old) (A.access_count adapter.new) }
 {

@@ -30,7 +30,7 @@ pub fn law_what_is_told_of_engines_stays()
 /// No call touches a register of another port, nor another port's bit of IS: so what is said of such accesses
 /// (`SparesOtherPorts`) is so of each. Those that stop and start, and those that receive FISes, don't write PxSCTL.
 pub fn law_calls_are_of_one_port()
-    ensures commanding { (port : Port) (access : Access) → ReadsPortOrWrites IsCommandRegister port access
+    ensures cmd_access_is_of_port { (port : Port) (access : Access) → ReadsPortOrWrites IsCommandRegister port access
         → SparesOtherPorts port access × DoesNotWrite (Px port Sctl) access }
     ensures placing { (port : Port) (access : Access) → ReadsPortOrWrites IsPlacingRegister port access
         → SparesOtherPorts port access × DoesNotWrite (Px port Sctl) access }

@@ -11,8 +11,8 @@ ghost use Rattle.std.specs.Prelude.{ℕ, ◌≡◌, ◌≢◌, ◌<◌, ◌≤�
 ghost use Rattle.hba_regs.specs.Bits.{bit};
 ghost use Rattle.adapter.specs.{Rules.{IsOn}, AccessBounds.{MakesAtMost}};
 ghost use Rattle.refinement.specs.{Fragments.{AnySlotStates, ReadsPortOrWrites, IsSimulated, IsSimulatedAlong}, Driver.{AllFree}, PortFacts.{IsQuiescentPort}};
-ghost use Rattle.port_control.specs.{Calls.{AsksForDevice, ResetsAndFindsDisk, ResetsAndFindsFault, MayBeginReceiving, MayBeStarted, MayClearErrorState, MayResetLink, StaysReceiving, Starts, StaysStopped}, Engines.{FailsToStopReceiving, StopsReceiving}, CallParts.{AwaitsIdle, ClearsFre, FindsAwaitedDevice, LeavesNoError, MissesDevice, PlacesAreas, FindsDiskAfterReset, FindsFaultAfterReset, SendsComreset}};
-ghost use Rattle.port_control.specs.Ports.{FailsToStopPort, FailsToReceive, PortStops, BeginsReceiving, IsCommandRegister, IsPlacingRegister, IsSerrOrIs, IsResetRegister, IsOnAndAgrees, IsStopped, IsStoppedReceiving, SawDevice, BacksFault, SameSctlAndNotes, ClearsStAlone, ClearsErrorState, programmed_bases};
+ghost use Rattle.port_control.specs.{Calls.{AsksForDevice, ResetsAndFindsDisk, ResetsAndFindsFault, MayBeginReceiving, MayBeStarted, MayClearErrorState, MayResetLink, StaysReceivingWithLinkUpIfShown, Starts, StaysStoppedWithNotesButCmdKept}, Engines.{FailsToStopReceiving, StopsReceiving}, CallParts.{AwaitsIdle, ClearsFre, FindsAwaitedDevice, LeavesOnlyNewPlugErrors, MissesDevice, PlacesAreas, FindsDiskAfterReset, FindsFaultAfterReset, SendsComreset}};
+ghost use Rattle.port_control.specs.Ports.{FailsToStopPort, FailsToReceive, PortStops, BeginsReceiving, IsCommandRegister, IsPlacingRegister, IsSerrOrIs, IsResetRegister, IsOnWithPortAndAgrees, IsStopped, IsStoppedReceiving, SawDevice, BacksFault, SameSctlAndNotesButCmd, ClearsStAlone, ClearsErrorState, programmed_bases};
 ghost use Rattle.port_control.specs.Costs.{AWAIT_DEVICE_ACCESSES, CLEAR_ACCESSES, COMRESET_ACCESSES, ERROR_STATE_ACCESSES, RECEIVE_ACCESSES, DETECT_ACCESSES, START_ACCESSES, STOP_ACCESSES};
 
 use adapter::Adapter;
@@ -97,7 +97,7 @@ pub fn is_bsy_or_drq(task_file: TaskFile) -> bool
 ///
 /// `EngineStuck` where 64 readings find CR set: ST is 0 then, too.
 pub fn stop<A: Adapter>(adapter: &mut A, port: Port) -> Result<Stopped, PortFault>
-    requires on_and_agrees { IsOnAndAgrees AnySlotStates port (A.device adapter.old) }
+    requires on_and_agrees { IsOnWithPortAndAgrees AnySlotStates port (A.device adapter.old) }
     ensures adapter_is_on { IsOn (A.device adapter.new) }
     ensures st_is_cleared { ClearsStAlone ((A.device adapter.old).port port.0) ((A.device adapter.new).port port.0) }
     ensures token_is_of_port { IfOk result (λ token. token.port ≡ port) }
@@ -120,7 +120,7 @@ pub fn stop<A: Adapter>(adapter: &mut A, port: Port) -> Result<Stopped, PortFaul
 
 // Clears FRE, and waits until FR is 0 (AHCI 1.3.1, 10.3.2).
 fn stop_receiving<A: Adapter>(adapter: &mut A, port: Port) -> bool
-    requires usable { IsOnAndAgrees AnySlotStates port (A.device adapter.old) }
+    requires usable { IsOnWithPortAndAgrees AnySlotStates port (A.device adapter.old) }
     requires stopped { IsStopped ((A.device adapter.old).port port.0) }
     ensures clears { ClearsFre ((A.device adapter.old).port port.0) ((A.device adapter.new).port port.0) }
     ensures stops { result ≡ true → IsSimulatedAlong (StopsReceiving port) (ReadsPortOrWrites IsCommandRegister port)
@@ -147,7 +147,7 @@ fn stop_receiving<A: Adapter>(adapter: &mut A, port: Port) -> bool
 
 // Puts the command list and the received FIS area in their places, below 4 GiB (AHCI 1.3.1, 3.3.1 to 3.3.4).
 fn place<A: Adapter>(adapter: &mut A, port: Port)
-    requires usable { IsOnAndAgrees AnySlotStates port (A.device adapter.old) }
+    requires usable { IsOnWithPortAndAgrees AnySlotStates port (A.device adapter.old) }
     requires quiet { IsQuiescentPort ((A.device adapter.old).port port.0) }
     requires room { DRIVER_BYTES ≤ (A.device adapter.old).memory_size }
     ensures followed { IsSimulated (ReadsPortOrWrites IsPlacingRegister port) AnySlotStates (A.device adapter.old)
@@ -165,13 +165,13 @@ fn place<A: Adapter>(adapter: &mut A, port: Port)
 
 // Sets FRE (AHCI 1.3.1, 10.3.2).
 fn start_receiving<A: Adapter>(adapter: &mut A, port: Port)
-    requires usable { IsOnAndAgrees AnySlotStates port (A.device adapter.old) }
+    requires usable { IsOnWithPortAndAgrees AnySlotStates port (A.device adapter.old) }
     requires quiet { IsQuiescentPort ((A.device adapter.old).port port.0) }
     requires bases { ((A.device adapter.old).port port.0).bases ≡ programmed_bases port.0 }
     ensures followed { IsSimulated (ReadsPortOrWrites IsCommandRegister port) AnySlotStates (A.device adapter.old)
         (A.device adapter.new) }
     ensures receives { IsStoppedReceiving port.0 ((A.device adapter.new).port port.0) }
-    ensures same { SameSctlAndNotes ((A.device adapter.old).port port.0) ((A.device adapter.new).port port.0) }
+    ensures same { SameSctlAndNotesButCmd ((A.device adapter.old).port port.0) ((A.device adapter.new).port port.0) }
     ensures cost { MakesAtMost START_ACCESSES (A.access_count adapter.old) (A.access_count adapter.new) }
 {
     law_prerequisites();
@@ -190,7 +190,7 @@ pub fn receive<A: Adapter>(
 ) -> Result<Receiving, (PortFault, Stopped)>
     requires may { MayBeginReceiving stopped.port (A.device adapter.old) }
     ensures adapter_is_on { IsOn (A.device adapter.new) }
-    ensures stays_stopped { StaysStopped stopped.port (A.device adapter.old) (A.device adapter.new) }
+    ensures stays_stopped { StaysStoppedWithNotesButCmdKept stopped.port (A.device adapter.old) (A.device adapter.new) }
     ensures token_is_of_port { IfOk result (λ token. token.port ≡ stopped.port) }
     ensures receives { OnOk result (BeginsReceiving stopped.port (A.device adapter.old) (A.device adapter.new)) }
     ensures fails { IfErr result (λ fault. (fault.0 ≡ PortFault.EngineStuck) × (fault.1 ≡ stopped)
@@ -209,7 +209,7 @@ pub fn receive<A: Adapter>(
 
 // Sends COMRESET, and ends it (AHCI 1.3.1, 10.4.2).
 fn send_comreset<A: Adapter>(adapter: &mut A, port: Port)
-    requires usable { IsOnAndAgrees AnySlotStates port (A.device adapter.old) }
+    requires usable { IsOnWithPortAndAgrees AnySlotStates port (A.device adapter.old) }
     requires receives { IsStoppedReceiving port.0 ((A.device adapter.old).port port.0) }
     ensures followed { IsSimulated (ReadsPortOrWrites IsResetRegister port) AnySlotStates (A.device adapter.old)
         (A.device adapter.new) }
@@ -223,7 +223,7 @@ fn send_comreset<A: Adapter>(adapter: &mut A, port: Port)
 
 // Waits until the port has a device with a link, for 64 readings at most.
 fn wait_for_device<A: Adapter>(adapter: &mut A, port: Port) -> bool
-    requires usable { IsOnAndAgrees AnySlotStates port (A.device adapter.old) }
+    requires usable { IsOnWithPortAndAgrees AnySlotStates port (A.device adapter.old) }
     requires det { ((A.device adapter.old).port port.0).sctl_det ≡ 0 }
     ensures followed { IsSimulated (ReadsPortOrWrites IsSerrOrIs port) AnySlotStates (A.device adapter.old)
         (A.device adapter.new) }
@@ -243,13 +243,13 @@ fn wait_for_device<A: Adapter>(adapter: &mut A, port: Port) -> bool
 
 // Clears what the link and the port have told so far: PxSERR, and then PxIS.
 fn clear_errors<A: Adapter>(adapter: &mut A, port: Port)
-    requires usable { IsOnAndAgrees AnySlotStates port (A.device adapter.old) }
+    requires usable { IsOnWithPortAndAgrees AnySlotStates port (A.device adapter.old) }
     requires receives { IsStoppedReceiving port.0 ((A.device adapter.old).port port.0) }
     ensures followed { IsSimulated (ReadsPortOrWrites IsSerrOrIs port) AnySlotStates (A.device adapter.old)
         (A.device adapter.new) }
     ensures saw { SawDevice ((A.device adapter.old).port port.0).notes → SawDevice
         ((A.device adapter.new).port port.0).notes }
-    ensures clears { LeavesNoError port (A.device adapter.old) (A.device adapter.new) }
+    ensures clears { LeavesOnlyNewPlugErrors port (A.device adapter.old) (A.device adapter.new) }
     ensures cost { MakesAtMost CLEAR_ACCESSES (A.access_count adapter.old) (A.access_count adapter.new) }
 {
     law_prerequisites();
@@ -276,7 +276,7 @@ pub fn clear_error_state<A: Adapter>(adapter: &mut A, port: Port) -> TaskFile
 /// Whether a device with a link shows in a port, as where a device went or came: clears each bit of PxSERR, and reads
 /// PxSSTS (AHCI 1.3.1, 3.3.10 and 3.3.12). A stopped port stays stopped.
 pub fn clear_serr_and_detect<A: Adapter>(adapter: &mut A, port: Port) -> bool
-    requires on_and_agrees { IsOnAndAgrees AnySlotStates port (A.device adapter.old) }
+    requires on_and_agrees { IsOnWithPortAndAgrees AnySlotStates port (A.device adapter.old) }
     ensures adapter_is_on { IsOn (A.device adapter.new) }
     ensures followed { IsSimulated (ReadsPortOrWrites IsSerrOrIs port) AnySlotStates (A.device adapter.old)
         (A.device adapter.new) }
@@ -291,7 +291,7 @@ pub fn clear_serr_and_detect<A: Adapter>(adapter: &mut A, port: Port) -> bool
 
 // Waits until the device is neither busy nor asks for a transfer, for 64 readings at most.
 fn wait_until_idle<A: Adapter>(adapter: &mut A, port: Port) -> bool
-    requires usable { IsOnAndAgrees AnySlotStates port (A.device adapter.old) }
+    requires usable { IsOnWithPortAndAgrees AnySlotStates port (A.device adapter.old) }
     requires det { ((A.device adapter.old).port port.0).sctl_det ≡ 0 }
     requires saw { SawDevice ((A.device adapter.old).port port.0).notes }
     ensures followed { IsSimulated (ReadsPortOrWrites IsSerrOrIs port) AnySlotStates (A.device adapter.old)
@@ -311,7 +311,7 @@ fn wait_until_idle<A: Adapter>(adapter: &mut A, port: Port) -> bool
 
 // Looks for an ATA disk that is idle, once COMRESET was sent.
 fn look<A: Adapter>(adapter: &mut A, port: Port) -> Result<(), PortFault>
-    requires usable { IsOnAndAgrees AnySlotStates port (A.device adapter.old) }
+    requires usable { IsOnWithPortAndAgrees AnySlotStates port (A.device adapter.old) }
     requires receives { IsStoppedReceiving port.0 ((A.device adapter.old).port port.0) }
     requires det { ((A.device adapter.old).port port.0).sctl_det ≡ 0 }
     ensures followed { IsSimulated (ReadsPortOrWrites IsSerrOrIs port) AnySlotStates (A.device adapter.old)
@@ -361,7 +361,8 @@ pub fn comreset<A: Adapter>(
         (A.device adapter.old)
         (A.device adapter.new) }
     ensures adapter_is_on { IsOn (A.device adapter.new) }
-    ensures stays_receiving { StaysReceiving receiving.port (A.device adapter.old) (A.device adapter.new) }
+    ensures stays_receiving { StaysReceivingWithLinkUpIfShown receiving.port (A.device adapter.old)
+        (A.device adapter.new) }
     ensures finds { IfOk result (λ token. (token.port ≡ receiving.port)
         × ResetsAndFindsDisk receiving.port (A.device adapter.old) (A.device adapter.new)) }
     ensures fault { IfErr result (λ fault. (fault.1 ≡ receiving)

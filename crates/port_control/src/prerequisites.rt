@@ -4,20 +4,22 @@ ghost use Rattle.port_control.specs.Laws.{Laws};
 use adapter::laws::{
     law_accesses_compose, law_port_register_accesses, law_step_lists_keep_what_steps_keep,
 };
-use refinement::access_kinds::{law_controls_are_of_a_port, law_fragment_prerequisites};
-use refinement::fragments::{
-    law_causes_stay_clear, law_other_ports_are_untouched, law_tape_prerequisites,
-    law_written_notes_stay,
+use refinement::access_kinds::{
+    law_fragment_prerequisites, law_port_register_accesses_are_of_port,
 };
-use refinement::giving_up::law_stopped_slots_tell;
+use refinement::fragments::{
+    law_other_ports_are_untouched, law_stopped_engine_keeps_pxis_bits_clear,
+    law_tape_prerequisites, law_writes_keep_notes_but_sctl_is_and_start,
+};
+use refinement::giving_up::law_over_slot_is_ended_or_dropped;
 use refinement::laws::{
     law_clear_sact_bits_stay, law_placing_areas_is_permitted, law_slots_are_disarmed,
-    law_writing_cmd_is_permitted, law_writing_stays_permitted,
+    law_writes_but_ci_stay_permitted, law_writing_cmd_is_permitted,
 };
 use refinement::port_facts::{
     law_adapter_stays, law_clean_to_start_is_found, law_controls_are_set, law_controls_stay,
-    law_errors_are_cleared, law_faults_are_recorded, law_link_comes_up, law_link_is_awaited,
-    law_notes_are_set, law_notes_stay, law_reset_is_found, law_running_well_is_found,
+    law_errors_are_cleared, law_faults_are_recorded, law_link_is_awaited, law_notes_are_set,
+    law_notes_stay, law_reset_is_found, law_running_well_is_found, law_shown_link_is_up_for_start,
     law_stopped_engine_is_read, law_stopped_engine_stays,
 };
 use refinement::recovering::{law_link_stays_online, law_running_goes_on};
@@ -36,7 +38,7 @@ pub fn law_prerequisites()
     law_errors_are_cleared();
     law_faults_are_recorded();
     law_stopped_engine_stays();
-    law_link_comes_up();
+    law_shown_link_is_up_for_start();
     law_link_is_awaited();
     law_notes_are_set();
     law_notes_stay();
@@ -44,18 +46,18 @@ pub fn law_prerequisites()
     law_reset_is_found();
     law_running_well_is_found();
     law_stopped_engine_is_read();
-    law_stopped_slots_tell();
+    law_over_slot_is_ended_or_dropped();
     law_fragment_prerequisites::<Brand>();
-    law_controls_are_of_a_port::<Brand>();
+    law_port_register_accesses_are_of_port::<Brand>();
     law_slots_are_disarmed();
     law_clear_sact_bits_stay();
     law_writing_cmd_is_permitted();
     law_placing_areas_is_permitted();
-    law_writing_stays_permitted();
+    law_writes_but_ci_stay_permitted();
     law_link_stays_online();
     law_running_goes_on();
-    law_causes_stay_clear();
+    law_stopped_engine_keeps_pxis_bits_clear();
     law_other_ports_are_untouched();
     law_tape_prerequisites();
-    law_written_notes_stay();
+    law_writes_keep_notes_but_sctl_is_and_start();
 }

@@ -15,7 +15,7 @@ use Rattle.identify.specs.declared.wanted.Wanted.{Wanted}
 use Rattle.port_control.specs.declared.Running.{Running}
 use Rattle.port_control.specs.declared.Stopped.{Stopped}
 use Rattle.port_control.specs.PortEvents.{IsEventAccess}
-use Rattle.server_history.specs.ErrorHandling.{HasNoUsedSlot}
+use Rattle.server_history.specs.ErrorHandling.{HasAllSlotsFreeAndCountOfMode}
 use Rattle.server_history.specs.ServerState.{ServerState, SettledInvariant}
 use Rattle.server_history.specs.Probing.{ProbesAnew, IsFoundAfterStop, FindsReasonToBoot, ProbesPort}
 use Rattle.server_history.specs.Turns.{ProbesUnready}
@@ -66,7 +66,7 @@ module _ (law : SettlesTried) (s : ServerState) (port : Port) (state : PortState
       }
 
   module _ (looks : FindsReasonToBoot state port true s.device seen) (followed : IsSimulated (IsEventAccess port) AnySlotStates s.device seen) (new : Device) (found : ProbeResult) (mode : QueueMode) (slots : PortSlots)
-      (finds : ProbesAnew (wanted_of s.wanted port.0) port found mode seen new) (unused : HasNoUsedSlot mode slots) where
+      (finds : ProbesAnew (wanted_of s.wanted port.0) port found mode seen new) (unused : HasAllSlotsFreeAndCountOfMode mode slots) where
     boots_so : ProbesPort port s (found_anew s new found mode slots port.0)
     boots_so = record {
       state = state;

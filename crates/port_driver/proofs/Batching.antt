@@ -213,7 +213,7 @@ module _ {A : Type 0} (device : A → Device) (accesses : A → ℕ) (port : Por
         let M : QueueMode → Type 0 = λ mode. IssuesTogetherIfAny port (due_ids mode port (unanswered_of s.book)) s then in
         subst M (sym l.mode_is) (subst (λ (ids : List RequestId). IssuesTogetherIfAny port ids s then) (sym (ap (λ (b : List BookEntry). due_ids self.mode port (unanswered_of b)) l.book_is ∙ only)) (issues s l));
     only_slots_change = rest;
-    book_length_is_unchanged = issued_length port (id ∷ []) may.has_found_port.0 _ (issues may.has_found_port.0 may.has_found_port.1) ∙ ap (λ (b : List BookEntry). length b) may.has_found_port.1.book_is;
+    book_length_is_unchanged = issued_length port (id ∷ []) may.some_server_has_port.0 _ (issues may.some_server_has_port.0 may.some_server_has_port.1) ∙ ap (λ (b : List BookEntry). length b) may.some_server_has_port.1.book_is;
     none_due_no_access = λ none. absurd (let long = as_long (id ∷ []) only in let least : length (due_of self.mode port (unanswered_of book)) ≡ 0 = ap length none in omega (arith, long, least));
     cost_per_due_request = let long = as_long (id ∷ []) only in omega (arith, long, cost);
     cost = omega (arith, cost);

@@ -42,8 +42,8 @@ AnswersKeep = (s new : ServerState) (port : Port) (request : BookEntry) → InCa
     → (one : AnswersOne port request s new) → IsOver (s.device.port port.0) one.slot → InCallInvariant new
 
 -- what is left of a book once the request with this id is taken out
-abbrev pub LeavesOthers : Type 0
-LeavesOthers = (entries : List BookEntry) (id : RequestId) (e : BookEntry) → Contains (without_entry id entries) e ↔ (Contains entries e × (e.request.id ≢ id))
+abbrev pub LeavesOtherPortsGrantsAndLastId : Type 0
+LeavesOtherPortsGrantsAndLastId = (entries : List BookEntry) (id : RequestId) (e : BookEntry) → Contains (without_entry id entries) e ↔ (Contains entries e × (e.request.id ≢ id))
 
 -- ---- a book without a request
 
@@ -184,7 +184,7 @@ all_answered port done before after old new table book slots some none = record 
 }
 
 -- the earliest of those that are left is answered
-module _ (have : HaveRequests) (keep : AnswersKeep) (leaves : LeavesOthers) (port : Port) (done : ℕ) (before after : List Reply) (old s : ServerState) (table : OwnersAndLoans) (book : List BookEntry) (slots : PortSlots)
+module _ (have : HaveRequests) (keep : AnswersKeep) (leaves : LeavesOtherPortsGrantsAndLastId) (port : Port) (done : ℕ) (before after : List Reply) (old s : ServerState) (table : OwnersAndLoans) (book : List BookEntry) (slots : PortSlots)
     (some : AnswersSome port done before after old s table book slots) (slot : ℕ) (earliest : HasLeastId slots done slot)
     (reply : Reply) (t : OwnersAndLoans) (b : List BookEntry) (u : PortSlots) (answers : AnswersSlot port slot reply s (with_answers s t b u port)) (freed : u ≡ with_use slots slot None) where
   abbrev new : ServerState

@@ -29,7 +29,7 @@ use Rattle.port_control.specs.declared.events.PortError.TheVariants.{TaskFileErr
 use Rattle.slots.specs.SlotUses.{PortSlots, IsTaken, use_at}
 use Rattle.slots.specs.declared.SlotUse.{SlotUse}
 use Rattle.port_driver.specs.LentSlots.{AnswersDoneSlots, HasPortToAnswer, with_answers}
-use Rattle.port_driver.specs.Recovery.{CompletesAndRecovers, IsInError}
+use Rattle.port_driver.specs.Recovery.{AnswersDoneAndHandlesError, IsInError}
 use Rattle.port_driver.specs.declared.served_port.ServedPort.{ServedPort}
 use Rattle.port_driver.specs.declared.served_port.Shared.{Shared}
 use Rattle.port_driver.proofs.Serving.{mask_of}
@@ -113,15 +113,15 @@ module _ (x : Troubled) where
 
   module _ (f : FoundDone x) where
     its_mask : IsMaskOf (slots_at x.s.slots x.port.0) f.mask
-    its_mask = subst (λ (u : PortSlots). IsMaskOf u f.mask) (sym x.lends.is_settled_with.has_port_and_shared.port_is.slots_are) (mask_of x.p.slots f.mask f.exact)
+    its_mask = subst (λ (u : PortSlots). IsMaskOf u f.mask) (sym x.lends.was_settled_with.has_port_and_shared.port_is.slots_are) (mask_of x.p.slots f.mask f.exact)
 
     pub lends_done : HasPortToAnswer (from x f) x.shared.table.value x.shared.book x.p.slots x.port f.done
     lends_done = record {
       in_call_invariant = x.laws.finding seen f.found x.port f.mask f.done seen_kept x.lends.sees_port_error.ready f.reads;
       ready = x.lends.sees_port_error.ready;
-      table_is = x.lends.is_settled_with.has_port_and_shared.table_is;
-      book_is = x.lends.is_settled_with.has_port_and_shared.book_is;
-      slots_are = x.lends.is_settled_with.has_port_and_shared.port_is.slots_are;
+      table_is = x.lends.was_settled_with.has_port_and_shared.table_is;
+      book_is = x.lends.was_settled_with.has_port_and_shared.book_is;
+      slots_are = x.lends.was_settled_with.has_port_and_shared.port_is.slots_are;
       over = λ slot small its. x.laws.over seen f.found x.port f.mask f.done slot seen_kept x.lends.sees_port_error.ready its_mask small f.reads its;
     }
 
@@ -163,9 +163,9 @@ module _ (x : Troubled) where
               let among = named_among w.queued x.port w.outstanding handling.accesses f.found new its (subst (BacksFailure w.queued x.port w.outstanding handling.accesses f.found new) is handling.tells.failure_is_backed) in
               its_use (use_at a.u its.slot.0) (sym (mask_of a.u w.outstanding w.left its.slot.0 among.0) ∙ among.1)
 
-          pub mends_rest : (failed : Option FailedRequest) → IsFailedRequest a.u result.failed failed → CompletesAndRecovers x.port x.port_error a.before a.after failed result.next x.s a.t a.b a.u new
+          pub mends_rest : (failed : Option FailedRequest) → IsFailedRequest a.u result.failed failed → AnswersDoneAndHandlesError x.port x.port_error a.before a.after failed result.next x.s a.t a.b a.u new
           mends_rest failed names = record {
-            server_before_answers = mid x f a;
+            server_after_done_answers = mid x f a;
             in_call_invariant = a.lent.in_call_invariant;
             error_handled = record {
               port_error = x.port_error;

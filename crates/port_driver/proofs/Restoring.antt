@@ -25,7 +25,7 @@ use Rattle.host_boot.specs.declared.Booted.{Booted}
 use Rattle.host_boot.specs.declared.ProbeResult.TheVariants.{Ready, Unready, Unserved}
 use Rattle.identify.specs.declared.DiskInfo.{DiskInfo}
 use Rattle.identify.specs.declared.wanted.Wanted.{Wanted}
-use Rattle.port_boot.specs.States.{IsBootable}
+use Rattle.port_boot.specs.States.{IsOnWithPortMemoryAndFreeSlots}
 use Rattle.port_control.specs.Ports.{IsStopped}
 use Rattle.port_control.specs.declared.Stopped.{Stopped}
 use Rattle.port_control.specs.PortEvents.{IsEventAccess}
@@ -42,13 +42,13 @@ use Rattle.port_control.specs.declared.events.PortError.TheVariants.{FatalError,
 use Rattle.slots.specs.SlotUses.{PortSlots, use_at}
 use Rattle.port_driver.specs.LoanRoom.{HaveLoanRoom, BookIsSound, book_and_loans}
 use Rattle.port_driver.specs.LentSlots.{HasPortToIssue, with_port_slots}
-use Rattle.port_driver.specs.Recovery.{HandlesPortErrorOf, CompletesAndRecovers, SeesPortError}
+use Rattle.port_driver.specs.Recovery.{HandlesPortErrorOf, AnswersDoneAndHandlesError, SeesPortError}
 use Rattle.port_driver.proofs.Sending.{ready_there}
 
 -- what laws say of what comes after a recovery
 pub record RestoringLaws : Type 0 where
   pub bootable : (s mid : ServerState) (device : Device) (port : Port) (token : Stopped) → InCallInvariant s → state_of (probe_result_of s.probe_results port.0) ≡ ReadyState → (r : IsErrorHandled port s mid device)
-      → IsSimulated (IsEventAccess port) AnySlotStates s.device r.device_after_look → r.result.next ≡ Restart token → IsBootable port device × IsStopped (device.port port.0) × ((device.port port.0).notes.link_wait_count ≡ MOST_READINGS)
+      → IsSimulated (IsEventAccess port) AnySlotStates s.device r.device_after_look → r.result.next ≡ Restart token → IsOnWithPortMemoryAndFreeSlots port device × IsStopped (device.port port.0) × ((device.port port.0).notes.link_wait_count ≡ MOST_READINGS)
   pub mode : (s mid : ServerState) (device : Device) (port : Port) → InCallInvariant s → state_of (probe_result_of s.probe_results port.0) ≡ ReadyState → (r : IsErrorHandled port s mid device)
       → IsSimulated (IsEventAccess port) AnySlotStates s.device r.device_after_look → mode_in s port ≡ probed_mode device.cap (probe_result_of s.probe_results port.0)
   pub places : (s : ServerState) (port : Port) → InCallInvariant s → state_of (probe_result_of s.probe_results port.0) ≡ ReadyState
@@ -92,7 +92,7 @@ pub record Recovery : Type 0 where
   pub b : List BookEntry
   pub u : PortSlots
   pub one : Device
-  pub rest : CompletesAndRecovers port port_error before told failed next s t b u one
+  pub rest : AnswersDoneAndHandlesError port port_error before told failed next s t b u one
 
 -- what it was found to be then, and how its requests were resolved
 pub record Restoration (x : Recovery) : Type 0 where
@@ -134,26 +134,26 @@ module _ (x : Recovery) where
   low : x.port.0 < 4
   low = (ready_there x.s x.port x.sees.in_call_invariant x.sees.ready).0
 
-  mid_ready : state_of (probe_result_of x.rest.server_before_answers.probe_results x.port.0) ≡ ReadyState
+  mid_ready : state_of (probe_result_of x.rest.server_after_done_answers.probe_results x.port.0) ≡ ReadyState
   mid_ready = ap (λ (n : ServerState). state_of (probe_result_of n.probe_results x.port.0)) x.rest.mid_server_has_parts ∙ x.sees.ready
 
   pub mode_then : (mode : QueueMode) → mode ≡ mode_at x.s.modes x.port.0 → mode ≡ probed_mode x.one.cap (Ready x.was)
-  mode_then mode said = said ∙ x.laws.mode x.s x.rest.server_before_answers x.one x.port x.sees.in_call_invariant x.sees.ready x.rest.error_handled x.rest.is_simulated ∙ ap (probed_mode x.one.cap) x.is_ready
+  mode_then mode said = said ∙ x.laws.mode x.s x.rest.server_after_done_answers x.one x.port x.sees.in_call_invariant x.sees.ready x.rest.error_handled x.rest.is_simulated ∙ ap (probed_mode x.one.cap) x.is_ready
 
   -- the token is of the port
   pub token_of : (stopped : Stopped) → x.next ≡ Restart stopped → stopped.port ≡ x.port
-  token_of stopped is = (subst (λ (way : Next). EndsAsNext x.rest.error_handled.queued x.port way x.rest.server_before_answers.device x.one) (x.rest.next_is ∙ is) x.rest.error_handled.recovers_or_stops.leaves.ends_as_next).0
+  token_of stopped is = (subst (λ (way : Next). EndsAsNext x.rest.error_handled.queued x.port way x.rest.server_after_done_answers.device x.one) (x.rest.next_is ∙ is) x.rest.error_handled.recovers_or_stops.leaves.ends_as_next).0
 
-  pub bootable : (stopped : Stopped) → x.next ≡ Restart stopped → IsBootable stopped.port x.one × IsStopped (x.one.port stopped.port.0) × ((x.one.port stopped.port.0).notes.link_wait_count ≡ MOST_READINGS)
+  pub bootable : (stopped : Stopped) → x.next ≡ Restart stopped → IsOnWithPortMemoryAndFreeSlots stopped.port x.one × IsStopped (x.one.port stopped.port.0) × ((x.one.port stopped.port.0).notes.link_wait_count ≡ MOST_READINGS)
   bootable stopped is =
-      subst (λ (q : Port). IsBootable q x.one × IsStopped (x.one.port q.0) × ((x.one.port q.0).notes.link_wait_count ≡ MOST_READINGS)) (sym (token_of stopped is))
-      (x.laws.bootable x.s x.rest.server_before_answers x.one x.port stopped x.sees.in_call_invariant x.sees.ready x.rest.error_handled x.rest.is_simulated (x.rest.next_is ∙ is))
+      subst (λ (q : Port). IsOnWithPortMemoryAndFreeSlots q x.one × IsStopped (x.one.port q.0) × ((x.one.port q.0).notes.link_wait_count ≡ MOST_READINGS)) (sym (token_of stopped is))
+      (x.laws.bootable x.s x.rest.server_after_done_answers x.one x.port stopped x.sees.in_call_invariant x.sees.ready x.rest.error_handled x.rest.is_simulated (x.rest.next_is ∙ is))
 
   pub sound : BookIsSound x.t x.b
   sound = subst (λ (n : ServerState). BookIsSound n.table n.book) x.rest.mid_server_has_parts (record { book_is_well_formed = x.rest.in_call_invariant.book_is_well_formed; entries_are_well_formed = x.rest.in_call_invariant.entries_are_well_formed })
 
   places : (quarantined_at x.s.kept_loans x.port.0 ≡ []) × (count_by (λ (e : BookEntry). e.request.issued) (requests_of x.port x.b) ≤ 32)
-  places = subst (λ (n : ServerState). (quarantined_at n.kept_loans x.port.0 ≡ []) × (count_by (λ (e : BookEntry). e.request.issued) (requests_of x.port n.book) ≤ 32)) x.rest.mid_server_has_parts (x.laws.places x.rest.server_before_answers x.port x.rest.in_call_invariant mid_ready)
+  places = subst (λ (n : ServerState). (quarantined_at n.kept_loans x.port.0 ≡ []) × (count_by (λ (e : BookEntry). e.request.issued) (requests_of x.port n.book) ≤ 32)) x.rest.mid_server_has_parts (x.laws.places x.rest.server_after_done_answers x.port x.rest.in_call_invariant mid_ready)
 
   pub kept_said : (number : ℕ) → number ≡ x.port.0 → (default : List Lending) → quarantined_at x.s.kept_loans x.port.0 ≡ get_or x.s.kept_loans number default
   kept_said number is default = let f = x.sees.in_call_invariant.kept_loans_are_of_four_ports in let l = low in get_or_default x.s.kept_loans x.port.0 [] default (omega (arith, f, l)) ∙ ap (λ (n : ℕ). get_or x.s.kept_loans n default) (sym is)
@@ -169,7 +169,7 @@ module _ (x : Recovery) where
     settled_after = record {
       disk_before = x.was;
       was_ready = x.is_ready;
-      server_after_handling = x.rest.server_before_answers;
+      server_after_handling = x.rest.server_after_done_answers;
       device_after_handling = x.one;
       error_handled = x.rest.error_handled;
       found = y.found;
@@ -200,7 +200,7 @@ module _ (x : Recovery) where
           book = y.now.book;
         }
 
-        slots_mid : slots_at x.rest.server_before_answers.slots x.port.0 ≡ x.u
+        slots_mid : slots_at x.rest.server_after_done_answers.slots x.port.0 ≡ x.u
         slots_mid = ap (λ (n : ServerState). slots_at n.slots x.port.0) x.rest.mid_server_has_parts ∙ get_or-set_same x.s.slots x.port.0 x.u no_slots (let f = x.sees.in_call_invariant.slots_are_of_four_ports in let l = low in omega (arith, f, l))
 
     pub then_kept : InCallInvariant (then x y)

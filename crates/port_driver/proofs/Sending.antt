@@ -48,7 +48,7 @@ module _ (table : OwnersAndLoans) (e : BookEntry) (is : IsWellFormedEntry table 
 
   -- and so is the first of some
   first : e.request.op ≢ Flush → 1 ≤ e.request.range.count → e.request.range.first.0 < 2 ^ 48
-  first other some = let below = is.range_is_below_2_48 other in omega (arith, some, below)
+  first other some = let below = is.range_is_below_2_48_unless_flush other in omega (arith, some, below)
 
   fits : (queued : Bool) → IsTransfer e.request.op → IsFitTransfer (record { op = e.request.op; range = e.request.range; queued = queued }) e.frames
   fits queued (inl same) = record { is_transfer = inl same; count_is_positive = (counted Read same).0; count_is_allowed = (counted Read same).1; first_in_range = first (not_flush Read (λ e. cc) same) (counted Read same).0; frame_count_is = enough Read same }
@@ -60,8 +60,8 @@ module _ (table : OwnersAndLoans) (e : BookEntry) (is : IsWellFormedEntry table 
   goes : (queued : Bool) → queued ≡ not (is_plain mode e.request.op) → FitsSlot (record { op = e.request.op; range = e.request.range; queued = queued }) e.frames slot
   goes queued kind = record {
     transfer_fits_frames = fits queued;
-    trim_range_is_allowed = λ same. ((counted Trim same).0, (counted Trim same).1, is.range_is_below_2_48 (not_flush Trim (λ e. cc) same));
-    trim_and_flush_in_slot_0 = λ which. ⊎_elim (in_slot_0 queued kind Trim refl) (in_slot_0 queued kind Flush refl) which;
+    trim_range_is_allowed = λ same. ((counted Trim same).0, (counted Trim same).1, is.range_is_below_2_48_unless_flush (not_flush Trim (λ e. cc) same));
+    trim_and_flush_are_plain_in_slot_0 = λ which. ⊎_elim (in_slot_0 queued kind Trim refl) (in_slot_0 queued kind Flush refl) which;
   }
 
   -- it may go in the slot, wherever its entry and its frames are told

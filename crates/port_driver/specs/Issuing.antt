@@ -18,7 +18,7 @@ use Rattle.port_driver.specs.declared.served_port.ServedPort.{ServedPort}
 pub record MayIssueDue {A : Type 0} (device : A → Device) (port : Port) (self : ServedPort) (adapter : A)
     (book : List BookEntry) : Type 0 where
   pub ready : state_of self.probe_result ≡ Ready
-  pub has_found_port : (s : ServerState)
+  pub some_server_has_port : (s : ServerState)
       × HasPortToIssue s (device adapter) book self.slots port self.mode self.probe_result
 
 -- The port's due requests were issued, in order of acceptance, in slots of its own: so it is of each server that the

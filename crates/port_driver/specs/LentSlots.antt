@@ -76,4 +76,4 @@ pub record FitsSlot (task : Task) (frames : List Frame) (slot : ℕ) : Type 0 wh
   pub transfer_fits_frames : IsTransfer task.op → IsFitTransfer task frames
   pub trim_range_is_allowed : task.op ≡ Trim → (1 ≤ task.range.count) × (task.range.count ≤ 4194240)
       × (task.range.first.0 + task.range.count ≤ 2 ^ 48)
-  pub trim_and_flush_in_slot_0 : (task.op ≡ Trim) ⊎ (task.op ≡ Flush) → (slot ≡ 0) × (task.queued ≡ false)
+  pub trim_and_flush_are_plain_in_slot_0 : (task.op ≡ Trim) ⊎ (task.op ≡ Flush) → (slot ≡ 0) × (task.queued ≡ false)

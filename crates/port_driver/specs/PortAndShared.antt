@@ -9,7 +9,7 @@ use Rattle.host_boot.specs.declared.ProbeResult.{ProbeResult}
 use Rattle.host_boot.specs.declared.ProbeResult.TheVariants.{Ready, Unready, Unserved}
 use Rattle.identify.specs.declared.wanted.Wanted.TheVariants.{Nothing}
 use Rattle.request_queue.specs.BookEntries.{BookEntry}
-use Rattle.server_history.specs.ErrorHandling.{HasNoUsedSlot}
+use Rattle.server_history.specs.ErrorHandling.{HasAllSlotsFreeAndCountOfMode}
 use Rattle.server_history.specs.ServerState.{ServerState, SettledInvariant, quarantined_at, last_disk_of, mode_at, no_slots, plain_mode, remembered_at, slots_at}
 use Rattle.server_history.specs.Turns.{ProbesUnready, ServicesPort, TakesTickTurn}
 use Rattle.port_driver.specs.declared.served_port.ServedPort.{ServedPort}
@@ -61,24 +61,28 @@ pub record TakesTurn (Such : List Reply → ServerState → ServerState → Type
   pub settled_invariant : SettledInvariant new
 
 -- A port's turn, by what it was found to be: a ready one has such a turn, and another one that is served such a one.
-abbrev pub TurnBy : (Port → List Reply → ServerState → ServerState → Type 0)
+abbrev pub TurnByProbeResult : (Port → List Reply → ServerState → ServerState → Type 0)
     → (Port → ServerState → ServerState → Type 0) → ProbeResult → Port → List Reply → ServerState → ServerState
     → Type 0
-TurnBy TurnOfReady TurnOfUnready (Ready info) port replies old new = TurnOfReady port replies old new
-TurnBy TurnOfReady TurnOfUnready (Unready state) port replies old new = (replies ≡ []) × TurnOfUnready port old new
-TurnBy TurnOfReady TurnOfUnready Unserved port replies old new = (replies ≡ []) × (new ≡ old)
+TurnByProbeResult TurnOfReady TurnOfUnready (Ready info) port replies old new = TurnOfReady port replies old new
+TurnByProbeResult TurnOfReady TurnOfUnready (Unready state) port replies old new = (replies ≡ [])
+    × TurnOfUnready port old new
+TurnByProbeResult TurnOfReady TurnOfUnready Unserved port replies old new = (replies ≡ []) × (new ≡ old)
 
 -- the turn in a service: a ready port is served, and another one that is served is probed
-abbrev pub TurnInService : ProbeResult → Port → List Reply → ServerState → ServerState → Type 0
-TurnInService found port replies old new = TurnBy ServicesPort ProbesUnready found port replies old new
+abbrev pub ServesReadyOrProbesUnready : ProbeResult → Port → List Reply → ServerState → ServerState → Type 0
+ServesReadyOrProbesUnready found port replies old new = TurnByProbeResult ServicesPort ProbesUnready found port replies
+    old new
 
 -- nothing is done of the port
 abbrev pub ChangesNothing : Port → ServerState → ServerState → Type 0
 ChangesNothing port old new = new ≡ old
 
 -- and the turn in a tick, where the book was this when requests had got older
-abbrev pub TurnInTick : ProbeResult → List BookEntry → Port → List Reply → ServerState → ServerState → Type 0
-TurnInTick found book port replies old new = TurnBy (TakesTickTurn book) ChangesNothing found port replies old new
+abbrev pub RestartsOverdueOrRests : ProbeResult → List BookEntry → Port → List Reply → ServerState → ServerState
+    → Type 0
+RestartsOverdueOrRests found book port replies old new = TurnByProbeResult
+    (TakesTickTurn book) ChangesNothing found port replies old new
 
 -- a port that there isn't
 abbrev pub no_port : ServedPort
@@ -93,7 +97,7 @@ no_port = record {
 
 -- the port was found to be this: the disk that it was last ready with is remembered, and no slot of it is used
 pub record NotesProbeResult (found : ProbeResult) (mode : QueueMode) (old new : ServedPort) : Type 0 where
-  pub has_no_used_slot : HasNoUsedSlot mode new.slots
+  pub has_no_used_slot : HasAllSlotsFreeAndCountOfMode mode new.slots
   pub only_these_change : new ≡ record old {
     probe_result = found;
     remembered = last_disk_of old.probe_result old.remembered;

@@ -43,22 +43,22 @@ pub record SeesPortError (s : ServerState) (port : Port) (port_error : PortError
 -- one.
 pub record IsInError (s : ServerState) (device : Device) (shared : Shared) (port : Port) (p : ServedPort)
     (port_error : PortError) : Type 0 where
-  pub is_settled_with : IsSettledWith s s.device shared port p
+  pub was_settled_with : IsSettledWith s s.device shared port p
   pub sees_port_error : SeesPortError s port port_error device
 
 -- What was done was answered by replies that came after others, and the port's error was handled; the server keeps what
 -- it keeps until then. So it came to these loans, this book and these slots, and to this device; to the request whose
 -- command failed, and to what the port has to go through.
-pub record CompletesAndRecovers (port : Port) (port_error : PortError) (before after : List Reply)
+pub record AnswersDoneAndHandlesError (port : Port) (port_error : PortError) (before after : List Reply)
     (failed : Option FailedRequest)
     (next : Next) (s : ServerState) (table : OwnersAndLoans) (book : List BookEntry)
     (slots : PortSlots) (new : Device) : Type 0 where
-  pub server_before_answers : ServerState
-  pub in_call_invariant : InCallInvariant server_before_answers
-  pub error_handled : IsErrorHandled port s server_before_answers new
+  pub server_after_done_answers : ServerState
+  pub in_call_invariant : InCallInvariant server_after_done_answers
+  pub error_handled : IsErrorHandled port s server_after_done_answers new
   pub port_error_is : error_handled.port_error ≡ port_error
   pub is_simulated : IsSimulated (IsEventAccess port) AnySlotStates s.device error_handled.device_after_look
-  pub mid_server_has_parts : server_before_answers
+  pub mid_server_has_parts : server_after_done_answers
       ≡ with_answers (record s { device = error_handled.device_after_read }) table book slots port
   pub next_is : error_handled.result.next ≡ next
   pub failed_request_is : IsFailedRequest slots error_handled.result.failed failed

@@ -98,7 +98,12 @@ impl Shared {
     /// so, and its frames are given back. The replies come after those that there are. A function of its own, since
     /// its caller's frame would have room for their ids else.
     #[inline(never)]
-    pub fn cancel_under_grant(&mut self, client: ClientId, number: u8, replies: &mut Replies)
+    pub fn cancel_waiting_under_grant(
+        &mut self,
+        client: ClientId,
+        number: u8,
+        replies: &mut Replies,
+    )
         requires { MayAnswerAll self.old.table.value self.old.book replies.old.items }
         ensures { (kept : List Lending) → (its : List Reply) × (replies.new.items ≡ replies.old.items ++ its)
             × CompletesAllWith (waits_under client number) Revoked its (book_and_loans self.old.book

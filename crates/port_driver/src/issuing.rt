@@ -17,11 +17,12 @@ use commands::{Task, issue, issue_all, issue_flush, issue_trim, store_transfer};
 use hba_regs::with_bit;
 use host_boot::ProbeResult;
 use request_queue::laws::{
-    law_an_id_is_one_request, law_book_stays_well_formed, law_operations_change_what_is_due,
+    law_an_id_is_one_request, law_book_stays_well_formed, law_operations_change_the_unanswered,
 };
 use request_queue::{Book, DueIds};
 use server_history::laws::{
-    law_a_due_request_may_issue, law_a_port_goes_on_after_its_errors, law_due_requests_get_slots,
+    law_a_due_request_finds_a_free_slot, law_a_port_goes_on_after_its_errors,
+    law_due_requests_get_slots,
 };
 
 /// Issues a task in a slot that it may go in: the slot's command then says the task.
@@ -54,7 +55,7 @@ impl ServedPort {
         ensures rest { self.new ≡ record self.old { slots = self.new.slots } }
         ensures cost { MakesAtMost ISSUE_ACCESSES (A.access_count adapter.old) (A.access_count adapter.new) }
     {
-        law_a_due_request_may_issue();
+        law_a_due_request_finds_a_free_slot();
         law_an_id_is_one_request();
         let (entry, loan) = book.entry(id);
         let task = Task {
@@ -125,7 +126,7 @@ impl ServedPort {
         law_batches_grow();
         law_due_in_turn();
         law_due_requests_get_slots();
-        law_operations_change_what_is_due();
+        law_operations_change_the_unanswered();
         law_book_stays_well_formed();
         let mut mask = 0;
         for place in 0..due.len() {

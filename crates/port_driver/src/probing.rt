@@ -3,8 +3,8 @@ ghost use Rattle.std.specs.Prelude.{true, ◌≡◌, ◌+◌};
 ghost use Rattle.adapter.specs.{Device.{Device}, Rules.{HasPort, IsOn}, AccessBounds.{MakesAtMost}};
 ghost use Rattle.refinement.specs.Fragments.{SomeMachineAgreesWith, AnySlotStates, IsSimulated};
 ghost use Rattle.server_history.specs.Probing.{ProbesAnew, FindsReasonToBoot};
-ghost use Rattle.error_recovery.specs.Recovery.{StopsForReset};
-ghost use Rattle.port_boot.specs.States.{IsBootable};
+ghost use Rattle.error_recovery.specs.Recovery.{StopsOrSticksForReset};
+ghost use Rattle.port_boot.specs.States.{IsOnWithPortMemoryAndFreeSlots};
 ghost use Rattle.port_control.specs.{Ports.{IsStopped}, PortEvents.{IsEventAccess}, Costs.{STOP_ACCESSES}, EventCosts.{CHANGE_CHECK_ACCESSES}};
 ghost use Rattle.host_boot.specs.Costs.{REBOOT_ACCESSES};
 ghost use Rattle.error_recovery.specs.declared.Recovered as recovered_record;
@@ -17,7 +17,7 @@ use block_machine::QueueMode;
 use error_recovery::{Next, stop_for_reset};
 use host_boot::{ProbeResult, reboot_port};
 use identify::Wanted;
-use port_control::events::{has_device, has_device_changed};
+use port_control::events::{has_device, has_device_changed_or_missing};
 use server_history::laws::law_looks_preserve_invariant;
 
 /// Whether a port in such a state shows what it is booted again for: an absent one a device; one whose disk isn't
@@ -34,8 +34,8 @@ pub(crate) fn needs_probe<A: Adapter>(adapter: &mut A, port: Port, state: PortSt
     law_looks_preserve_invariant();
     match state {
         PortState::Absent => has_device(adapter, port),
-        PortState::Foreign => has_device_changed(adapter, port),
-        PortState::Unfit(_) => has_device_changed(adapter, port),
+        PortState::Foreign => has_device_changed_or_missing(adapter, port),
+        PortState::Unfit(_) => has_device_changed_or_missing(adapter, port),
         PortState::Ready => false,
         PortState::Dead => false,
     }
@@ -52,8 +52,8 @@ pub(crate) fn probe_anew<A: Adapter>(
     requires has_port { HasPort (A.device adapter.old) port.0 }
     requires some_machine_agrees { SomeMachineAgreesWith AnySlotStates (A.device adapter.old) }
     requires bootable { (stopped : Device) (result : recovered_record.Recovered) (token : stopped_token.Stopped)
-        → StopsForReset port 0 true result (A.device adapter.old) stopped → result.next ≡ Next.Restart token
-        → (token.port ≡ port) × IsBootable port stopped × IsStopped (stopped.port port.0) }
+        → StopsOrSticksForReset port 0 true result (A.device adapter.old) stopped → result.next ≡ Next.Restart token
+        → (token.port ≡ port) × IsOnWithPortMemoryAndFreeSlots port stopped × IsStopped (stopped.port port.0) }
     ensures adapter_is_on { IsOn (A.device adapter.new) }
     ensures finds { ProbesAnew wanted.now port result.0 result.1 (A.device adapter.old) (A.device adapter.new) }
     ensures cost { MakesAtMost (STOP_ACCESSES + REBOOT_ACCESSES)

@@ -2,13 +2,13 @@
 // to be.
 ghost use Rattle.std.specs.Prelude.{ℕ, ◌≡◌, ◌≤◌, ◌+◌, ◌++◌, IsTrue, ◌↔◌, Some, List, AllPairs, IsPermutation, drop, length, take};
 ghost use Rattle.ata_types.specs.{declared.request.Reply.{Reply}, declared.Port.{Port}};
-ghost use Rattle.port_driver.specs.{Recovery.{CompletesAndRecovers, IsInError, error_of}, Costs.{booting_accesses, handling_accesses}};
+ghost use Rattle.port_driver.specs.{Recovery.{AnswersDoneAndHandlesError, IsInError, error_of}, Costs.{booting_accesses, handling_accesses}};
 ghost use Rattle.server_history.specs.{ServerState.{ServerState, probed_mode}, ErrorHandling.{AreAllQueuedAs, BootsAfter, IsFailedRequest, IsFoundAfterError, IsRevalidation, IsDiskOfSameSerialAndSize, ErrorHandlingIsBacked}};
 ghost use Rattle.adapter.specs.{Rules.{IsOn}, AccessBounds.{MakesAtMost}};
 ghost use Rattle.identify.specs.declared.error_log.FailedSlot.{FailedSlot};
 ghost use Rattle.error_recovery.specs.Recovery.{MayHandleError, PortMayRecover, RecoversOrStops};
 ghost use Rattle.host_boot.specs.declared.ProbeResult.TheVariants.{Ready};
-ghost use Rattle.port_boot.specs.States.{IsBootable};
+ghost use Rattle.port_boot.specs.States.{IsOnWithPortMemoryAndFreeSlots};
 ghost use Rattle.port_control.specs.Ports.{IsStopped};
 ghost use Rattle.slots.specs.{SlotUses.{use_at}, declared.SlotUse.{SlotUse}};
 ghost use Rattle.commands.specs.Costs.{DONE_ACCESSES};
@@ -85,7 +85,7 @@ impl ServedPort {
         ensures adapter_is_on { IsOn (A.device adapter.new) }
         ensures completes_and_recovers { (s : ServerState)
             → IsInError s (A.device adapter.old) shared.old port self.old port_error
-            → CompletesAndRecovers port port_error replies.old.items replies.new.items result.0 result.1 s
+            → AnswersDoneAndHandlesError port port_error replies.old.items replies.new.items result.0 result.1 s
             shared.new.table.value shared.new.book self.new.slots (A.device adapter.new) }
         ensures only_slots_change { self.new ≡ record self.old { slots = self.new.slots } }
         ensures room { length replies.new.items + length shared.new.book ≤ MOST_UNANSWERED }
@@ -162,7 +162,7 @@ fn boot_after<A: Adapter>(
     stopped: Stopped,
     wanted: &Wanted,
 ) -> Booted
-    requires bootable { IsBootable stopped.port (A.device adapter.old) }
+    requires bootable { IsOnWithPortMemoryAndFreeSlots stopped.port (A.device adapter.old) }
     requires stopped { IsStopped ((A.device adapter.old).port stopped.port.0) }
     requires saw { ((A.device adapter.old).port stopped.port.0).notes.link_wait_count ≡ MOST_READINGS }
     ensures adapter_is_on { IsOn (A.device adapter.new) }
@@ -188,7 +188,7 @@ pub(crate) fn resume_or_reboot<A: Adapter>(
     requires adapter_is_on { IsOn (A.device adapter.old) }
     requires mode { mode ≡ probed_mode (A.device adapter.old).cap (Ready was.now) }
     requires bootable { (stopped : stopped_token.Stopped) → next ≡ Next.Restart stopped
-        → IsBootable stopped.port (A.device adapter.old)
+        → IsOnWithPortMemoryAndFreeSlots stopped.port (A.device adapter.old)
         × IsStopped ((A.device adapter.old).port stopped.port.0)
         × (((A.device adapter.old).port stopped.port.0).notes.link_wait_count ≡ MOST_READINGS) }
     ensures adapter_is_on { IsOn (A.device adapter.new) }

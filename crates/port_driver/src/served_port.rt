@@ -1,7 +1,7 @@
 // A port that a server drives, and what all its ports share.
 ghost use Rattle.std.specs.Prelude.{◌≡◌, ◌≤◌};
 ghost use Rattle.port_driver.specs.PortAndShared.{NotesProbeResult, no_port};
-ghost use Rattle.server_history.specs.{ErrorHandling.{HasNoUsedSlot}, ServerState.{last_disk_of, plain_mode}, StuckServer.{found_after_stuck_reset}, Turns.{is_ready}};
+ghost use Rattle.server_history.specs.{ErrorHandling.{HasAllSlotsFreeAndCountOfMode}, ServerState.{last_disk_of, plain_mode}, StuckServer.{found_after_stuck_reset}, Turns.{is_ready}};
 
 use crate::modes::PLAIN_MODE;
 use crate::quarantine::Quarantine;
@@ -42,7 +42,7 @@ impl ServedPort {
     /// A port that isn't served yet, of which this disk is wanted. No slot of it is used, and no disk remembered.
     pub fn new(wanted: Wanted, kept: Quarantine) -> Self
         ensures fields { result ≡ record no_port { wanted = wanted; slots = result.slots; kept = kept } }
-        ensures unused { HasNoUsedSlot plain_mode result.slots }
+        ensures unused { HasAllSlotsFreeAndCountOfMode plain_mode result.slots }
     {
         ServedPort {
             wanted,

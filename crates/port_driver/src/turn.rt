@@ -2,7 +2,7 @@
 ghost use Rattle.std.specs.Prelude.{ℕ, ◌≡◌, ◌⊎◌, ◌<◌, ◌≤◌, ◌+◌, ◌↔◌, IsTrue, List, length, true, false};
 ghost use Rattle.adapter.specs.AccessBounds.{MakesAtMost};
 ghost use Rattle.ata_types.specs.declared.PortState.TheVariants.{Ready};
-ghost use Rattle.port_driver.specs.{Costs.{ISSUE_DUE_ACCESSES, TURN_ACCESSES, port_error_accesses}, PortAndShared.{IsSettledWith, TakesTurn, TurnInService, TurnInTick, with_served_port}, Recovery.{HandlesPortErrorOf, IsInError}};
+ghost use Rattle.port_driver.specs.{Costs.{ISSUE_DUE_ACCESSES, TURN_ACCESSES, port_error_accesses}, PortAndShared.{IsSettledWith, TakesTurn, ServesReadyOrProbesUnready, RestartsOverdueOrRests, with_served_port}, Recovery.{HandlesPortErrorOf, IsInError}};
 ghost use Rattle.hba_regs.specs.Bits.{bit};
 ghost use Rattle.refinement.specs.Slots.{IsOver};
 ghost use Rattle.request_queue.specs.BookEntries.{BookEntry, HasOverdueOn};
@@ -164,7 +164,7 @@ impl ServedPort {
 
     /// The port's turn in a service: a ready one is served, and another one that is served is probed. Of one that isn't
     /// served, or is dead, no access is made.
-    pub fn take_turn<A: Adapter>(
+    pub fn take_service_turn<A: Adapter>(
         &mut self,
         adapter: &mut A,
         shared: &mut Shared,
@@ -174,9 +174,9 @@ impl ServedPort {
         requires settled { (s : ServerState) × IsSettledWith s (A.device adapter.old) shared.old port self.old }
         requires room { length replies.old.items + length shared.old.book ≤ MOST_UNANSWERED }
         ensures turn { (s : ServerState) → IsSettledWith s (A.device adapter.old) shared.old port self.old
-            → TakesTurn (TurnInService self.old.probe_result port) replies.old.items replies.new.items s
+            → TakesTurn (ServesReadyOrProbesUnready self.old.probe_result port) replies.old.items replies.new.items s
             (with_served_port s (A.device adapter.new) shared.new port self.new) }
-        ensures no_access_if_unserved { (self.old.probe_result ≡ ProbeResult.Unserved)
+        ensures no_access_if_unserved_or_dead { (self.old.probe_result ≡ ProbeResult.Unserved)
             ⊎ (self.old.probe_result ≡ ProbeResult.Unready PortState.Dead) → adapter.new ≡ adapter.old }
         ensures room { length replies.new.items + length shared.new.book ≤ MOST_UNANSWERED }
         ensures cost { MakesAtMost TURN_ACCESSES (A.access_count adapter.old) (A.access_count adapter.new) }
@@ -202,9 +202,9 @@ impl ServedPort {
         requires room { length replies.old.items + length shared.old.book ≤ MOST_UNANSWERED }
         ensures turn { (s : ServerState) (book : List BookEntry) → IsTrue is_overdue ↔ HasOverdueOn port book
             → IsSettledWith s (A.device adapter.old) shared.old port self.old
-            → TakesTurn (TurnInTick self.old.probe_result book port) replies.old.items replies.new.items s
+            → TakesTurn (RestartsOverdueOrRests self.old.probe_result book port) replies.old.items replies.new.items s
             (with_served_port s (A.device adapter.new) shared.new port self.new) }
-        ensures no_access_if_not_overdue { (is_ready self.old.probe_result ≡ false) ⊎ (is_overdue ≡ false)
+        ensures no_access_if_unready_or_not_overdue { (is_ready self.old.probe_result ≡ false) ⊎ (is_overdue ≡ false)
             → adapter.new ≡ adapter.old }
         ensures room { length replies.new.items + length shared.new.book ≤ MOST_UNANSWERED }
         ensures cost { MakesAtMost (port_error_accesses PortError.TimedOut)

@@ -41,18 +41,18 @@ AccessLeads (Some access) old new = Does access old new
 
 -- What the driver decides by an access is one step at most; or, by a write of PxCI, issues of requests of its port:
 -- each bit that is written as one issues a command (AHCI 1.3.1, 3.3.14).
-abbrev pub IsOneDecision : Access → List Step → Type 0
-IsOneDecision access [] = Unit {0}
-IsOneDecision access (step ∷ []) = Unit {0}
-IsOneDecision (Writing (Px port Ci) v) own = All (IsIssueStepOn port) own
-IsOneDecision access own = ⊥
+abbrev pub IsAtMostOneStepOrIssuesOfPort : Access → List Step → Type 0
+IsAtMostOneStepOrIssuesOfPort access [] = Unit {0}
+IsAtMostOneStepOrIssuesOfPort access (step ∷ []) = Unit {0}
+IsAtMostOneStepOrIssuesOfPort (Writing (Px port Ci) v) own = All (IsIssueStepOn port) own
+IsAtMostOneStepOrIssuesOfPort access own = ⊥
 
 -- Over an access these are the device's steps, and after them what the driver decides by it; without one, a step of
 -- the driver's own, or none.
 abbrev pub IsOneAct : Option Access → List Step → Type 0
 IsOneAct None steps = (steps ≡ []) ⊎ ((step : Step) × (IsByDevice step → ⊥) × (steps ≡ step ∷ []))
 IsOneAct (Some access) steps = AllByDevice steps ⊎ ((own before : List Step) × (steps ≡ own ++ before)
-    × IsOneDecision access own × AllByDevice before)
+    × IsAtMostOneStepOrIssuesOfPort access own × AllByDevice before)
 
 -- The act is done, from a machine that agrees with what the driver knew: its steps lead to one that agrees with what it
 -- knows then.
@@ -113,7 +113,8 @@ ActsReachWith accesses Fits next Tells old new = (s : DriverSlots) (m : Machine)
     → ActsReach accesses (driver_state_of_slots s old) m (driver_state_of_slots (next s) new) (Tells s m)
 
 -- a part of a call, which made these accesses, from the old device to the new
-pub record Performs (accesses : List Access) (Fits : DriverSlots → Machine → Type 0) (next : DriverSlots → DriverSlots)
+pub record AccessesAreSimulatedByActs (accesses : List Access) (Fits : DriverSlots → Machine
+    → Type 0) (next : DriverSlots → DriverSlots)
     (Tells : DriverSlots → Machine → List Act → Type 0) (old new : Device) : Type 0 where
   pub accesses_are_done : DoesAll accesses old new
   pub acts_reach : ActsReachWith accesses Fits next Tells old new

@@ -6,7 +6,7 @@ use Rattle.adapter.specs.declared.tape.Entry.{Entry}
 use Rattle.refinement.specs.Slots.{Own, SlotStates, IsMove}
 
 -- slot 0 has a command issued, which has moved nothing if it is taken
-pub record Slot0HasMovedNothing (p : DevicePort) : Type 0 where
+pub record Slot0IsIssuedAndUnmoved (p : DevicePort) : Type 0 where
   pub issued : p.ci 0 ≡ true
   pub unmoved : (t : FetchedCommand) → p.taken 0 ≡ Some t → t.moved ≡ 0
 
@@ -26,4 +26,4 @@ pub record AwaitsOrHasPage (uses : SlotStates) (port : ℕ) (o : Operation) (sin
   pub st_is_set : (d.port port).st ≡ true
   pub slot_0_has_own_command : uses port 0 ≡ Own o
   pub since_is_on_tape : since ≤ length d.tape
-  pub page_is_awaited_or_came : Slot0HasMovedNothing (d.port port) ⊎ PageHasCome d.tape port o since
+  pub page_is_awaited_or_came : Slot0IsIssuedAndUnmoved (d.port port) ⊎ PageHasCome d.tape port o since

@@ -18,7 +18,7 @@ use Rattle.block_machine.specs.DueRequests.{is_plain}
 use Rattle.block_machine.specs.Steps.{Step, Issue, IsEnabled}
 use Rattle.block_machine.specs.Expected.{after, AllStepsFaithful}
 use Rattle.block_machine.specs.Events.{AllEnabled, AllByDevice}
-use Rattle.refinement.specs.MemoryLayout.{command_list_address, received_fis_address, command_table_address, scratch_frame_address, IsHeaderOrTableByte, IsScratchByte}
+use Rattle.refinement.specs.MemoryLayout.{command_list_address, received_fis_address, command_table_address, scratch_frame_address, IsTableOrHeaderByteButPrdbc, IsScratchByte}
 use Rattle.refinement.specs.Slots.{Free, Armed, Own, Serves, SlotStates, set_slot_state, SlotDecodesTo, MeansRequest, HasBlockIfTrim, HasListInPlace, client_operation_of}
 use Rattle.refinement.specs.Relation.{StateRelation, HaveSlotsUnlessParked}
 use Rattle.refinement.specs.Tape.{TellsDeviceSteps, PutsInDisks}
@@ -87,7 +87,7 @@ pub record DriverState : Type 0 where
 -- the machine agrees with what the driver knows
 pub record DriverRelation (m : Machine) (k : DriverState) : Type 0 where
   pub state_relation : StateRelation k.slot_states m k.device
-  pub have_slots : (port : ℕ) → HaveSlotsUnlessParked k.slot_states m port (k.awaiting_disposition port)
+  pub have_slots_unless_parked : (port : ℕ) → HaveSlotsUnlessParked k.slot_states m port (k.awaiting_disposition port)
 
 -- The tape's new entries tell of the device's steps among these; reads moved what their disks hold, where these tell
 -- it; and the disks that were put in are the device's.
@@ -115,15 +115,16 @@ pub record DriverAdvances (k : DriverState) (m : Machine) (steps : List Step) (l
 
 -- What the device leaves of what is not in use: all headers, but for PRDBC, and all tables; and the scratch frame where
 -- slot 0 has no command of the driver's own.
-pub record KeepsTablesAndScratch (uses : SlotStates) (old new : Device) : Type 0 where
-  pub tables : (port slot at : ℕ) → port < 4 → slot < 32 → IsHeaderOrTableByte port slot at
+pub record KeepsTablesAndScratchUnlessOwn (uses : SlotStates) (old new : Device) : Type 0 where
+  pub tables : (port slot at : ℕ) → port < 4 → slot < 32 → IsTableOrHeaderByteButPrdbc port slot at
       → new.memory at ≡ old.memory at
   pub scratch : (port at : ℕ) → port < 4 → ((o : Operation) → uses port 0 ≡ Own o → ⊥) → IsScratchByte port at
       → new.memory at ≡ old.memory at
 
 -- none of these n bytes is of the slot's header, but for PRDBC, or of its table
-abbrev pub MissesHeaderAndTable : ℕ → ℕ → ℕ → ℕ → Type 0
-MissesHeaderAndTable port slot at n = (place : ℕ) → IsHeaderOrTableByte port slot place → at ≤ place → place < at + n
+abbrev pub MissesTableAndHeaderButPrdbc : ℕ → ℕ → ℕ → ℕ → Type 0
+MissesTableAndHeaderButPrdbc port slot at n = (place : ℕ) → IsTableOrHeaderByteButPrdbc port slot place → at ≤ place
+    → place < at + n
     → ⊥
 
 -- nor is any of the port's scratch frame
@@ -203,8 +204,8 @@ ForgetsAtMostKept m parked later = (port : ℕ) (other : RequestId) → Contains
     → ((e : Pending) → Contains m.kept e → e.request.id ≢ other) → Contains (later port) other
 
 -- the slot was given up, and its request isn't decided yet
-abbrev pub with_slot_parked : DriverState → ℕ → ℕ → RequestId → DriverState
-with_slot_parked k port slot id =
+abbrev pub with_slot_freed_and_request_parked : DriverState → ℕ → ℕ → RequestId → DriverState
+with_slot_freed_and_request_parked k port slot id =
     record k {
       slot_states = set_slot_state k.slot_states port slot Free;
       awaiting_disposition = changed

@@ -7,8 +7,8 @@ use Rattle.refinement.specs.PortFacts.{IsQuiescentPort, IsFaultOf}
 use Rattle.refinement.specs.PreservedParts.{NoPlugEvents}
 
 -- each bit of PxIS that is set stays so, and so do N and X of PxSERR
-pub record KeepsErrors (old new : DevicePort) : Type 0 where
-  pub pxis_is_kept : (place : ℕ) → old.is place ≡ true → new.is place ≡ true
+pub record KeepsSetBitsOfPxisAndSerrNX (old new : DevicePort) : Type 0 where
+  pub set_pxis_bits_stay_set : (place : ℕ) → old.is place ≡ true → new.is place ≡ true
   pub serr_n_is_kept : old.serr_n ≡ true → new.serr_n ≡ true
   pub serr_x_is_kept : old.serr_x ≡ true → new.serr_x ≡ true
 
@@ -30,7 +30,7 @@ pub record LinkErrorsRiseByDisks (port : ℕ) (old new : Device) : Type 0 where
       → (new.port port).serr_n ≡ false
   pub serr_x_rises_by_disk_coming : NoDiskComes port old new → (old.port port).serr_x ≡ false
       → (new.port port).serr_x ≡ false
-  pub det_3_was_3_if_none_comes : NoDiskComes port old new → (new.port port).ssts_det ≡ 3
+  pub det_3_was_3_and_none_went_if_none_comes : NoDiskComes port old new → (new.port port).ssts_det ≡ 3
       → ((old.port port).ssts_det ≡ 3)
       × NoPlugEvents port old new
 
@@ -38,7 +38,8 @@ pub record LinkErrorsRiseByDisks (port : ℕ) (old new : Device) : Type 0 where
 pub record ErrorBitsStayClear (old new : DevicePort) : Type 0 where
   pub serr_n_stays_clear : old.serr_n ≡ false → new.serr_n ≡ false
   pub serr_x_stays_clear : old.serr_x ≡ false → new.serr_x ≡ false
-  pub pxis_stays_clear : (place : ℕ) → 27 ≤ place → place ≤ 30 → old.is place ≡ false → new.is place ≡ false
+  pub pxis_bits_27_to_30_stay_clear : (place : ℕ) → 27 ≤ place → place ≤ 30 → old.is place ≡ false
+      → new.is place ≡ false
 
 -- a fatal error of the port
 abbrev pub IsFatalErrorOf : ℕ → Entry → Type 0
@@ -90,7 +91,7 @@ pub record IsLeftByReset (p : DevicePort) : Type 0 where
 
 -- What a port shows after it while its engine stands: no bit of PxIS, and PxSCTL.DET 0; and until X tells of a disk or
 -- a link that came, no device in PxSSTS, and task file and signature as the reset left them.
-pub record ShowsResetState (p : DevicePort) : Type 0 where
+pub record ShowsResetStateUntilSerrX (p : DevicePort) : Type 0 where
   pub pxis_is_clear : (place : ℕ) → p.is place ≡ false
   pub sctl_det : p.sctl_det ≡ 0
   pub shows_no_link_until_x : p.serr_x ≡ false → (p.ssts_det ≡ 0) × (p.tfd ≡ 0x7f) × (p.sig ≡ 0xffffffff)

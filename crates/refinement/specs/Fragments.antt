@@ -87,7 +87,8 @@ GainsNoMove port o old new = (gained : List Entry) × (new.tape ≡ old.tape ++ 
 
 -- Acts in which the device alone makes steps. Where no access of the kind writes PxCI or PxSACT of a port, its slots
 -- are used after each act as before the first.
-pub record DeviceStepsKeepSlots (May : Access → Type 0) (uses : SlotStates) (acts : List Act) : Type 0 where
+pub record DeviceStepsKeepUnwrittenPortSlots (May : Access
+    → Type 0) (uses : SlotStates) (acts : List Act) : Type 0 where
   pub all_steps_are_devices : AllByDevice (act_steps acts)
   pub unwritten_ports_keep_slots : (port : Port) → NoneWrites May (Px port Ci) → NoneWrites May (Px port Sact)
       → All (λ act. act.state_after.slot_states port.0 ≡ uses port.0) acts
@@ -99,7 +100,7 @@ pub record IsSimulatedChangingUses (May : Access → Type 0) (Fits : SlotStates 
   pub is_driven : IsDrivenBy May old new
   pub acts_reach : ActsReachWith is_driven.accesses (λ s m. Fits s.slot_states)
       (λ s. record s { slot_states = next s.slot_states })
-      (λ s m. DeviceStepsKeepSlots May s.slot_states) old new
+      (λ s m. DeviceStepsKeepUnwrittenPortSlots May s.slot_states) old new
 
 -- the same, where each slot goes on as it is used
 abbrev pub IsSimulated : (Access → Type 0) → (SlotStates → Type 0) → Device → Device → Type 0
@@ -129,7 +130,7 @@ abbrev pub HasNoCommand : DevicePort → Type 0
 HasNoCommand p = (slot : ℕ) → IsOver p slot
 
 -- A port that the driver doesn't touch: what the device's steps leave of it, and all that readings noted of it.
-pub record LeavesPort (old new : DevicePort) : Type 0 where
-  pub port_is_kept_by_device : PortBitsOnlyFall old new
+pub record OnlyDeviceChangesPort (old new : DevicePort) : Type 0 where
+  pub bits_only_fall : PortBitsOnlyFall old new
   pub controls : KeepsControlsFlagsRise old new
   pub notes : new.notes ≡ old.notes

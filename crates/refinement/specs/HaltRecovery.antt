@@ -18,7 +18,7 @@ pub record IsLinked (p : DevicePort) : Type 0 where
 
 -- The port works on plain commands alone: no bit of PxSACT is set, no queued command is taken, and no halt is of one.
 -- So once ST is set no halt is left (AHCI 1.3.1, 6.2.2).
-pub record WorksPlainly (p : DevicePort) : Type 0 where
+pub record WorksOnUnqueuedCommandsOnly (p : DevicePort) : Type 0 where
   pub start_ends_halt : halt_after_start p.halt ≡ NotHalted
   pub unarmed : (slot : ℕ) → p.sact slot ≡ false
   pub taken_are_plain : (slot : ℕ) (t : FetchedCommand) → p.taken slot ≡ Some t → is_queued t.meaning.operation ≡ false
@@ -36,7 +36,7 @@ pub record RunsLinked (p : DevicePort) : Type 0 where
 
 -- No reset is pending, and slot 0 of a running port has a plain command, the only one of the port: it isn't over yet,
 -- or no fault halts the port. (The end of READ LOG EXT ends the halt of a queued fault.)
-pub record OwnCommandEndsHalt (uses : SlotStates) (port : ℕ) (d : Device) : Type 0 where
+pub record PlainSlot0IsIssuedOrNotHalted (uses : SlotStates) (port : ℕ) (d : Device) : Type 0 where
   pub hr_is_clear : d.hr ≡ false
   pub st_is_set : (d.port port).st ≡ true
   pub slot_0_is_plain : (d.port port).sact 0 ≡ false

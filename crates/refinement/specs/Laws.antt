@@ -10,7 +10,7 @@ use Rattle.adapter.specs.Device.{Device}
 use Rattle.adapter.specs.Rules.{MayWrite, IsStable}
 use Rattle.adapter.specs.declared.command.Operation.{Operation}
 use Rattle.adapter.specs.declared.tape.Entry.{Entry}
-use Rattle.refinement.specs.Acts.{ActsByDeviceAlone, Performs}
+use Rattle.refinement.specs.Acts.{ActsByDeviceAlone, AccessesAreSimulatedByActs}
 use Rattle.refinement.specs.Fragments.{TapeGrows, SomeMachineAgrees, IsSimulated, IsSimulatedChangingUses, IsSimulatedAlong, IsSimulatedAlongChangingUses, NoneWrites, GainsNoMove}
 use Rattle.refinement.specs.Driver.{AllFree, IsOwnPrepared, KeepsSlotStates, MayStore}
 use Rattle.refinement.specs.Errors.{LinkErrorsRiseByDisks, NoDiskComes, NoFaults, NoFatalErrors}
@@ -18,13 +18,13 @@ use Rattle.refinement.specs.PortFacts.{IsEngineStopped, Undisturbed}
 use Rattle.refinement.specs.GivingUp.{slots_with_all_parked}
 use Rattle.refinement.specs.PreservedParts.{NoPlugEvents}
 use Rattle.refinement.specs.PreservedParts.{DoesNotWrite}
-use Rattle.refinement.specs.HaltRecovery.{WorksPlainly}
+use Rattle.refinement.specs.HaltRecovery.{WorksOnUnqueuedCommandsOnly}
 use Rattle.refinement.specs.Slots.{Free, IsOver, Own, SlotStates, client_operation_of, set_slot_state}
 
 -- Fragments of accesses of these kinds, which may be made with the uses of slots that fit them.
 pub record FragmentLaws (Kind : Type 0) (may : Kind → Access → Type 0)
     (fits : Kind → SlotStates → Type 0) : Type 0 where
-  pub no_access_is_simulated : (kind : Kind) (d : Device)
+  pub empty_fragment_is_simulated : (kind : Kind) (d : Device)
       → IsSimulatedAlong (λ made. made ≡ []) (may kind) (fits kind) d d
   pub reads : (kind : Kind) (r : Reg) (v : ℕ) (old new : Device) → may kind (Reading r v) → Reads r v old new
       → IsSimulatedAlong (λ made. made ≡ Reading r v ∷ []) (may kind) (fits kind) old new
@@ -77,11 +77,12 @@ pub record FragmentLaws (Kind : Type 0) (may : Kind → Access → Type 0)
       (old new : Device)
       → fits kind uses
       → NoneWrites (may kind) (Px port Sact) → IsSimulatedChangingUses (may kind) (fits kind) next old new
-      → SomeMachineAgrees uses old → WorksPlainly (old.port port.0) → WorksPlainly (new.port port.0)
+      → SomeMachineAgrees uses old → WorksOnUnqueuedCommandsOnly (old.port port.0)
+      → WorksOnUnqueuedCommandsOnly (new.port port.0)
   -- as parts of a call
   pub fragment_is_a_part : (kind : Kind) (next : SlotStates → SlotStates) (old new : Device)
       → (a : IsSimulatedChangingUses (may kind) (fits kind) next old new)
-      → Performs a.is_driven.accesses (λ s m. fits kind s.slot_states)
+      → AccessesAreSimulatedByActs a.is_driven.accesses (λ s m. fits kind s.slot_states)
       (λ s. record s { slot_states = next s.slot_states })
       ActsByDeviceAlone old
       new
@@ -90,7 +91,7 @@ pub record FragmentLaws (Kind : Type 0) (may : Kind → Access → Type 0)
       → (a : IsSimulated (may kind) (fits kind) old mid) → IsEngineStopped (mid.port port)
       → ((uses : SlotStates) → AllFree uses port → fits narrower uses)
       → (b : IsSimulatedChangingUses (may narrower) (fits narrower) next mid new)
-      → Performs (a.is_driven.accesses ++ b.is_driven.accesses)
+      → AccessesAreSimulatedByActs (a.is_driven.accesses ++ b.is_driven.accesses)
       (λ s m. fits kind s.slot_states) (λ s. record (slots_with_all_parked port s)
       { slot_states = next (slots_with_all_parked port s).slot_states }) ActsByDeviceAlone
       old new
@@ -133,8 +134,8 @@ pub record TapeLaws : Type 0 where
   pub link_errors_transitive : (port : ℕ) (old mid new : Device) → TapeGrows old mid → TapeGrows mid new
       → LinkErrorsRiseByDisks port old mid
       → LinkErrorsRiseByDisks port mid new → LinkErrorsRiseByDisks port old new
-  pub access_raises_by_disks : (port : Port) (access : Access) (old new : Device) → old.hr ≡ false
+  pub access_raises_link_errors_by_disks : (port : Port) (access : Access) (old new : Device) → old.hr ≡ false
       → (old.port port.0).link_due ≡ false → Does access old new → LinkErrorsRiseByDisks port.0 old new
-  pub access_makes_no_link_due : (port : Port) (access : Access) (old new : Device) → old.hr ≡ false
+  pub access_but_sctl_write_makes_no_link_due : (port : Port) (access : Access) (old new : Device) → old.hr ≡ false
       → (old.port port.0).link_due ≡ false → DoesNotWrite (Px port Sctl) access → Does access old new
       → (new.port port.0).link_due ≡ false

@@ -16,7 +16,7 @@ use Rattle.refinement.specs.Driver.{DriverRelation, IsOwnPrepared, idle_driver_s
 use Rattle.refinement.specs.PortFacts.{RunsWell}
 use Rattle.refinement.specs.Slots.{Free, Own, SlotStates, set_slot_state}
 use Rattle.refinement.specs.ReadWitness.{encoded_page_prd, ready_port, ready_device}
-use Rattle.refinement.specs.HaltRecovery.{RunsLinked, OwnCommandEndsHalt, FaultLeavesIssued}
+use Rattle.refinement.specs.HaltRecovery.{RunsLinked, PlainSlot0IsIssuedOrNotHalted, FaultLeavesIssued}
 
 -- the FIS of READ LOG EXT, log 10h, one page
 abbrev pub read_log_fis : List ℕ
@@ -48,7 +48,7 @@ pub record LogEndsHaltWitness : Type 0 where
   pub permitted : IsStable (MayWrite (Px (port_at 0) Ci) 1) log_device
   pub issued : Device
   pub writes : Writes (Px (port_at 0) Ci) 1 log_device issued
-  pub ends_halt : OwnCommandEndsHalt log_uses 0 issued
+  pub ends_halt : PlainSlot0IsIssuedOrNotHalted log_uses 0 issued
   pub fault_leaves_issued : FaultLeavesIssued log_uses 0 issued
   pub ended_device : Device
   pub reads : Reads (Px (port_at 0) Ci) 0 issued ended_device

@@ -25,8 +25,8 @@ abbrev pub sector_address : List Frame → ℕ → ℕ
 sector_address frames i = FRAME_BYTES * (frame_at frames (i / 8)).0 + 512 * (i % 8)
 
 -- a byte of the slot's header, but for PRDBC, or of its table
-abbrev pub IsHeaderOrTableByte : ℕ → ℕ → ℕ → Type 0
-IsHeaderOrTableByte port slot at =
+abbrev pub IsTableOrHeaderByteButPrdbc : ℕ → ℕ → ℕ → Type 0
+IsTableOrHeaderByteButPrdbc port slot at =
     ((command_list_address port + HEADER_BYTES * slot ≤ at)
     × (at < command_list_address port + HEADER_BYTES * slot + 4))
     ⊎ (((command_list_address port + HEADER_BYTES * slot + 8 ≤ at)

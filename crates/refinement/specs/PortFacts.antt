@@ -58,7 +58,8 @@ pub record IsSlotClear (p : DevicePort) (slot : ℕ) : Type 0 where
 
 -- What CI tells of a command of the driver's own: the machine follows, and the command is over and has brought its page
 -- since ST was set.
-pub record FindsOwnPage (uses : SlotStates) (m : Machine) (port : ℕ) (o : Operation) (old new : Device) : Type 0 where
+pub record FollowsAndHasPageSinceStart (uses : SlotStates) (m : Machine) (port : ℕ) (o : Operation)
+    (old new : Device) : Type 0 where
   pub simulates_steps : SimulatesSteps uses m old new
   pub slot_is_clear : IsSlotClear (new.port port) 0
   pub page_is_in_scratch : PageStandsInScratch new.memory new.tape port o (new.port port).notes.st_set_at
@@ -81,7 +82,7 @@ CommandsAreOver uses d id = (port slot : ℕ) → uses port slot ≡ Serves id �
 pub record ShowsNoTrouble (p : DevicePort) : Type 0 where
   pub serr_n_is_clear : p.serr_n ≡ false
   pub serr_x_is_clear : p.serr_x ≡ false
-  pub no_error_bit_is_set : (place : ℕ) → 27 ≤ place → place ≤ 30 → p.is place ≡ false
+  pub bits_27_to_30_are_clear : (place : ℕ) → 27 ≤ place → place ≤ 30 → p.is place ≡ false
 
 -- The port runs, its disk is there with its link up and no other link due, no error has stopped it, and no bit tells of
 -- one.
@@ -115,7 +116,7 @@ pub record Undisturbed (port : ℕ) (old new : Device) : Type 0 where
 pub record PxisValueTellsNoTrouble (v : ℕ) : Type 0 where
   pub pcs_is_clear : bit v 6 ≡ false
   pub prcs_is_clear : bit v 22 ≡ false
-  pub no_error_bit_is_set : (place : ℕ) → 27 ≤ place → place ≤ 30 → bit v place ≡ false
+  pub bits_27_to_30_are_clear : (place : ℕ) → 27 ≤ place → place ≤ 30 → bit v place ≡ false
 
 -- a write clears no bit that tells of the port's trouble
 pub record ClearsNoTrouble (port : Port) (r : Reg) (v : ℕ) : Type 0 where
@@ -144,7 +145,7 @@ pub record ShowsFault (entries : List Entry) (p : DevicePort) (port : ℕ) : Typ
   pub no_later_fault : All (λ e. IsFaultOf port e → ⊥) later
   pub bytes_fit : (fault.status < 256) × (fault.error < 256)
   pub tfd_is : p.tfd ≡ fault.status + 256 * fault.error
-  pub slot_is_in_use : InUse p fault.slot.0
+  pub slot_is_issued_or_taken : InUse p fault.slot.0
 
 -- What the tape has of a port whose ST is 1. TFES, bit 30 of PxIS, tells that a fault has halted the port; and then the
 -- task file shows the last one since ST was set. No link is due, so none comes up and ends the halt. It goes by the
@@ -160,22 +161,23 @@ abbrev pub RecordsFaultsIfSt : List Entry → DevicePort → ℕ → Type 0
 RecordsFaultsIfSt tape p port = p.st ≡ true → RecordsFaults tape p port
 
 -- From COMRESET until the link comes up the engine stands, and the task file shows DRQ, bit 3.
-abbrev pub StoppedWithDrqTillLink : DevicePort → Type 0
-StoppedWithDrqTillLink p = (p.link_due ≡ true) ⊎ (p.sctl_det ≡ 1) → (p.cr ≡ false) × (bit p.tfd 3 ≡ true)
+abbrev pub IsStoppedWithDrqWhileLinkAwaited : DevicePort → Type 0
+IsStoppedWithDrqWhileLinkAwaited p = (p.link_due ≡ true) ⊎ (p.sctl_det ≡ 1) → (p.cr ≡ false) × (bit p.tfd 3 ≡ true)
 
 -- the engine stands, and TFES is clear
-abbrev pub StoppedTfesClear : DevicePort → Type 0
-StoppedTfesClear p = (p.cr ≡ false) × (p.is 30 ≡ false)
+abbrev pub CrAndTfesAreClear : DevicePort → Type 0
+CrAndTfesAreClear p = (p.cr ≡ false) × (p.is 30 ≡ false)
 
 -- Nothing of the past would be taken for news of the next start: the engine stands, TFES is clear, and no link is due.
 pub record IsCleanToStart (p : DevicePort) : Type 0 where
-  pub is_stopped_tfes_clear : StoppedTfesClear p
+  pub is_stopped_tfes_clear : CrAndTfesAreClear p
   pub no_link_is_due : p.link_due ≡ false
   pub no_comreset : p.sctl_det ≢ 1
 
 -- What is asked of a write, beside the register's rules: ST is set on a quiet port, and SCTL is written while the
 -- engine stands.
-abbrev pub KeepsFaultRecord : Reg → ℕ → Device → Type 0
-KeepsFaultRecord (Px port Cmd) v d = bit v 0 ≡ true → ((d.port port.0).st ≡ true) ⊎ IsCleanToStart (d.port port.0)
-KeepsFaultRecord (Px port Sctl) v d = (d.port port.0).cr ≡ false
-KeepsFaultRecord _ v d = Unit {0}
+abbrev pub StartsCleanAndWritesSctlStopped : Reg → ℕ → Device → Type 0
+StartsCleanAndWritesSctlStopped (Px port Cmd) v d = bit v 0 ≡ true → ((d.port port.0).st ≡ true)
+    ⊎ IsCleanToStart (d.port port.0)
+StartsCleanAndWritesSctlStopped (Px port Sctl) v d = (d.port port.0).cr ≡ false
+StartsCleanAndWritesSctlStopped _ v d = Unit {0}

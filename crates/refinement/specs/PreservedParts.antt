@@ -29,7 +29,7 @@ pub record SameAdapter (old new : Device) : Type 0 where
 
 -- Each control of the port that the access doesn't write is as the driver left it: ST and FRE of PxCMD, and when ST was
 -- set, and a port that runs goes on running; DET of PxSCTL, and when it was written; and the addresses.
-pub record LeavesControls (access : Access) (port : Port) (old new : DevicePort) : Type 0 where
+pub record ControlsChangeOnlyByTheirWrites (access : Access) (port : Port) (old new : DevicePort) : Type 0 where
   pub command : DoesNotWrite (Px port Cmd) access
       → (new.st ≡ old.st) × (new.fre ≡ old.fre) × (new.notes.st_set_at ≡ old.notes.st_set_at)
       × (old.st ≡ true → old.cr ≡ true → new.cr ≡ true)

@@ -17,8 +17,8 @@ use Rattle.block_machine.specs.Histories.{IsReachable}
 use Rattle.block_machine.specs.State.{Pending, Machine}
 use Rattle.block_machine.specs.Steps.{WaitAgain, IsEnabled, MayStillMove}
 use Rattle.refinement.specs.Relation.{port_at}
-use Rattle.refinement.specs.Driver.{DriverState, DriverRelation, IsPrepared, IsOwnPrepared, HasNoSlot, idle_driver_state, with_slot_parked}
-use Rattle.refinement.specs.PortFacts.{IsEngineStopped, FindsOwnPage}
+use Rattle.refinement.specs.Driver.{DriverState, DriverRelation, IsPrepared, IsOwnPrepared, HasNoSlot, idle_driver_state, with_slot_freed_and_request_parked}
+use Rattle.refinement.specs.PortFacts.{IsEngineStopped, FollowsAndHasPageSinceStart}
 use Rattle.refinement.specs.MemoryLayout.{scratch_frame_address}
 use Rattle.refinement.specs.Slots.{Free, Own, Serves, SlotStates, set_slot_state, IsEnded}
 
@@ -80,7 +80,8 @@ stopped_read = device_after (Fall 0) stopping_read
 
 -- what the driver knows then, when it has given up the slot
 abbrev pub parked_driver_state : DriverState
-parked_driver_state = with_slot_parked (record first_driver_state { device = stopped_read }) 0 0 first_id
+parked_driver_state = with_slot_freed_and_request_parked
+    (record first_driver_state { device = stopped_read }) 0 0 first_id
 
 -- PxCMD may be written so, CR may fall then, and the port has halted. A machine is reached that agrees with the driver,
 -- who has taken request 1 from its slot; and the request may wait again.
@@ -172,4 +173,5 @@ pub record OwnCommandAgrees : Type 0 where
   pub driver_relation : DriverRelation machine own_driver_state
   pub device_after_read : Device
   pub reads : Reads (Px (port_at 0) Ci) 0 issued_identify device_after_read
-  pub finds_own_page : FindsOwnPage own_driver_state.slot_states machine 0 Identify issued_identify device_after_read
+  pub finds_own_page : FollowsAndHasPageSinceStart own_driver_state.slot_states machine 0 Identify issued_identify
+      device_after_read

@@ -7,13 +7,13 @@ use Rattle.adapter.specs.Access.{Access}
 use Rattle.adapter.specs.Access.Access.{Storing}
 use Rattle.adapter.specs.Commands.{Meaning, is_queued}
 use Rattle.adapter.specs.Device.{Device}
-use Rattle.refinement.specs.Driver.{MissesHeaderAndTable}
+use Rattle.refinement.specs.Driver.{MissesTableAndHeaderButPrdbc}
 use Rattle.refinement.specs.PreservedParts.{DoesNotWrite}
 use Rattle.refinement.specs.Slots.{Free, Armed, SlotStates, HasListInPlace, SlotDecodesTo}
 use Rattle.refinement.specs.StartedPort.{ClearsNoStart}
 
 -- The port runs, and the slot's bytes say this command.
-pub record IsStored (d : Device) (port slot : ℕ) (c : Meaning) (places : List ℕ) : Type 0 where
+pub record IsStoredOnPortWithStSet (d : Device) (port slot : ℕ) (c : Meaning) (places : List ℕ) : Type 0 where
   pub st_is_set : (d.port port).st ≡ true
   pub list_is_in_place : HasListInPlace (d.port port) port slot
   pub slot_decodes_to : SlotDecodesTo d.memory (d.port port).bases.clb port slot c places
@@ -21,7 +21,7 @@ pub record IsStored (d : Device) (port slot : ℕ) (c : Meaning) (places : List 
 -- So it is, and the slot is armed if the command is queued, and else free.
 pub record IsReadied (uses : SlotStates) (d : Device) (port slot : ℕ) (c : Meaning) (places : List ℕ) : Type 0 where
   pub slot_state_is : uses port slot ≡ (if is_queued c.operation then Armed else Free)
-  pub stored : IsStored d port slot c places
+  pub stored : IsStoredOnPortWithStSet d port slot c places
 
 -- The slot is one that the adapter has (AHCI 1.3.1, 3.1.1, CAP.NCS), and it is readied for some command.
 pub record IsReadyToIssue (uses : SlotStates) (d : Device) (port slot : ℕ) : Type 0 where
@@ -37,4 +37,4 @@ pub record KeepsStoredCommand (port : Port) (slot : ℕ) (access : Access) : Typ
   pub st_is_not_cleared : ClearsNoStart port access
   pub clb_is_not_written : DoesNotWrite (Px port Clb) access
   pub table_is_not_stored_to : (at : ℕ) (bytes : List ℕ) → access ≡ Storing at bytes
-      → MissesHeaderAndTable port.0 slot at (length bytes)
+      → MissesTableAndHeaderButPrdbc port.0 slot at (length bytes)

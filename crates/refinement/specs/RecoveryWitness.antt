@@ -12,13 +12,13 @@ use Rattle.adapter.specs.declared.tape.Entry.TheVariants as entry
 use Rattle.adapter.specs.declared.tape.Fault as tape_fault
 use Rattle.refinement.specs.Relation.{port_at}
 use Rattle.refinement.specs.PortFacts.{IsEngineStopped, RunsWell}
-use Rattle.refinement.specs.HaltRecovery.{IsLinked, WorksPlainly}
+use Rattle.refinement.specs.HaltRecovery.{IsLinked, WorksOnUnqueuedCommandsOnly}
 
 -- The first read may fail. Then such accesses may give these values: PxCMD is written with ST 0, and CR may fall;
 -- PxSERR and PxIS are cleared, PxTFD and PxSSTS are read, and ST is set and PxIS read with no cause. Each write is
 -- permitted when it is made. The port worked on plain commands alone, with its link up; and it runs well then.
 pub record RecoveredWitness : Type 0 where
-  pub plain : WorksPlainly (first_read_device.port 0)
+  pub plain : WorksOnUnqueuedCommandsOnly (first_read_device.port 0)
   pub linked : IsLinked (first_read_device.port 0)
   pub failed : Device
   pub fails : Steps first_read_device failed
@@ -44,13 +44,13 @@ pub record RecoveredWitness : Type 0 where
   pub starts : Writes (Px (port_at 0) Cmd) 0x11 ready started
   pub found : Device
   pub pxis_is_read_clear : Reads (Px (port_at 0) Is) 0 started found
-  pub still_plain : WorksPlainly (ready.port 0)
+  pub still_plain : WorksOnUnqueuedCommandsOnly (ready.port 0)
   pub still_linked : IsLinked (ready.port 0)
   pub port_runs_well : RunsWell (found.port 0)
 
 -- By the time that PxSSTS is read, with a device, the command in this slot of port 0 may have failed: its fault stands
 -- on the tape, and halts the port so.
-pub record FaultIsSeen (old : Device) (slot : ℕ) (halt : Halt) : Type 0 where
+pub record CommandMayHaveFailedBySstsRead (old : Device) (slot : ℕ) (halt : Halt) : Type 0 where
   pub seen : Device
   pub sees : Reads (Px (port_at 0) Ssts) 3 old seen
   pub halted : (seen.port 0).halt ≡ halt

@@ -5,7 +5,7 @@ use Rattle.ata_types.specs.declared.memory.TheConstants.{DRIVER_FRAMES, FRAME_BY
 use Rattle.ata_types.specs.declared.request.Frame.{Frame}
 use Rattle.ata_types.specs.declared.request.RequestId.{RequestId}
 use Rattle.adapter.specs.Device.{Disk, DevicePort, Device}
-use Rattle.adapter.specs.Steps.{WereHeld}
+use Rattle.adapter.specs.Steps.{WereHeldSinceFlush}
 use Rattle.adapter.specs.declared.tape.Entry.{Entry}
 use Rattle.block_machine.specs.State.{Pending, Machine}
 use Rattle.block_machine.specs.Steps.{MayStillMove, HoldsOrHeldSinceFlush}
@@ -37,7 +37,7 @@ pub record SameSectors (m : Machine) (disk : Disk) (port : ℕ) : Type 0 where
 -- what a sector of the port's disk may come back with, the machine's disk holds there or has held
 abbrev pub HoldsReplugCandidates : Machine → List Entry → DevicePort → ℕ → Type 0
 HoldsReplugCandidates m tape p port = (k : ℕ) → k < p.disk.sector_count → (bytes : List ℕ)
-    → WereHeld tape p.lasting port k bytes
+    → WereHeldSinceFlush tape p.lasting port k bytes
     → HoldsOrHeldSinceFlush m (port_at port) k (slice_index bytes)
 
 -- each client frame holds what the machine's does
@@ -56,11 +56,12 @@ ServeDistinctRequests uses = (port slot other_port other_slot : ℕ) (id : Reque
 pub record StateRelation (uses : SlotStates) (m : Machine) (d : Device) : Type 0 where
   pub relates_slots : (port slot : ℕ) → RelatesSlot m d.memory d.tape (d.port port) port slot (uses port slot)
   pub serve_distinct_requests : ServeDistinctRequests uses
-  pub received_areas_are_placed : (port : ℕ) → (d.port port).fre ≡ true → HasReceivedArea (d.port port) port
+  pub received_areas_in_use_are_placed : (port : ℕ) → (d.port port).fre ≡ true → HasReceivedArea (d.port port) port
   pub disks_are_same : (port : ℕ) → IsDiskOf m (d.port port) port
   pub client_frames_are_same : SameClientFrames m d.memory
-  pub sectors_are_same : d.telling ≡ true → (port : ℕ) → SameSectors m (d.port port).disk port
-  pub holds_replug_candidates : d.telling ≡ true → (port : ℕ) → HoldsReplugCandidates m d.tape (d.port port) port
+  pub sectors_are_same_if_disks_tell : d.telling ≡ true → (port : ℕ) → SameSectors m (d.port port).disk port
+  pub holds_replug_candidates_if_disks_tell : d.telling ≡ true → (port : ℕ)
+      → HoldsReplugCandidates m d.tape (d.port port) port
 
 -- ---- what stands beside it, by port
 

@@ -73,7 +73,7 @@ AreRequestPlaces Flush port r places = places ≡ []
 -- The command is the request's. Only slot 0 has a block in the scratch frame.
 pub record MeansRequest (port slot : ℕ) (r : Accepted) (c : Meaning) (places : List ℕ) : Type 0 where
   pub op_is : client_operation_of c.operation ≡ Some r.asked.op
-  pub first_sector_is : is_ranged c.operation ≡ true → c.first ≡ r.asked.first.0
+  pub first_sector_is_if_ranged : is_ranged c.operation ≡ true → c.first ≡ r.asked.first.0
   pub places_are : AreRequestPlaces r.asked.op port r places
   pub trim_is_in_slot_0 : r.asked.op ≡ Trim → slot ≡ 0
 
@@ -133,7 +133,7 @@ pub record IsTakenFor (memory : ℕ → ℕ) (p : DevicePort) (port slot : ℕ) 
   pub meaning : command.meaning ≡ c
   pub places_are : command.places ≡ places
   pub running : p.cr ≡ true
-  pub ci_is_set_while_plain : p.ci slot ≡ p.st && not (is_queued c.operation)
+  pub ci_is_set_iff_st_and_plain : p.ci slot ≡ p.st && not (is_queued c.operation)
   pub sact : p.sact slot ≡ p.st && is_queued c.operation
   pub progress : TouchedAsMoved e.request.asked.op memory port e command
   pub unended : e.ended ≡ false
@@ -242,7 +242,7 @@ pub record IsEmptySlot (p : DevicePort) (slot : ℕ) : Type 0 where
   pub unarmed : p.sact slot ≡ false
 
 -- No command is issued or taken, and the bit of SACT is set for the next one; clearing ST clears it.
-pub record IsArmed (p : DevicePort) (slot : ℕ) : Type 0 where
+pub record IsArmedIfSt (p : DevicePort) (slot : ℕ) : Type 0 where
   pub is_not_issued : p.ci slot ≡ false
   pub is_not_taken : p.taken slot ≡ None
   pub armed : p.sact slot ≡ p.st
@@ -250,6 +250,6 @@ pub record IsArmed (p : DevicePort) (slot : ℕ) : Type 0 where
 -- the relation of one slot
 abbrev pub RelatesSlot : Machine → (ℕ → ℕ) → List Entry → DevicePort → ℕ → ℕ → SlotState → Type 0
 RelatesSlot m memory tape p port slot Free = IsEmptySlot p slot
-RelatesSlot m memory tape p port slot Armed = IsArmed p slot
+RelatesSlot m memory tape p port slot Armed = IsArmedIfSt p slot
 RelatesSlot m memory tape p port slot (Own o) = ServesOwn memory tape p port slot o
 RelatesSlot m memory tape p port slot (Serves id) = ServesRequest m memory p port slot id

@@ -5,7 +5,7 @@ use Rattle.block_machine.specs.State.{Pending, Machine}
 use Rattle.block_machine.specs.Steps.{Step, Issue, Touch, End, WaitAgain, Answer}
 
 -- The same request, issued as often and as long ago: it is as far as it was, or further.
-pub record IsFurther (old new : Pending) : Type 0 where
+pub record IsAsFarOrFurther (old new : Pending) : Type 0 where
   pub request : new.request ≡ old.request
   pub issues : new.issue_count ≡ old.issue_count
   pub age : new.age ≡ old.age
@@ -14,26 +14,26 @@ pub record IsFurther (old new : Pending) : Type 0 where
   pub ended : old.ended ≡ true → new.ended ≡ true
 
 -- the same requests in the same order, each as far as it was, or further
-abbrev pub AllFurther : List Pending → List Pending → Type 0
-AllFurther [] later = later ≡ []
-AllFurther (old ∷ olds) [] = ⊥
-AllFurther (old ∷ olds) (new ∷ news) = IsFurther old new × AllFurther olds news
+abbrev pub AllAsFarOrFurther : List Pending → List Pending → Type 0
+AllAsFarOrFurther [] later = later ≡ []
+AllAsFarOrFurther (old ∷ olds) [] = ⊥
+AllAsFarOrFurther (old ∷ olds) (new ∷ news) = IsAsFarOrFurther old new × AllAsFarOrFurther olds news
 
 -- Grants, owners, loans and the next id are the same; so are the requests that are unanswered, and those that are kept.
-pub record KeepsBookAndLoans (m later : Machine) : Type 0 where
+pub record KeepsLoansAndBookOnlyAdvances (m later : Machine) : Type 0 where
   pub rows : later.rows ≡ m.rows
   pub owner : later.owner ≡ m.owner
   pub lent : later.lent ≡ m.lent
   pub next_id : later.next_id ≡ m.next_id
-  pub book : AllFurther m.book later.book
-  pub kept : AllFurther m.kept later.kept
+  pub book : AllAsFarOrFurther m.book later.book
+  pub kept : AllAsFarOrFurther m.kept later.kept
 
 -- The step isn't of the request of this id: it issues, touches, ends, puts back or answers none, or another. (A tick,
 -- Release and Revoke are of none.)
-abbrev pub IsOfAnother : RequestId → Step → Type 0
-IsOfAnother id (Issue mode e) = e.request.id ≢ id
-IsOfAnother id (Touch e i block) = e.request.id ≢ id
-IsOfAnother id (End e) = e.request.id ≢ id
-IsOfAnother id (WaitAgain e) = e.request.id ≢ id
-IsOfAnother id (Answer e outcome) = e.request.id ≢ id
-IsOfAnother id step = Unit {0}
+abbrev pub IsNotStepOfPendingRequest : RequestId → Step → Type 0
+IsNotStepOfPendingRequest id (Issue mode e) = e.request.id ≢ id
+IsNotStepOfPendingRequest id (Touch e i block) = e.request.id ≢ id
+IsNotStepOfPendingRequest id (End e) = e.request.id ≢ id
+IsNotStepOfPendingRequest id (WaitAgain e) = e.request.id ≢ id
+IsNotStepOfPendingRequest id (Answer e outcome) = e.request.id ≢ id
+IsNotStepOfPendingRequest id step = Unit {0}

@@ -21,7 +21,7 @@ pub record IsUpForStart (p : DevicePort) : Type 0 where
   pub start_ends_halt : halt_after_start p.halt ≡ NotHalted
 
 -- The engine stands; and if PxSSTS.DET is 3, the link is up.
-pub record IsComingUp (p : DevicePort) : Type 0 where
+pub record IsStoppedAndUpForStartIfShown (p : DevicePort) : Type 0 where
   pub cr_is_clear : p.cr ≡ false
   pub is_up_if_shown : p.ssts_det ≡ 3 → IsUpForStart p
 

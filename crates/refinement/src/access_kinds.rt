@@ -6,8 +6,8 @@ ghost use Rattle.std.specs.Prelude.{ℕ, ⊤, None, false, ◌≡◌, ◌⊎◌,
 ghost use Rattle.ata_types.specs.declared.Port.{Port};
 ghost use Rattle.hba_regs.specs.{declared.reg.PortReg.{PortReg}, declared.reg.PortReg.TheVariants.{Sact, Ci}, declared.reg.Reg.{Reg}, declared.reg.Reg.TheVariants.{Px}};
 ghost use Rattle.adapter.specs.{Access.{Access, Reads, Writes, Loads, Stores}, Access.Access.{Reading, Writing, Loading, Storing}, Device.{Device}, Rules.{MayWrite, IsStable}, declared.command.Operation.{Operation}};
-ghost use Rattle.refinement.specs.{Acts.{ActsByDeviceAlone, Performs}, Fragments.{SomeMachineAgrees, ReadsPortOrWrites, IsSimulated, IsSimulatedChangingUses, SparesOtherPorts, IsSimulatedAlong, IsSimulatedAlongChangingUses, NoneWrites, GainsNoMove}, Driver.{AllFree, KeepsSlotStates, IsOwnPrepared, MayStore}, PortFacts.{IsEngineStopped}, GivingUp.{slots_with_all_parked}, Laws.{FragmentLaws}, PreservedParts.{DoesNotWrite}};
-ghost use Rattle.refinement.specs.{HaltRecovery.{WorksPlainly}, Slots.{SlotStates, Free, Own, IsOver, client_operation_of, set_slot_state}};
+ghost use Rattle.refinement.specs.{Acts.{ActsByDeviceAlone, AccessesAreSimulatedByActs}, Fragments.{SomeMachineAgrees, ReadsPortOrWrites, IsSimulated, IsSimulatedChangingUses, SparesOtherPorts, IsSimulatedAlong, IsSimulatedAlongChangingUses, NoneWrites, GainsNoMove}, Driver.{AllFree, KeepsSlotStates, IsOwnPrepared, MayStore}, PortFacts.{IsEngineStopped}, GivingUp.{slots_with_all_parked}, Laws.{FragmentLaws}, PreservedParts.{DoesNotWrite}};
+ghost use Rattle.refinement.specs.{HaltRecovery.{WorksOnUnqueuedCommandsOnly}, Slots.{SlotStates, Free, Own, IsOver, client_operation_of, set_slot_state}};
 
 use super::prerequisites::law_prerequisites;
 use adapter::laws::law_accesses_compose;
@@ -49,7 +49,7 @@ impl AccessKinds for Brand {
 
 /// Accesses that read a port's registers and write those of a set are the one or the other. They are of that port
 /// (`SparesOtherPorts`), spare its other registers, and are so of each wider set.
-pub fn law_controls_are_of_a_port<R: RegisterSets>()
+pub fn law_port_register_accesses_are_of_port<R: RegisterSets>()
     ensures is_reading_or_writing { (set : R.Set) (port : Port) (access : Access)
         → ReadsPortOrWrites (R.has set) port access
         → ((r : PortReg) × (v : ℕ) × (access ≡ Reading (Px port r) v))
@@ -134,7 +134,7 @@ pub fn law_followed_fragments_agree<K: AccessKinds>()
         → K.fits kind uses → NoneWrites (K.may kind) (Px port Sact)
         → IsSimulatedChangingUses (K.may kind) (K.fits kind) next old
         new → SomeMachineAgrees uses old
-        → WorksPlainly (old.port port.0) → WorksPlainly (new.port port.0) }
+        → WorksOnUnqueuedCommandsOnly (old.port port.0) → WorksOnUnqueuedCommandsOnly (new.port port.0) }
 {
     law_prerequisites();
 }
@@ -145,7 +145,7 @@ pub fn law_followed_fragments_agree<K: AccessKinds>()
 pub fn law_fragments_are_parts<K: AccessKinds>()
     ensures is_a_part { (kind : K.Kind) (next : SlotStates → SlotStates) (old new : Device)
         → (a : IsSimulatedChangingUses (K.may kind) (K.fits kind) next old new)
-        → Performs a.is_driven.accesses (λ s m. K.fits kind s.slot_states)
+        → AccessesAreSimulatedByActs a.is_driven.accesses (λ s m. K.fits kind s.slot_states)
         (λ s. record s { slot_states = next s.slot_states })
         ActsByDeviceAlone
         old new }
@@ -153,7 +153,7 @@ pub fn law_fragments_are_parts<K: AccessKinds>()
         → (a : IsSimulated (K.may kind) (K.fits kind) old mid) → IsEngineStopped (mid.port port)
         → ((uses : SlotStates) → AllFree uses port → K.fits then uses)
         → (b : IsSimulatedChangingUses (K.may then) (K.fits then) next mid new)
-        → Performs (a.is_driven.accesses ++ b.is_driven.accesses)
+        → AccessesAreSimulatedByActs (a.is_driven.accesses ++ b.is_driven.accesses)
         (λ s m. K.fits kind s.slot_states)
         (λ s. record (slots_with_all_parked port s) { slot_states = next (slots_with_all_parked port s).slot_states })
         ActsByDeviceAlone old

@@ -4,7 +4,7 @@ ghost use Rattle.ata_types.specs.declared.Port.{Port};
 ghost use Rattle.hba_regs.specs.{declared.reg.Reg.TheVariants.{Px}, declared.reg.PortReg.TheVariants.{Sact}};
 ghost use Rattle.adapter.specs.{Access.{Access, Does, DoesAll}, declared.command.Operation.{Operation}};
 ghost use Rattle.block_machine.specs.{Events.{AllByDevice, IsByDevice}, Histories.{IsReachable, IsSimulatedBySteps}, Expected.{after}, State.{Machine}, Steps.{Step, IsEnabled, after_step}};
-ghost use Rattle.refinement.specs.{Acts.{Act, IsActDone, AreActsDone, IsOneDecision, accesses_of, act_steps}, Fragments.{GainsNoMove}, Driver.{DriverState, DriverRelation, IsBackedByDeviceAlone, DriverAdvances, EndsInSteps}, PreservedParts.{DoesNotWrite}, HaltRecovery.{WorksPlainly}, Slots.{Own, client_operation_of}};
+ghost use Rattle.refinement.specs.{Acts.{Act, IsActDone, AreActsDone, IsAtMostOneStepOrIssuesOfPort, accesses_of, act_steps}, Fragments.{GainsNoMove}, Driver.{DriverState, DriverRelation, IsBackedByDeviceAlone, DriverAdvances, EndsInSteps}, PreservedParts.{DoesNotWrite}, HaltRecovery.{WorksOnUnqueuedCommandsOnly}, Slots.{Own, client_operation_of}};
 
 use super::prerequisites::law_prerequisites;
 
@@ -18,7 +18,7 @@ pub fn law_accesses_and_decisions_are_acts()
         → Does access k.device later.device → (steps : List Step) × AllByDevice steps
         × IsActDone k m (record { access = Some access; steps = steps; state_after = later }) }
     ensures access_with_own_steps { (k later : DriverState) (m : Machine) (access : Access) (own : List Step)
-        → (e : EndsInSteps k m own later) → IsOneDecision access own
+        → (e : EndsInSteps k m own later) → IsAtMostOneStepOrIssuesOfPort access own
         → Does access k.device later.device
         → IsActDone k m (record { access = Some access; steps = own ++ e.steps; state_after = later }) }
     ensures own { (k later : DriverState) (m : Machine) (step : Step) → (IsByDevice step → ⊥) → IsEnabled m step
@@ -55,7 +55,7 @@ pub fn law_acts_advance_driver()
     ensures works_plainly_still { (acts : List Act) (k later : DriverState) (m : Machine) (port : Port) → IsReachable m
         → DriverRelation m k
         → All (DoesNotWrite (Px port Sact)) (accesses_of acts) → AreActsDone acts k m later
-        → WorksPlainly (k.device.port port.0) → WorksPlainly (later.device.port port.0) }
+        → WorksOnUnqueuedCommandsOnly (k.device.port port.0) → WorksOnUnqueuedCommandsOnly (later.device.port port.0) }
 {
     law_prerequisites();
 }

@@ -12,7 +12,7 @@ use super::prerequisites::law_prerequisites;
 /// none, none then; and where a device shows, its first FIS has come, if it had where one showed before. Whatever else
 /// the device does, also over a reset that ends, and over each access. A reset that has ended shows no device, and so
 /// does COMRESET.
-pub fn law_where_no_disk_comes()
+pub fn law_vacancy_stays_where_no_disk_comes()
     ensures out_steps { (port : ℕ) (old new : Device) → NoDiskComes port old new → Steps old new
         → (old.port port).present ≡ false → (new.port port).present ≡ false }
     ensures out_access { (port : Port) (access : Access) (old new : Device) → NoDiskComes port.0 old new

@@ -3,12 +3,12 @@
 ghost use Rattle.std.specs.Prelude.{ℕ, false, ◌≡◌, ◌≢◌, ◌++◌, List, Contains, length, None};
 ghost use Rattle.ata_types.specs.declared.Port.{Port};
 ghost use Rattle.hba_regs.specs.{Bits.{bit}, declared.reg.PortReg.{PortReg}, declared.reg.PortReg.TheVariants.{Cmd, Is, Sctl, Sact, Ci}, declared.reg.Reg.TheVariants.{Ghc, Px}};
-ghost use Rattle.adapter.specs.{Access.{Access, Does, Reads, Writes, Loads, Stores}, Device.{DevicePort, Device}, Idle.{IsIdle, TellsDisks}, Rules.{IsOn, MayWrite, IsStable}, Steps.{Steps}, declared.command.Operation.{Operation}, declared.tape.Entry.{Entry}};
-ghost use Rattle.refinement.specs.{Fragments.{AnyAccess, TapeGrows, AnySlotStates, SameSlotStates, SomeMachineAgrees, IsDrivenBy, ReadsPortOrWrites, IsSimulated, IsSimulatedChangingUses, SparesOtherPorts, LeavesPort, HasNoCommand, GainsNoMove}, Driver.{KeepsSlotStates, MayStore}, PortFacts.{RecordsFaultsIfSt}, Laws.{TapeLaws}, PreservedParts.{SameAdapter, DoesNotWrite}};
+ghost use Rattle.adapter.specs.{Access.{Access, Does, Reads, Writes, Loads, Stores}, Device.{DevicePort, Device}, Idle.{IsIdle, DisksAreKnownIfTelling}, Rules.{IsOn, MayWrite, IsStable}, Steps.{Steps}, declared.command.Operation.{Operation}, declared.tape.Entry.{Entry}};
+ghost use Rattle.refinement.specs.{Fragments.{AnyAccess, TapeGrows, AnySlotStates, SameSlotStates, SomeMachineAgrees, IsDrivenBy, ReadsPortOrWrites, IsSimulated, IsSimulatedChangingUses, SparesOtherPorts, OnlyDeviceChangesPort, HasNoCommand, GainsNoMove}, Driver.{KeepsSlotStates, MayStore}, PortFacts.{RecordsFaultsIfSt}, Laws.{TapeLaws}, PreservedParts.{SameAdapter, DoesNotWrite}};
 ghost use Rattle.refinement.specs.Slots.{SlotStates, Free, IsOver, Own, client_operation_of, set_slot_state};
 
 use super::port_facts::{
-    law_errors_rise_by_disks, law_tape_absence_composes, law_undisturbed_ports_tell_nothing,
+    law_link_errors_rise_by_disks, law_tape_absence_composes, law_undisturbed_has_no_error_or_plug,
 };
 use super::prerequisites::law_prerequisites;
 
@@ -20,7 +20,7 @@ use super::prerequisites::law_prerequisites;
 pub fn law_other_ports_are_untouched()
     ensures other_port_is_untouched { (port : Port) (q : ℕ) (old new : Device) → q ≢ port.0 → IsOn old
         → IsDrivenBy (SparesOtherPorts port) old new
-        → LeavesPort (old.port q) (new.port q) }
+        → OnlyDeviceChangesPort (old.port q) (new.port q) }
     ensures recorded { (port : Port) (q : ℕ) (old new : Device) → q ≢ port.0
         → IsDrivenBy (SparesOtherPorts port) old new
         → RecordsFaultsIfSt old.tape (old.port q) q → RecordsFaultsIfSt new.tape (new.port q) q }
@@ -30,8 +30,9 @@ pub fn law_other_ports_are_untouched()
         → SomeMachineAgrees uses old
         → client_operation_of o ≡ None
         → (uses q.0 0 ≡ Own o → ⊥) → GainsNoMove q.0 o old new }
-    ensures reflexive { (p : DevicePort) → LeavesPort p p }
-    ensures transitive { (old mid new : DevicePort) → LeavesPort old mid → LeavesPort mid new → LeavesPort old new }
+    ensures reflexive { (p : DevicePort) → OnlyDeviceChangesPort p p }
+    ensures transitive { (old mid new : DevicePort) → OnlyDeviceChangesPort old mid → OnlyDeviceChangesPort mid new
+        → OnlyDeviceChangesPort old new }
     ensures spares { (port q : Port) (r : PortReg) → q.0 ≢ port.0 → (access : Access) → SparesOtherPorts port access
         → DoesNotWrite (Px q r) access }
     ensures spares_host { (port : Port) (access : Access) → SparesOtherPorts port access → DoesNotWrite Ghc access }
@@ -54,7 +55,8 @@ pub fn law_agreeing_goes_on()
     ensures own_command_over_frees_slot { (uses : SlotStates) (port : ℕ) (o : Operation) (d : Device)
         → uses port 0 ≡ Free
         → IsOver (d.port port) 0 → SomeMachineAgrees (set_slot_state uses port 0 (Own o)) d → SomeMachineAgrees uses d }
-    ensures idle_device_agrees { (d : Device) → IsIdle d → TellsDisks d → SomeMachineAgrees (λ port slot. Free) d }
+    ensures idle_device_agrees { (d : Device) → IsIdle d → DisksAreKnownIfTelling d
+        → SomeMachineAgrees (λ port slot. Free) d }
 {}
 
 /// The tape only gains: over none, over each access, and over one fragment after another.
@@ -70,13 +72,13 @@ pub fn law_tape_prerequisites()
 {
     law_tapes_grow();
     law_tape_absence_composes();
-    law_undisturbed_ports_tell_nothing();
-    law_errors_rise_by_disks();
+    law_undisturbed_has_no_error_or_plug();
+    law_link_errors_rise_by_disks();
 }
 
 /// A write of a register of the port but PxSCTL and PxIS leaves all that is noted of the port: but when ST was set,
 /// where PxCMD is written with ST one.
-pub fn law_written_notes_stay()
+pub fn law_writes_keep_notes_but_sctl_is_and_start()
     ensures others { (port : Port) (r : PortReg) (v : ℕ) (old new : Device) → r ≢ Sctl → r ≢ Is
         → (r ≡ Cmd → bit v 0 ≡ false) → Writes (Px port r) v old new
         → (new.port port.0).notes ≡ (old.port port.0).notes }
@@ -88,7 +90,7 @@ pub fn law_written_notes_stay()
 
 /// While a port's engine stands, each bit of PxIS that is clear stays so: whatever the device does, and over each
 /// access.
-pub fn law_causes_stay_clear()
+pub fn law_stopped_engine_keeps_pxis_bits_clear()
     ensures steps { (port place : ℕ) (old new : Device) → (old.port port).cr ≡ false → Steps old new
         → (old.port port).is place ≡ false → (new.port port).is place ≡ false }
     ensures access { (port : Port) (place : ℕ) (access : Access) (old new : Device) → (old.port port.0).cr ≡ false

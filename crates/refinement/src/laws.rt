@@ -6,9 +6,9 @@ ghost use Rattle.adapter.specs.{Access.{Reads, Writes, Loads, Stores, device_aft
 ghost use Rattle.block_machine.specs.{DueRequests.{is_plain, issued_count}, Events.{IsByDevice, AllByDevice, AllEnabled, changes_disk}, Histories.{IsReachable, IsSimulatedBySteps}, Expected.{IsInitial, after, AllStepsFaithful}, Refusals.{MayAccessFrame}, State.{Accepted, Pending, Machine, unanswered}};
 ghost use Rattle.block_machine.specs.{Steps.{Step, Accept, Issue, Age, WaitAgain, Answer, Release, Store, Load, IsEnabled, NoneKept, aged_pending, after_step, is_kept_at_answer, MayStillMove, Revoke}, declared.due.QueueMode.{QueueMode}};
 ghost use Rattle.refinement.specs.{Relation.{StateRelation, IsDiskOf, SameClientFrames, SameSectors, HaveSlotsUnlessParked, ServeDistinctRequests, port_at}, Replug.{replug_candidates}, Acts.{IsIssueStep}};
-ghost use Rattle.refinement.specs.{Driver.{MayStore, KeepsSlotStates, KeepsTablesAndScratch, DriverState, DriverRelation, TapeBacksSteps, IsBackedByDeviceAlone, DriverAdvances, IsOwnPrepared, EndsInOneStep, HasNoSlot, ForgetsAtMost, ForgetsAtMostKept, with_slot_parked, with_slot_freed, idle_driver_state, KeepsOtherCmdBits, MissesHeaderAndTable, MissesScratch}, Simulation.{SimulatesSteps}, PreservedParts.{IsPlugEvent}};
+ghost use Rattle.refinement.specs.{Driver.{MayStore, KeepsSlotStates, KeepsTablesAndScratchUnlessOwn, DriverState, DriverRelation, TapeBacksSteps, IsBackedByDeviceAlone, DriverAdvances, IsOwnPrepared, EndsInOneStep, HasNoSlot, ForgetsAtMost, ForgetsAtMostKept, with_slot_freed_and_request_parked, with_slot_freed, idle_driver_state, KeepsOtherCmdBits, MissesTableAndHeaderButPrdbc, MissesScratch}, Simulation.{SimulatesSteps}, PreservedParts.{IsPlugEvent}};
 ghost use Rattle.refinement.specs.{MemoryLayout.{command_list_address, scratch_frame_address, received_fis_address}, TrimWitness.{TrimAgrees}, ReadWitness.{PreparedReadWitness, FirstReadWitness, KeptReadAgrees, ParkedReadWitness, EndedReadAgrees, OwnCommandAgrees}, TwoReadsWitness.{TwoReadsWitness, TwoStoredReads}};
-ghost use Rattle.refinement.specs.{Slots.{SlotState, Free, Armed, Own, Serves, SlotStates, set_slot_state, serving_count, SlotDecodesTo, HasBlockIfTrim, IsOver, client_operation_of, IsMove}, SparedBook.{IsFurther, AllFurther, KeepsBookAndLoans, IsOfAnother}, Tape.{OneAtMost, TellsDeviceSteps}};
+ghost use Rattle.refinement.specs.{Slots.{SlotState, Free, Armed, Own, Serves, SlotStates, set_slot_state, serving_count, SlotDecodesTo, HasBlockIfTrim, IsOver, client_operation_of, IsMove}, SparedBook.{IsAsFarOrFurther, AllAsFarOrFurther, KeepsLoansAndBookOnlyAdvances, IsNotStepOfPendingRequest}, Tape.{OneAtMost, TellsDeviceSteps}};
 ghost use Rattle.hba_regs.specs.declared.reg.Reg.TheVariants as registers;
 
 use super::prerequisites::law_prerequisites;
@@ -140,7 +140,8 @@ pub fn law_revoking_agrees()
 /// A slot whose command is over is given up, and its request is decided on later.
 pub fn law_parking_agrees()
     ensures { (k : DriverState) (m : Machine) → DriverRelation m k → (port slot : ℕ) → IsOver (k.device.port port) slot
-        → (id : RequestId) → k.slot_states port slot ≡ Serves id → DriverRelation m (with_slot_parked k port slot id) }
+        → (id : RequestId) → k.slot_states port slot ≡ Serves id
+        → DriverRelation m (with_slot_freed_and_request_parked k port slot id) }
 {}
 
 /// A slot that is put to another use has it, and every other slot goes on as it was used. So a request that no slot
@@ -161,11 +162,11 @@ pub fn law_setting_changes_one_slot()
 pub fn law_parking_frees()
     ensures frees { (k : DriverState) (port slot : ℕ) (id : RequestId) → ServeDistinctRequests k.slot_states
         → k.slot_states port slot ≡ Serves id
-        → HasNoSlot (with_slot_parked k port slot id).slot_states id }
+        → HasNoSlot (with_slot_freed_and_request_parked k port slot id).slot_states id }
     ensures leaves { (k : DriverState) (port slot : ℕ) (id other : RequestId) → HasNoSlot k.slot_states other
-        → HasNoSlot (with_slot_parked k port slot id).slot_states other }
+        → HasNoSlot (with_slot_freed_and_request_parked k port slot id).slot_states other }
     ensures parks { (k : DriverState) (port slot : ℕ) (id : RequestId)
-        → Contains ((with_slot_parked k port slot id).awaiting_disposition port) id }
+        → Contains ((with_slot_freed_and_request_parked k port slot id).awaiting_disposition port) id }
 {}
 
 /// A request that no slot serves may be answered: its frames are given back.
@@ -244,23 +245,23 @@ pub fn law_due_finds_free_slot()
 
 /// While no reset is pending the device leaves alone what no slot uses; so it is over readings, writes and loads. A
 /// store leaves of it what it would at once, had the device done nothing first.
-pub fn law_free_slots_are_untouched()
+pub fn law_tables_and_idle_scratch_are_kept()
     ensures steps { (uses : SlotStates) (m : Machine) (old new : Device) → IsReachable m → StateRelation uses m old
         → old.hr ≡ false
-        → Steps old new → KeepsTablesAndScratch uses old new }
+        → Steps old new → KeepsTablesAndScratchUnlessOwn uses old new }
     ensures reads { (uses : SlotStates) (m : Machine) (old new : Device) → IsReachable m → StateRelation uses m old
         → old.hr ≡ false
-        → (r : Reg) (v : ℕ) → Reads r v old new → KeepsTablesAndScratch uses old new }
+        → (r : Reg) (v : ℕ) → Reads r v old new → KeepsTablesAndScratchUnlessOwn uses old new }
     ensures loads { (uses : SlotStates) (m : Machine) (old new : Device) → IsReachable m → StateRelation uses m old
         → old.hr ≡ false
-        → (at : ℕ) (bytes : List ℕ) → Loads at bytes old new → KeepsTablesAndScratch uses old new }
+        → (at : ℕ) (bytes : List ℕ) → Loads at bytes old new → KeepsTablesAndScratchUnlessOwn uses old new }
     ensures stores { (uses : SlotStates) (m : Machine) (old new : Device) → IsReachable m → StateRelation uses m old
         → old.hr ≡ false
         → (at : ℕ) (bytes : List ℕ) → Stores at bytes old new
-        → KeepsTablesAndScratch uses (record old { memory = patched old.memory at bytes }) new }
+        → KeepsTablesAndScratchUnlessOwn uses (record old { memory = patched old.memory at bytes }) new }
     ensures writes { (uses : SlotStates) (m : Machine) (old new : Device) → IsReachable m → StateRelation uses m old
         → old.hr ≡ false
-        → (r : Reg) (v : ℕ) → Writes r v old new → KeepsTablesAndScratch uses old new }
+        → (r : Reg) (v : ℕ) → Writes r v old new → KeepsTablesAndScratchUnlessOwn uses old new }
 {}
 
 /// A page comes only where slot 0 of its port has that command of the driver's own, which isn't over; and one at most
@@ -294,26 +295,26 @@ pub fn law_pages_come_when_asked()
 /// the driver's own. A store beside them leaves them, too; and one for a free slot is beside what belongs to a slot in
 /// use.
 pub fn law_stored_commands_stay()
-    ensures told { (uses : SlotStates) (old new : Device) → KeepsTablesAndScratch uses old new
+    ensures told { (uses : SlotStates) (old new : Device) → KeepsTablesAndScratchUnlessOwn uses old new
         → (port slot : ℕ) (c : Meaning)
         (places : List ℕ) → port < 4 → slot < 32
         → SlotDecodesTo old.memory (command_list_address port) port slot c places
         → SlotDecodesTo new.memory (command_list_address port) port slot c places }
-    ensures block { (uses : SlotStates) (old new : Device) → KeepsTablesAndScratch uses old new
+    ensures block { (uses : SlotStates) (old new : Device) → KeepsTablesAndScratchUnlessOwn uses old new
         → (port : ℕ) (r : Accepted)
         → port < 4
         → ((o : Operation) → uses port 0 ≡ Own o → ⊥) → HasBlockIfTrim r.asked.op old.memory port r
         → HasBlockIfTrim r.asked.op new.memory port r }
     ensures beside { (uses : SlotStates) (at : ℕ) (bytes : List ℕ) (old new : Device)
-        → KeepsTablesAndScratch uses (record old { memory = patched old.memory at bytes }) new
+        → KeepsTablesAndScratchUnlessOwn uses (record old { memory = patched old.memory at bytes }) new
         → (port slot : ℕ) (c : Meaning)
-        (places : List ℕ) → port < 4 → slot < 32 → MissesHeaderAndTable port slot at (length bytes)
+        (places : List ℕ) → port < 4 → slot < 32 → MissesTableAndHeaderButPrdbc port slot at (length bytes)
         → SlotDecodesTo old.memory (command_list_address port) port slot c places
         → SlotDecodesTo new.memory (command_list_address port) port slot c places }
     ensures misses { (uses : SlotStates) (port slot at n : ℕ) → uses port slot ≢ Free → port < 4 → slot < 32
-        → MayStore uses at n → MissesHeaderAndTable port slot at n }
+        → MayStore uses at n → MissesTableAndHeaderButPrdbc port slot at n }
     ensures block_beside { (uses : SlotStates) (at : ℕ) (bytes : List ℕ) (old new : Device)
-        → KeepsTablesAndScratch uses (record old { memory = patched old.memory at bytes }) new
+        → KeepsTablesAndScratchUnlessOwn uses (record old { memory = patched old.memory at bytes }) new
         → (port : ℕ) (r : Accepted)
         → port < 4 → ((o : Operation) → uses port 0 ≡ Own o → ⊥) → MissesScratch port at (length bytes)
         → HasBlockIfTrim r.asked.op old.memory port r → HasBlockIfTrim r.asked.op new.memory port r }
@@ -331,15 +332,18 @@ pub fn law_enabled_issues_stay()
 /// unanswered and kept, in the same order, each as far as it was, or further. So what is due is the same. A frame that
 /// isn't lent to a request that the device may move keeps its bytes. And a port of which no request is kept has none
 /// kept after them.
-pub fn law_steps_spare_the_book()
-    ensures spares { (m : Machine) (steps : List Step) → AllByDevice steps → KeepsBookAndLoans m (after m steps) }
-    ensures reflexive { (m : Machine) → KeepsBookAndLoans m m }
-    ensures transitive { (a b c : Machine) → KeepsBookAndLoans a b → KeepsBookAndLoans b c → KeepsBookAndLoans a c }
-    ensures due_is_the_same { (old new : List Pending) → AllFurther old new → map unanswered new ≡ map unanswered old }
-    ensures is_found_later { (old new : List Pending) (e : Pending) → AllFurther old new → Contains old e
-        → (x : Pending) × Contains new x × IsFurther e x }
-    ensures was_found_before { (old new : List Pending) (e : Pending) → AllFurther old new → Contains new e
-        → (x : Pending) × Contains old x × IsFurther x e }
+pub fn law_book_only_advances_over_device_steps()
+    ensures spares { (m : Machine) (steps : List Step) → AllByDevice steps
+        → KeepsLoansAndBookOnlyAdvances m (after m steps) }
+    ensures reflexive { (m : Machine) → KeepsLoansAndBookOnlyAdvances m m }
+    ensures transitive { (a b c : Machine) → KeepsLoansAndBookOnlyAdvances a b → KeepsLoansAndBookOnlyAdvances b c
+        → KeepsLoansAndBookOnlyAdvances a c }
+    ensures due_is_the_same { (old new : List Pending) → AllAsFarOrFurther old new
+        → map unanswered new ≡ map unanswered old }
+    ensures is_found_later { (old new : List Pending) (e : Pending) → AllAsFarOrFurther old new → Contains old e
+        → (x : Pending) × Contains new x × IsAsFarOrFurther e x }
+    ensures was_found_before { (old new : List Pending) (e : Pending) → AllAsFarOrFurther old new → Contains new e
+        → (x : Pending) × Contains old x × IsAsFarOrFurther x e }
     ensures unlent_frames_keep_bytes { (m : Machine) (steps : List Step) (frame : Frame) → IsReachable m
         → AllByDevice steps
         → AllEnabled m steps
@@ -429,7 +433,7 @@ pub fn law_driver_stores_are_permitted()
 
 /// A write that may be made now, of any register but PxCI, may be made whatever the device does first; and, while no
 /// reset is pending, one that leaves each slot to its use goes on to.
-pub fn law_writing_stays_permitted()
+pub fn law_writes_but_ci_stay_permitted()
     ensures rules { (r : Reg) (v : ℕ) (d : Device) → ((port : Port) → r ≢ Px port Ci) → MayWrite r v d
         → IsStable (MayWrite r v) d }
     ensures uses { (uses : SlotStates) (r : Reg) (v : ℕ) (d : Device) → d.hr ≡ false → KeepsSlotStates uses r v d

@@ -5,10 +5,10 @@ ghost use Rattle.ata_types.specs.{declared.Port.{Port}, declared.memory.TheConst
 ghost use Rattle.hba_regs.specs.{Bits.{bit}, declared.reg.Reg.{Reg}, declared.reg.Reg.TheVariants.{Ghc, Px}, declared.reg.PortReg.TheVariants.{Is, Ie, Cmd, Tfd, Sig, Ssts, Sctl, Serr, Ci, Sact, Clb, Clbu, Fb, Fbu}, declared.reg.PortReg.{PortReg}};
 ghost use Rattle.adapter.specs.{Access.{Reads, Writes, Loads, Stores, Access, Does, DoesAll, PortShows, notes_after_reading}, Access.Access.{Writing}, Device.{Device, DevicePort}, Device.Halt.{HaltedPlain}, FirstRead.{first_read_device}, Idle.{IsIdle, IsIdlePort}, Rules.{IsUnowned, IsOn, MayWrite, IsStable}, Steps.{Steps}, declared.command.Operation.{Operation}, declared.tape.Entry.{Entry}};
 ghost use Rattle.block_machine.specs.{Events.{AllByDevice}, Histories.{IsReachable, IsSimulatedBySteps}, Expected.{after}, State.{Pending, Machine}, Steps.{Step, Release, MayStillMove, NoneKept, after_step}};
-ghost use Rattle.refinement.specs.{Relation.{StateRelation}, AwaitedPage.{AwaitsOrHasPage}, BootWitness.{BootWitness}, Fragments.{TapeGrows}, Driver.{DriverState, DriverRelation, IsOwnPrepared}, Errors.{KeepsErrors, NoDiskComes, LinkErrorsRiseByDisks, ErrorBitsStayClear, NoFatalErrors, NoFaults, ErrorBitsRiseByErrors, IsLeftByReset, ShowsResetState, IsCompositional, IsEngineWork}};
-ghost use Rattle.refinement.specs.PortFacts.{IsEngineStopped, IsQuiescentPort, FindsOwnPage, DeviceSparesFrame, CommandsAreOver, RunsWell, Undisturbed, ShowsNoTrouble, PxisValueTellsNoTrouble, ClearsNoTrouble, IsFaulted, ShowsFault, RecordsFaults, RecordsFaultsIfSt, StoppedWithDrqTillLink, StoppedTfesClear, IsCleanToStart, KeepsFaultRecord, EndedIn, IsSlotClear};
-ghost use Rattle.refinement.specs.{PreservedParts.{DoesNotWrite, SameAdapter, LeavesControls, NoPlugEvents, KeepsDisk, LinkIsSameOrComesUp, ShowsDiskIfIn}, PortNotes.{LeavesNotes, NotesLast}, MemoryLayout.{scratch_frame_address}, Slots.{SlotStates, Free, Own, Serves, IsOver, PageStandsInScratch, set_slot_state}, SparedBook.{IsOfAnother}, Staying.{StaysOverReadings, StaysOverSteps, StaysOverWrites}};
-ghost use Rattle.refinement.specs.StartedPort.{IsUpForStart, IsComingUp, IsStarted, SetsNoStart, ClearsNoStart};
+ghost use Rattle.refinement.specs.{Relation.{StateRelation}, AwaitedPage.{AwaitsOrHasPage}, BootWitness.{BootWitness}, Fragments.{TapeGrows}, Driver.{DriverState, DriverRelation, IsOwnPrepared}, Errors.{KeepsSetBitsOfPxisAndSerrNX, NoDiskComes, LinkErrorsRiseByDisks, ErrorBitsStayClear, NoFatalErrors, NoFaults, ErrorBitsRiseByErrors, IsLeftByReset, ShowsResetStateUntilSerrX, IsCompositional, IsEngineWork}};
+ghost use Rattle.refinement.specs.PortFacts.{IsEngineStopped, IsQuiescentPort, FollowsAndHasPageSinceStart, DeviceSparesFrame, CommandsAreOver, RunsWell, Undisturbed, ShowsNoTrouble, PxisValueTellsNoTrouble, ClearsNoTrouble, IsFaulted, ShowsFault, RecordsFaults, RecordsFaultsIfSt, IsStoppedWithDrqWhileLinkAwaited, CrAndTfesAreClear, IsCleanToStart, StartsCleanAndWritesSctlStopped, EndedIn, IsSlotClear};
+ghost use Rattle.refinement.specs.{PreservedParts.{DoesNotWrite, SameAdapter, ControlsChangeOnlyByTheirWrites, NoPlugEvents, KeepsDisk, LinkIsSameOrComesUp, ShowsDiskIfIn}, PortNotes.{ReadingNotesChangeByReadOrSctlWriteOnly, NotesLast}, MemoryLayout.{scratch_frame_address}, Slots.{SlotStates, Free, Own, Serves, IsOver, PageStandsInScratch, set_slot_state}, SparedBook.{IsNotStepOfPendingRequest}, Staying.{StaysOverReadings, StaysOverSteps, StaysOverWrites}};
+ghost use Rattle.refinement.specs.StartedPort.{IsUpForStart, IsStoppedAndUpForStartIfShown, IsStarted, SetsNoStart, ClearsNoStart};
 
 use super::prerequisites::law_prerequisites;
 use adapter::laws::law_step_lists_keep_what_steps_keep;
@@ -43,13 +43,13 @@ pub fn law_reset_is_found()
     ensures begins { (v : ℕ) (old new : Device) → bit v 0 ≡ true → Writes Ghc v old new → new.hr ≡ true }
     ensures hr_and_ae_are_read { (v : ℕ) (old new : Device) → Reads Ghc v old new → (new.hr ≡ bit v 0)
         × (new.ae ≡ bit v 31) }
-    ensures port_is_left_by_reset { (v : ℕ) (old new : Device) → old.hr ≡ true → Reads Ghc v old new → bit v 0 ≡ false
+    ensures port_is_quiescent { (v : ℕ) (old new : Device) → old.hr ≡ true → Reads Ghc v old new → bit v 0 ≡ false
         → (port : ℕ) → IsQuiescentPort (new.port port) }
     ensures left { (v : ℕ) (old new : Device) → old.hr ≡ true → Reads Ghc v old new → bit v 0 ≡ false
         → (mid : Device) × (mid.hr ≡ false) × ((port : ℕ) → IsLeftByReset (mid.port port)) × Steps mid new
         × Steps old mid }
     ensures cleared { (v : ℕ) (old new : Device) → old.hr ≡ true → Reads Ghc v old new → bit v 0 ≡ false
-        → (port : ℕ) → ShowsResetState (new.port port) }
+        → (port : ℕ) → ShowsResetStateUntilSerrX (new.port port) }
     ensures stays { StaysOverSteps IsQuiescentPort }
     ensures reads { StaysOverReadings IsQuiescentPort }
     ensures writes { StaysOverWrites (λ v. (bit v 0 ≡ false) × (bit v 4 ≡ false)) IsQuiescentPort }
@@ -92,7 +92,8 @@ pub fn law_over_stays()
         → IsSlotClear (old.port port.0) slot → IsSlotClear (new.port port.0) slot }
     ensures ended { (m : Machine) (steps : List Step) (port : Port) (id : RequestId) → AllByDevice steps
         → EndedIn m port id → EndedIn (after m steps) port id }
-    ensures ended_beside { (m : Machine) (step : Step) (port : Port) (id : RequestId) → IsOfAnother id step
+    ensures ended_beside { (m : Machine) (step : Step) (port : Port) (id : RequestId)
+        → IsNotStepOfPendingRequest id step
         → step ≢ Release → EndedIn m port id → EndedIn (after_step m step) port id }
     ensures ended_released { (m : Machine) (port : Port) (id : RequestId) → NoneKept m port → EndedIn m port id
         → EndedIn (after_step m Release) port id }
@@ -120,7 +121,7 @@ pub fn law_page_is_awaited()
     ensures found { (uses : SlotStates) (m : Machine) (port : Port) (o : Operation) (since v : ℕ) (old new : Device)
         → IsReachable m → StateRelation uses m old → AwaitsOrHasPage uses port.0 o since old
         → Reads (Px port Ci) v old new
-        → bit v 0 ≡ false → FindsOwnPage uses m port.0 o old new
+        → bit v 0 ≡ false → FollowsAndHasPageSinceStart uses m port.0 o old new
         × PageStandsInScratch new.memory new.tape port.0 o since }
     ensures loaded { (uses : SlotStates) (m : Machine) (port : ℕ) (o : Operation) (since : ℕ) (bytes : List ℕ)
         (old new : Device)
@@ -152,7 +153,7 @@ pub fn law_device_spares_frames()
 
 /// While no reset is pending, a healthy port on which nothing goes wrong stays healthy, whatever else the device does,
 /// over readings, and over writes that neither clear ST nor write SCTL. There is one.
-pub fn law_running_well_stays()
+pub fn law_running_well_stays_if_undisturbed()
     ensures steps { (port : ℕ) (old new : Device) → old.hr ≡ false → Steps old new → Undisturbed port old new
         → RunsWell (old.port port) → RunsWell (new.port port) }
     ensures reads { (port : ℕ) (r : Reg) (v : ℕ) (old new : Device) → old.hr ≡ false → Reads r v old new
@@ -225,20 +226,21 @@ pub fn law_errors_are_shown()
 /// each access that doesn't set ST. So it is where no device shows. While no reset is pending, a link that is up stays
 /// so, too, but for a write of PxSCTL, where no disk goes or comes; and whether the engine stands or runs, where the
 /// tape tells of no disturbance of the port.
-pub fn law_link_comes_up()
+pub fn law_shown_link_is_up_for_start()
     ensures comreset { (port : Port) (v : ℕ) (old new : Device) → (old.port port.0).cr ≡ false → v % 16 ≡ 1
-        → Writes (Px port Sctl) v old new → IsComingUp (new.port port.0) }
+        → Writes (Px port Sctl) v old new → IsStoppedAndUpForStartIfShown (new.port port.0) }
     ensures reset { (v : ℕ) (old new : Device) → old.hr ≡ true → Reads Ghc v old new → bit v 0 ≡ false
-        → (port : ℕ) → NoDiskComes port old new → IsComingUp (new.port port) }
-    ensures unlinked { (p : DevicePort) → p.cr ≡ false → p.ssts_det ≢ 3 → IsComingUp p }
+        → (port : ℕ) → NoDiskComes port old new → IsStoppedAndUpForStartIfShown (new.port port) }
+    ensures unlinked { (p : DevicePort) → p.cr ≡ false → p.ssts_det ≢ 3 → IsStoppedAndUpForStartIfShown p }
     ensures steps { (port : ℕ) (old new : Device) → NoDiskComes port old new → Steps old new
-        → IsComingUp (old.port port)
-        → IsComingUp (new.port port) }
+        → IsStoppedAndUpForStartIfShown (old.port port)
+        → IsStoppedAndUpForStartIfShown (new.port port) }
     ensures access { (port : Port) (access : Access) (old new : Device) → SetsNoStart port access → Does access old new
-        → NoDiskComes port.0 old new → IsComingUp (old.port port.0) → IsComingUp (new.port port.0) }
+        → NoDiskComes port.0 old new → IsStoppedAndUpForStartIfShown (old.port port.0)
+        → IsStoppedAndUpForStartIfShown (new.port port.0) }
     ensures found { (port : Port) (v : ℕ) (old new : Device) → NoDiskComes port.0 old new
         → Reads (Px port Ssts) v old new
-        → v % 16 ≡ 3 → IsComingUp (old.port port.0) → IsUpForStart (new.port port.0) }
+        → v % 16 ≡ 3 → IsStoppedAndUpForStartIfShown (old.port port.0) → IsUpForStart (new.port port.0) }
     ensures stays { (port : ℕ) (old new : Device) → old.hr ≡ false → (old.port port).cr ≡ false
         → NoPlugEvents port old new
         → Steps old new → IsUpForStart (old.port port) → IsUpForStart (new.port port) }
@@ -298,7 +300,7 @@ pub fn law_a_boot_runs_well()
 /// access. So where none is set, none is then. Those of PxIS rise with their own errors alone, whatever the link does,
 /// and also where a reset is pending or ends: 27 to 29 only where the tape tells of a fatal error of the port, and 30
 /// only where it tells of a fault of it.
-pub fn law_cleared_stays()
+pub fn law_clear_error_bits_stay_clear()
     ensures steps { (port : ℕ) (old new : Device) → old.hr ≡ false → (old.port port).link_due ≡ false
         → Undisturbed port old new → Steps old new → ErrorBitsStayClear (old.port port) (new.port port) }
     ensures access { (port : Port) (access : Access) (old new : Device) → old.hr ≡ false
@@ -324,7 +326,7 @@ pub fn law_tape_absence_composes()
 
 /// Where nothing goes wrong with a port, the tape tells of no disk that goes or comes, of no fatal error and of no
 /// fault; and where none goes or comes, none comes.
-pub fn law_undisturbed_ports_tell_nothing()
+pub fn law_undisturbed_has_no_error_or_plug()
     ensures plugs { (port : ℕ) (old new : Device) → Undisturbed port old new → NoPlugEvents port old new }
     ensures comes { (port : ℕ) (old new : Device) → NoPlugEvents port old new → NoDiskComes port old new }
     ensures fatal { (port : ℕ) (old new : Device) → Undisturbed port old new → NoFatalErrors port old new }
@@ -355,7 +357,7 @@ pub fn law_writing_ghc_switches_on()
 
 /// A load is steps of the device, and a store is such steps with memory changed after them: so what holds of ports and
 /// of the tape over the device's steps holds over loads and stores.
-pub fn law_loads_and_stores_leave_ports()
+pub fn law_loads_and_stores_change_ports_by_steps()
     ensures load { (at : ℕ) (bytes : List ℕ) (old new : Device) → Loads at bytes old new → Steps old new }
     ensures store { (at : ℕ) (bytes : List ℕ) (old new : Device) → Stores at bytes old new
         → (mid : Device) × Steps old mid × ((port : ℕ) → new.port port ≡ mid.port port) × (new.tape ≡ mid.tape)
@@ -367,7 +369,7 @@ pub fn law_loads_and_stores_leave_ports()
 /// written; PxIE; and the addresses.
 pub fn law_controls_stay()
     ensures { (port : Port) (access : Access) (old new : Device) → old.hr ≡ false → Does access old new
-        → LeavesControls access port (old.port port.0) (new.port port.0) }
+        → ControlsChangeOnlyByTheirWrites access port (old.port port.0) (new.port port.0) }
 {
     law_prerequisites();
 }
@@ -415,7 +417,7 @@ pub fn law_plug_events_are_found()
 
 /// Where the tape tells of no disk of the port that goes or comes, the same disk is in, or out, whatever else the
 /// device does, also over a reset of the adapter that ends, and over each access.
-pub fn law_disk_stays()
+pub fn law_disk_stays_without_plug_events()
     ensures steps { (port : ℕ) (old new : Device) → Steps old new → NoPlugEvents port old new
         → KeepsDisk (old.port port) (new.port port) }
     ensures access { (port : ℕ) (access : Access) (old new : Device) → Does access old new → NoPlugEvents port old new
@@ -426,7 +428,7 @@ pub fn law_disk_stays()
 
 /// Where the tape tells of no disk of the port that goes or comes, and no reset is pending, the port's link stays as it
 /// was, or one that was due has come up: whatever else the device does, and over each access but a write of PxSCTL.
-pub fn law_link_stays()
+pub fn law_link_is_same_or_comes_up_without_plugs()
     ensures steps { (port : ℕ) (old new : Device) → old.hr ≡ false → Steps old new → NoPlugEvents port old new
         → LinkIsSameOrComesUp (old.port port) (new.port port) }
     ensures access { (port : Port) (access : Access) (old new : Device) → old.hr ≡ false
@@ -459,15 +461,16 @@ pub fn law_faults_are_recorded()
     ensures reads { (port : ℕ) (r : Reg) (v : ℕ) (old new : Device) → Reads r v old new
         → RecordsFaultsIfSt old.tape (old.port port) port → RecordsFaultsIfSt new.tape (new.port port) port }
     ensures writes { (port : ℕ) (r : Reg) (v : ℕ) (old new : Device) → IsStable (MayWrite r v) old
-        → IsStable (KeepsFaultRecord r v) old → Writes r v old new → RecordsFaultsIfSt old.tape (old.port port) port
+        → IsStable (StartsCleanAndWritesSctlStopped r v) old → Writes r v old new
+        → RecordsFaultsIfSt old.tape (old.port port) port
         → RecordsFaultsIfSt new.tape (new.port port) port }
     ensures issues { (port : ℕ) (at : Port) (v : ℕ) (old new : Device) → Writes (Px at Ci) v old new
         → RecordsFaultsIfSt old.tape (old.port port) port → RecordsFaultsIfSt new.tape (new.port port) port }
     ensures access { (port : Port) (access : Access) (old new : Device) → DoesNotWrite (Px port Cmd) access
         → DoesNotWrite (Px port Sctl) access → Does access old new → RecordsFaultsIfSt old.tape (old.port port.0) port.0
         → RecordsFaultsIfSt new.tape (new.port port.0) port.0 }
-    ensures asked { (r : Reg) (v : ℕ) (d : Device) → d.hr ≡ false → KeepsFaultRecord r v d
-        → IsStable (KeepsFaultRecord r v) d }
+    ensures asked { (r : Reg) (v : ℕ) (d : Device) → d.hr ≡ false → StartsCleanAndWritesSctlStopped r v d
+        → IsStable (StartsCleanAndWritesSctlStopped r v) d }
     ensures idle { (tape : List Entry) (p : DevicePort) (port : ℕ) → p.st ≡ false → RecordsFaultsIfSt tape p port }
     ensures runs { RecordsFaults first_read_device.tape (first_read_device.port 0) 0 }
     ensures failed { (new : Device) × Steps first_read_device new × ((new.port 0).halt ≡ HaltedPlain)
@@ -480,19 +483,20 @@ pub fn law_faults_are_recorded()
 /// where no link is due and PxSCTL.DET isn't 1, as on a port that runs.
 pub fn law_link_is_awaited()
     ensures begins { (port : Port) (v : ℕ) (old new : Device) → (old.port port.0).cr ≡ false → v % 16 ≡ 1
-        → Writes (Px port Sctl) v old new → StoppedWithDrqTillLink (new.port port.0) }
-    ensures steps { StaysOverSteps StoppedWithDrqTillLink }
-    ensures reads { StaysOverReadings StoppedWithDrqTillLink }
+        → Writes (Px port Sctl) v old new → IsStoppedWithDrqWhileLinkAwaited (new.port port.0) }
+    ensures steps { StaysOverSteps IsStoppedWithDrqWhileLinkAwaited }
+    ensures reads { StaysOverReadings IsStoppedWithDrqWhileLinkAwaited }
     ensures writes { (port : ℕ) (r : Reg) (v : ℕ) (old new : Device) → IsStable (MayWrite r v) old
-        → IsStable (KeepsFaultRecord r v) old → Writes r v old new → StoppedWithDrqTillLink (old.port port)
-        → StoppedWithDrqTillLink (new.port port) }
+        → IsStable (StartsCleanAndWritesSctlStopped r v) old → Writes r v old new
+        → IsStoppedWithDrqWhileLinkAwaited (old.port port)
+        → IsStoppedWithDrqWhileLinkAwaited (new.port port) }
     ensures access { (port : Port) (access : Access) (old new : Device) → DoesNotWrite (Px port Cmd) access
-        → DoesNotWrite (Px port Sctl) access → Does access old new → StoppedWithDrqTillLink (old.port port.0)
-        → StoppedWithDrqTillLink (new.port port.0) }
+        → DoesNotWrite (Px port Sctl) access → Does access old new → IsStoppedWithDrqWhileLinkAwaited (old.port port.0)
+        → IsStoppedWithDrqWhileLinkAwaited (new.port port.0) }
     ensures reset { (v : ℕ) (old new : Device) → old.hr ≡ true → Reads Ghc v old new → bit v 0 ≡ false
-        → (port : ℕ) → StoppedWithDrqTillLink (new.port port) }
-    ensures undue { (p : DevicePort) → p.link_due ≡ false → p.sctl_det ≢ 1 → StoppedWithDrqTillLink p }
-    ensures runs { StoppedWithDrqTillLink (first_read_device.port 0) }
+        → (port : ℕ) → IsStoppedWithDrqWhileLinkAwaited (new.port port) }
+    ensures undue { (p : DevicePort) → p.link_due ≡ false → p.sctl_det ≢ 1 → IsStoppedWithDrqWhileLinkAwaited p }
+    ensures runs { IsStoppedWithDrqWhileLinkAwaited (first_read_device.port 0) }
 {
     law_prerequisites();
 }
@@ -502,13 +506,13 @@ pub fn law_link_is_awaited()
 /// neither set its ST nor send COMRESET on it.
 pub fn law_clean_to_start_is_found()
     ensures cleared { (port : Port) (v : ℕ) (old new : Device) → (old.port port.0).cr ≡ false → bit v 30 ≡ true
-        → Writes (Px port Is) v old new → StoppedTfesClear (new.port port.0) }
-    ensures steps { StaysOverSteps StoppedTfesClear }
-    ensures reads { StaysOverReadings StoppedTfesClear }
+        → Writes (Px port Is) v old new → CrAndTfesAreClear (new.port port.0) }
+    ensures steps { StaysOverSteps CrAndTfesAreClear }
+    ensures reads { StaysOverReadings CrAndTfesAreClear }
     ensures writes { (port : Port) (r : Reg) (v : ℕ) (old new : Device) → (r ≡ Px port Cmd → bit v 0 ≡ false)
-        → Writes r v old new → StoppedTfesClear (old.port port.0) → StoppedTfesClear (new.port port.0) }
-    ensures found { (port : Port) (v : ℕ) (old new : Device) → StoppedWithDrqTillLink (old.port port.0)
-        → StoppedTfesClear (old.port port.0) → Reads (Px port Tfd) v old new → bit v 3 ≡ false
+        → Writes r v old new → CrAndTfesAreClear (old.port port.0) → CrAndTfesAreClear (new.port port.0) }
+    ensures found { (port : Port) (v : ℕ) (old new : Device) → IsStoppedWithDrqWhileLinkAwaited (old.port port.0)
+        → CrAndTfesAreClear (old.port port.0) → Reads (Px port Tfd) v old new → bit v 3 ≡ false
         → IsCleanToStart (new.port port.0) }
     ensures stays { StaysOverSteps IsCleanToStart }
     ensures stays_read { StaysOverReadings IsCleanToStart }
@@ -553,7 +557,7 @@ pub fn law_fault_is_found()
 /// that is: whatever the device does, and over each access.
 pub fn law_errors_are_kept()
     ensures steps { (port : ℕ) (old new : Device) → old.hr ≡ false → Steps old new
-        → KeepsErrors (old.port port) (new.port port) }
+        → KeepsSetBitsOfPxisAndSerrNX (old.port port) (new.port port) }
     ensures causes { (port : Port) (access : Access) (old new : Device) → old.hr ≡ false
         → DoesNotWrite (Px port Is) access → Does access old new → (place : ℕ) → (old.port port.0).is place ≡ true
         → (new.port port.0).is place ≡ true }
@@ -569,7 +573,7 @@ pub fn law_errors_are_kept()
 /// X only for one that comes; and where PxSSTS.DET is 3 and no disk has come, it was 3 before, and none has gone:
 /// whatever the device does, and over each access, and over one fragment after another. No link is due then either, but
 /// after a write of PxSCTL.
-pub fn law_errors_rise_by_disks()
+pub fn law_link_errors_rise_by_disks()
     ensures steps { (port : ℕ) (old new : Device) → old.hr ≡ false → (old.port port).link_due ≡ false → Steps old new
         → LinkErrorsRiseByDisks port old new }
     ensures access { (port : Port) (access : Access) (old new : Device) → old.hr ≡ false
@@ -580,7 +584,7 @@ pub fn law_errors_rise_by_disks()
         → LinkErrorsRiseByDisks port mid new → LinkErrorsRiseByDisks port old new }
     ensures due { (port : ℕ) (old new : Device) → old.hr ≡ false → (old.port port).link_due ≡ false → Steps old new
         → (new.port port).link_due ≡ false }
-    ensures due_access { (port : Port) (access : Access) (old new : Device) → old.hr ≡ false
+    ensures no_link_becomes_due_over_access { (port : Port) (access : Access) (old new : Device) → old.hr ≡ false
         → (old.port port.0).link_due ≡ false → DoesNotWrite (Px port Sctl) access → Does access old new
         → (new.port port.0).link_due ≡ false }
 {
@@ -648,7 +652,7 @@ pub fn law_notes_are_set()
 pub fn law_notes_stay()
     ensures steps { (port : ℕ) (old new : Device) → Steps old new → (new.port port).notes ≡ (old.port port).notes }
     ensures access { (port : Port) (access : Access) (old new : Device) → Does access old new
-        → LeavesNotes access port (old.port port.0).notes (new.port port.0).notes }
+        → ReadingNotesChangeByReadOrSctlWriteOnly access port (old.port port.0).notes (new.port port.0).notes }
 {
     law_prerequisites();
 }

@@ -4,8 +4,8 @@ ghost use Rattle.ata_types.specs.declared.Port.{Port};
 ghost use Rattle.hba_regs.specs.{Bits.{bit}, declared.reg.Reg.TheVariants.{Px}, declared.reg.PortReg.TheVariants.{Clb, Sact, Ci}};
 ghost use Rattle.adapter.specs.{Access.{Writes, Access, Does, device_after_write}, Access.Access.{Storing, Writing}, Commands.{Meaning, is_queued}, Device.{Device}, Rules.{IsOn, HasPort, MayWrite, IsStable}, Steps.{Steps}};
 ghost use Rattle.block_machine.specs.{DueRequests.{is_plain}, Histories.{IsReachable}, State.{Pending, Machine}, Steps.{Issue, IsEnabled}, declared.due.QueueMode.{QueueMode}};
-ghost use Rattle.refinement.specs.{Acts.{Act, AreActsDone, accesses_of}, Relation.{StateRelation}, Fragments.{IsSoleBit}, Driver.{IsPrepared, DriverState, DriverAdvances, DriverRelation, MissesHeaderAndTable, with_slot_serving}, PreservedParts.{DoesNotWrite}, Slots.{Free, Armed, SlotStates, set_slot_state, MeansRequest, HasBlockIfTrim}, StartedPort.{ClearsNoStart}};
-ghost use Rattle.refinement.specs.ReadySlots.{IsStored, IsReadied, IsReadyToIssue, KeepsStoredCommand};
+ghost use Rattle.refinement.specs.{Acts.{Act, AreActsDone, accesses_of}, Relation.{StateRelation}, Fragments.{IsSoleBit}, Driver.{IsPrepared, DriverState, DriverAdvances, DriverRelation, MissesTableAndHeaderButPrdbc, with_slot_serving}, PreservedParts.{DoesNotWrite}, Slots.{Free, Armed, SlotStates, set_slot_state, MeansRequest, HasBlockIfTrim}, StartedPort.{ClearsNoStart}};
+ghost use Rattle.refinement.specs.ReadySlots.{IsStoredOnPortWithStSet, IsReadied, IsReadyToIssue, KeepsStoredCommand};
 
 use super::prerequisites::law_prerequisites;
 
@@ -14,21 +14,24 @@ use super::prerequisites::law_prerequisites;
 /// is asked for, but one that agrees.
 pub fn law_stored_stays()
     ensures steps { (uses : SlotStates) (m : Machine) (port slot : ℕ) (c : Meaning) (places : List ℕ) (old new : Device)
-        → IsReachable m → StateRelation uses m old → old.hr ≡ false → Steps old new → IsStored old port slot c places
-        → IsStored new port slot c places }
+        → IsReachable m → StateRelation uses m old → old.hr ≡ false → Steps old new
+        → IsStoredOnPortWithStSet old port slot c places
+        → IsStoredOnPortWithStSet new port slot c places }
     ensures access { (uses : SlotStates) (m : Machine) (port : Port) (slot : ℕ) (c : Meaning) (places : List ℕ)
         (access : Access)
         (old new : Device) → IsReachable m → StateRelation uses m old → old.hr ≡ false → ClearsNoStart port access
         → DoesNotWrite (Px port Clb) access
-        → ((at : ℕ) (bytes : List ℕ) → access ≡ Storing at bytes → MissesHeaderAndTable port.0 slot at (length bytes))
-        → Does access old new → IsStored old port.0 slot c places → IsStored new port.0 slot c places }
+        → ((at : ℕ) (bytes : List ℕ) → access ≡ Storing at bytes
+        → MissesTableAndHeaderButPrdbc port.0 slot at (length bytes))
+        → Does access old new → IsStoredOnPortWithStSet old port.0 slot c places
+        → IsStoredOnPortWithStSet new port.0 slot c places }
 {
     law_prerequisites();
 }
 
 /// Bits of PxCI of slots that are readied may be written, whatever the device does first. With a request that is due
 /// and that the command means, the slot is prepared; and a slot that is prepared is readied.
-pub fn law_readied_is_issued()
+pub fn law_readied_may_be_issued()
     ensures permitted { (uses : SlotStates) (m : Machine) (d : Device) (port : Port) (v : ℕ)
         → IsReachable m → StateRelation uses m d → IsOn d → HasPort d port.0 → (d.port port.0).st ≡ true
         → ((slot : ℕ) → bit v slot ≡ true → IsReadyToIssue uses d port.0 slot) → IsStable (MayWrite (Px port Ci) v) d }
@@ -72,7 +75,8 @@ pub fn law_stored_stays_over_acts()
         (m : Machine)
         → IsReachable m → DriverRelation m k → AreActsDone acts k m later
         → All (KeepsStoredCommand port slot) (accesses_of acts)
-        → IsOn k.device → IsStored k.device port.0 slot c places → IsStored later.device port.0 slot c places }
+        → IsOn k.device → IsStoredOnPortWithStSet k.device port.0 slot c places
+        → IsStoredOnPortWithStSet later.device port.0 slot c places }
 {
     law_prerequisites();
 }

@@ -6,7 +6,7 @@ ghost use Rattle.hba_regs.specs.{Bits.{bit}, declared.reg.Reg.TheVariants.{Px}, 
 ghost use Rattle.adapter.specs.{Access.{Reads, Writes, Access, Does}, Device.{DevicePort, Device}, Device.Halt.{NotHalted}, Steps.{Steps}, declared.command.Operation.{Operation}};
 ghost use Rattle.block_machine.specs.{Histories.{IsReachable}, State.{Machine}};
 ghost use Rattle.refinement.specs.{Relation.{StateRelation}, Acts.{Act, AreActsDone, accesses_of}, Driver.{IsOwnPrepared, DriverState, DriverRelation}, Errors.{NoFatalErrors}, PortFacts.{RunsWell, PxisValueTellsNoTrouble, IsCleanToStart}, PreservedParts.{DoesNotWrite, NoPlugEvents}, Slots.{SlotState, SlotStates, Free, Own, set_slot_state}, Staying.{StaysInAgreement, StaysUnlessWritten}};
-ghost use Rattle.refinement.specs.{StartedPort.{IsUpForStart, IsStarted, ClearsNoStart}, Halting.{HaltIsOfTaken, HaltOfTakenIfSt}, HaltRecovery.{IsLinked, WorksPlainly, RunsLinked, OwnCommandEndsHalt, FaultLeavesIssued}};
+ghost use Rattle.refinement.specs.{StartedPort.{IsUpForStart, IsStarted, ClearsNoStart}, Halting.{HaltIsOfTaken, HaltOfTakenIfSt}, HaltRecovery.{IsLinked, WorksOnUnqueuedCommandsOnly, RunsLinked, PlainSlot0IsIssuedOrNotHalted, FaultLeavesIssued}};
 
 use super::prerequisites::law_prerequisites;
 
@@ -30,14 +30,16 @@ pub fn law_link_stays_online()
 /// once ST is set. A port that runs without a halt does so exactly if no bit of PxSACT is set. And then the link is up
 /// for a start.
 pub fn law_plain_work_stays()
-    ensures steps { StaysInAgreement WorksPlainly }
-    ensures access { StaysUnlessWritten Sact WorksPlainly }
+    ensures steps { StaysInAgreement WorksOnUnqueuedCommandsOnly }
+    ensures access { StaysUnlessWritten Sact WorksOnUnqueuedCommandsOnly }
     ensures runs { (uses : SlotStates) (m : Machine) (port : ℕ) (d : Device) → StateRelation uses m d
         → (d.port port).st ≡ true
-        → (d.port port).halt ≡ NotHalted → ((slot : ℕ) → (d.port port).sact slot ≡ false) → WorksPlainly (d.port port) }
-    ensures link_is_up_for_start { (p : DevicePort) → IsLinked p → WorksPlainly p → IsUpForStart p }
+        → (d.port port).halt ≡ NotHalted → ((slot : ℕ) → (d.port port).sact slot ≡ false)
+        → WorksOnUnqueuedCommandsOnly (d.port port) }
+    ensures link_is_up_for_start { (p : DevicePort) → IsLinked p → WorksOnUnqueuedCommandsOnly p → IsUpForStart p }
     ensures found { (port : Port) (v causes : ℕ) (old mid new : Device) → old.hr ≡ false → (old.port port.0).st ≡ false
-        → (old.port port.0).cr ≡ false → bit v 0 ≡ true → IsLinked (old.port port.0) → WorksPlainly (old.port port.0)
+        → (old.port port.0).cr ≡ false → bit v 0 ≡ true → IsLinked (old.port port.0)
+        → WorksOnUnqueuedCommandsOnly (old.port port.0)
         → Writes (Px port Cmd) v old mid → Reads (Px port Is) causes mid new → PxisValueTellsNoTrouble causes
         → RunsWell (new.port port.0) }
 {
@@ -55,7 +57,7 @@ pub fn law_halts_are_of_taken_commands()
         → AreActsDone acts k m later → All (DoesNotWrite (Px port Cmd)) (accesses_of acts)
         → HaltOfTakenIfSt (k.device.port port.0) → HaltOfTakenIfSt (later.device.port port.0) }
     ensures without_halt { (p : DevicePort) → p.halt ≡ NotHalted → HaltIsOfTaken p }
-    ensures plain { (p : DevicePort) → WorksPlainly p → HaltIsOfTaken p }
+    ensures plain { (p : DevicePort) → WorksOnUnqueuedCommandsOnly p → HaltIsOfTaken p }
 {
     law_prerequisites();
 }
@@ -87,21 +89,23 @@ pub fn law_halt_is_ended()
         → IsReachable m
         → StateRelation uses m old → old.hr ≡ false → ((slot : ℕ) → slot ≢ 0 → uses port.0 slot ≡ Free)
         → IsOwnPrepared uses old port.0 o v → Writes (Px port Ci) v old new
-        → OwnCommandEndsHalt (set_slot_state uses port.0 0 (Own o)) port.0 new }
+        → PlainSlot0IsIssuedOrNotHalted (set_slot_state uses port.0 0 (Own o)) port.0 new }
     ensures steps { (uses : SlotStates) (m : Machine) (port : ℕ) (old new : Device) → IsReachable m
         → StateRelation uses m old
-        → Steps old new → OwnCommandEndsHalt uses port old → OwnCommandEndsHalt uses port new }
+        → Steps old new → PlainSlot0IsIssuedOrNotHalted uses port old → PlainSlot0IsIssuedOrNotHalted uses port new }
     ensures access { (uses : SlotStates) (m : Machine) (port : Port) (access : Access) (old new : Device)
         → IsReachable m
         → StateRelation uses m old → ClearsNoStart port access → DoesNotWrite (Px port Sact) access → new.hr ≡ false
-        → Does access old new → OwnCommandEndsHalt uses port.0 old → OwnCommandEndsHalt uses port.0 new }
+        → Does access old new → PlainSlot0IsIssuedOrNotHalted uses port.0 old
+        → PlainSlot0IsIssuedOrNotHalted uses port.0 new }
     ensures no_halt_once_over { (uses : SlotStates) (m : Machine) (port : Port) (v : ℕ) (old new : Device)
         → IsReachable m
-        → StateRelation uses m old → OwnCommandEndsHalt uses port.0 old → Reads (Px port Ci) v old new → bit v 0 ≡ false
+        → StateRelation uses m old → PlainSlot0IsIssuedOrNotHalted uses port.0 old → Reads (Px port Ci) v old new
+        → bit v 0 ≡ false
         → (new.port port.0).halt ≡ NotHalted }
     ensures found { (uses : SlotStates) (m : Machine) (port : Port) (v causes : ℕ) (old mid new : Device)
         → IsReachable m
-        → StateRelation uses m old → OwnCommandEndsHalt uses port.0 old → RunsLinked (old.port port.0)
+        → StateRelation uses m old → PlainSlot0IsIssuedOrNotHalted uses port.0 old → RunsLinked (old.port port.0)
         → Reads (Px port Ci) v old mid
         → bit v 0 ≡ false → Reads (Px port Is) causes mid new → PxisValueTellsNoTrouble causes
         → RunsWell (new.port port.0) }

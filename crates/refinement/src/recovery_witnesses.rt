@@ -3,7 +3,7 @@
 ghost use Rattle.std.specs.Prelude.{ℕ, true, false, ◌≡◌, Some};
 ghost use Rattle.adapter.specs.{Commands.{is_queued}, Device.{FetchedCommand, Device}, Device.Halt.{NotHalted, HaltedPlain, HaltedQueued}, FirstRead.{first_read_device}, Steps.{Steps, halt_after_start}};
 ghost use Rattle.block_machine.specs.{Histories.{IsReachable}, State.{Machine}};
-ghost use Rattle.refinement.specs.{Relation.{StateRelation}, Slots.{SlotStates}, HaltRecovery.{WorksPlainly}, LogWitness.{LogEndsHaltWitness}, RecoveryWitness.{FaultIsSeen, RecoveredWitness}, TwoReadsWitness.{two_issued}};
+ghost use Rattle.refinement.specs.{Relation.{StateRelation}, Slots.{SlotStates}, HaltRecovery.{WorksOnUnqueuedCommandsOnly}, LogWitness.{LogEndsHaltWitness}, RecoveryWitness.{CommandMayHaveFailedBySstsRead, RecoveredWitness}, TwoReadsWitness.{two_issued}};
 
 use super::prerequisites::law_prerequisites;
 
@@ -16,9 +16,9 @@ pub fn law_a_fault_is_recovered()
 
 /// There are ports that fail, as their driver looks at them: they are there for a recovery to be asked for. On the one
 /// a plain read has failed, and on the other a queued one, in slot 1, while another waits.
-pub fn law_a_fault_is_seen()
-    ensures plain { FaultIsSeen first_read_device 0 HaltedPlain }
-    ensures queued { FaultIsSeen two_issued 1 HaltedQueued }
+pub fn law_a_command_may_have_failed()
+    ensures plain { CommandMayHaveFailedBySstsRead first_read_device 0 HaltedPlain }
+    ensures queued { CommandMayHaveFailedBySstsRead two_issued 1 HaltedQueued }
 {}
 
 /// There is a port that takes READ LOG EXT alone, as after a queued fault, with that command prepared: it is issued and
@@ -45,8 +45,8 @@ pub fn law_plain_work_needs_its_premises()
         → Steps old new → halt_after_start (old.port port).halt ≡ NotHalted
         → ((slot : ℕ) → (old.port port).sact slot ≡ false)
         → halt_after_start (new.port port).halt ≡ NotHalted) → ⊥ }
-    ensures agreed { ((port : ℕ) (old new : Device) → Steps old new → WorksPlainly (old.port port)
-        → WorksPlainly (new.port port)) → ⊥ }
+    ensures agreed { ((port : ℕ) (old new : Device) → Steps old new → WorksOnUnqueuedCommandsOnly (old.port port)
+        → WorksOnUnqueuedCommandsOnly (new.port port)) → ⊥ }
 {
     law_prerequisites();
 }

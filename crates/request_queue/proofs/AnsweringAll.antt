@@ -201,16 +201,16 @@ module _ (passes : PendingRequest → Bool) (o : Outcome) (back : (e : PendingRe
   stand : All (HasItsFrames old.table) es
   stand = All-filter (λ (e : BookEntry). passes e.request) (HasItsFrames old.table) old.book (λ i d small. (accepted i d small).frames_are_lent)
 
-  pub at_once : (replies : List Reply) (new : BookAndLoans) → AreResolved (λ e. Complete o) es replies old new → CompletesAllWith passes o replies old new
-  at_once replies new meets =
+  pub one_by_one_is_at_once : (replies : List Reply) (new : BookAndLoans) → AreResolved (λ e. Complete o) es replies old new → CompletesAllWith passes o replies old new
+  one_by_one_is_at_once replies new meets =
       let m = all_met o back es replies old new ordered stand meets in
       record { replies_are_of_passing = m.told; others_stay_in_book = m.left ∙ left_over passes old.book order.ids_rise; loans_are_given_back = m.given; kept_is_same = m.kept }
 
-  pub one_by_one : (replies : List Reply) (new : BookAndLoans) → CompletesAllWith passes o replies old new
+  pub at_once_is_one_by_one : (replies : List Reply) (new : BookAndLoans) → CompletesAllWith passes o replies old new
       → (now : BookAndLoans) × AreResolved (λ e. Complete o) es replies old now × (now.book ≡ new.book) × (now.kept ≡ new.kept) × SetsLoanOnly now.table new.table [] None
-  one_by_one replies new answers =
+  at_once_is_one_by_one replies new answers =
       let r = may_come o back es old in
-      let m = at_once (replies_to o back es) r.0 r.1 in (
+      let m = one_by_one_is_at_once (replies_to o back es) r.0 r.1 in (
         r.0,
         subst (λ (list : List Reply). AreResolved (λ e. Complete o) es list old r.0) (sym answers.replies_are_of_passing) r.1,
         m.others_stay_in_book ∙ sym answers.others_stay_in_book,

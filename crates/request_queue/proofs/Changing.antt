@@ -13,7 +13,7 @@ use Rattle.ata_types.specs.declared.request.ClientId.{ClientId}
 use Rattle.ata_types.specs.declared.request.RequestId.{RequestId}
 use Rattle.block_machine.specs.declared.due.Unanswered.{Unanswered}
 use Rattle.block_machine.specs.DueRequests as machine
-use Rattle.request_queue.specs.BookEntries.{BookEntry, as_unanswered, unanswered_of, has_id, update_if_id, without_entry, issued_request, requeued_request, aged_request, revoked_under_grant, entry_count_of_client, IsEarlier, BookIsWellFormed, IssuesAreWithinLimit, IsNewlyAccepted}
+use Rattle.request_queue.specs.BookEntries.{BookEntry, as_unanswered, unanswered_of, has_id, update_if_id, without_entry, issued_request, requeued_request, aged_request, with_revoked_mark_if_under_grant, entry_count_of_client, IsEarlier, BookIsWellFormed, IssuesAreWithinLimit, IsNewlyAccepted}
 use Rattle.request_queue.specs.declared.PendingRequest.{PendingRequest}
 use Rattle.request_queue.proofs.Members.{count_cons, count_append, count_map, contains_here, contains_there, contains_cases}
 use Rattle.block_machine.specs.Rules.{is_same_grant_name}
@@ -238,7 +238,7 @@ pub older_spares : (ports : Port → Bool) (r : PendingRequest) → Spares r (ag
 older_spares ports r = either_way (Spares r) (r.issued && ports r.port) (record r { age = min (suc r.age) 3 }) r
     (record { asked = refl; client = refl; issues = refl }) (record { asked = refl; client = refl; issues = refl })
 
-pub revoked_spares : (client : ClientId) (grant : ℕ) (r : PendingRequest) → Spares r (revoked_under_grant client grant r)
+pub revoked_spares : (client : ClientId) (grant : ℕ) (r : PendingRequest) → Spares r (with_revoked_mark_if_under_grant client grant r)
 revoked_spares client grant r = either_way (Spares r) (is_same_grant_name client grant r.client r.grant) (record r { revoked = true }) r
     (record { asked = refl; client = refl; issues = refl }) (record { asked = refl; client = refl; issues = refl })
 

@@ -14,7 +14,7 @@ use Rattle.block_machine.specs.DueRequests.{IsInOrder, are_conflicting, is_earli
 use Rattle.request_queue.specs.declared.ranges.RequestRange.{RequestRange}
 use Rattle.request_queue.specs.BookRanges.{is_earlier_conflict}
 use Rattle.request_queue.specs.BookEntries.{BookEntry, as_unanswered, unanswered_of, issued_request, requeued_request}
-use Rattle.request_queue.specs.Flushes.{listed_flush, flushes_among, is_earlier_flush}
+use Rattle.request_queue.specs.Flushes.{listed_flush, flushes_among, comes_after_flush}
 use Rattle.request_queue.specs.declared.flushes.Flush.{Flush}
 use Rattle.request_queue.specs.Blockers.{AreBlockers, AreBlockersExceptOf, IsBlockerOf, has_blocker, is_blocked_by, may_be_blocked, may_block}
 use Rattle.request_queue.specs.Sectors.{AreIndexed, AreItemsOfList, item_of, list_number_of_port}
@@ -36,7 +36,7 @@ module _ (book : List Unanswered) (lists : List (List RequestRange)) (is : AreIn
   no_flush_itself : is_flush r.op ≡ false
   no_flush_itself = no_flush r.op (and_parts (not r.issued) _ may).1
 
-  none_found : list_any (is_earlier_conflict (item_of r)) items ≡ false → list_any (is_earlier_flush r) flushes ≡ false → has_blocker book r ≡ false
+  none_found : list_any (is_earlier_conflict (item_of r)) items ≡ false → list_any (comes_after_flush r) flushes ≡ false → has_blocker book r ≡ false
   none_found none empty_flushes = false_from_ne_true _ (λ held.
       let o = one_found (may_block r) book (and_parts (may_be_blocked r) _ held).1 in
       let parts = and_parts (is_earlier_on_port o.0 r) _ o.2 in
@@ -53,7 +53,7 @@ module _ (book : List Unanswered) (lists : List (List RequestRange)) (is : AreIn
           (or_cases (is_flush o.op || is_flush r.op) _ meets)
 
       by : (o : Unanswered) → Contains book o → is_earlier_on_port o r ≡ true → are_conflicting o r ≡ true → (b : Bool) → is_flush o.op ≡ b → ⊥
-      by o there earlier meets true flush = both_ways _ empty_flushes (found (is_earlier_flush r) flushes (listed_flush o)
+      by o there earlier meets true flush = both_ways _ empty_flushes (found (comes_after_flush r) flushes (listed_flush o)
           (subst (λ (fs : List Flush). Contains fs (listed_flush o)) (sym are_flushes) (in_flushes book o there flush)) earlier)
       by o there earlier meets false other =
           let early = and_parts (o.port.0 == r.port.0) _ earlier in
@@ -73,18 +73,18 @@ module _ (book : List Unanswered) (lists : List (List RequestRange)) (is : AreIn
         (o, h.1, ap (λ (i : RequestRange). i.id) h.4, and_from _ _ (and_from _ _ one.0 two.0) (and_from _ _ one.0 (or_right (is_flush o.op || is_flush r.op) _ two.1))),
       )
 
-  flush_holds : (f : Flush) → Contains flushes f → is_earlier_flush r f ≡ true → IsBlockerOf book r (Some f.id)
+  flush_holds : (f : Flush) → Contains flushes f → comes_after_flush r f ≡ true → IsBlockerOf book r (Some f.id)
   flush_holds f there early =
       let h = of_flushes book f (subst (λ (fs : List Flush). Contains fs f) are_flushes there) in
       let o = h.0 in
-      let earlier : is_earlier_on_port o r ≡ true = ap (is_earlier_flush r) h.3 ∙ early in (
+      let earlier : is_earlier_on_port o r ≡ true = ap (comes_after_flush r) h.3 ∙ early in (
         may,
         (o, h.1, ap (λ (g : Flush). g.id) h.3, and_from _ _ earlier (and_from _ _ (and_parts (o.port.0 == r.port.0) _ earlier).0 (or_left _ _ (or_left _ _ h.2)))),
       )
 
   -- where the index has none, the flushes are looked at
-  pub by_flushes : list_any (is_earlier_conflict (item_of r)) items ≡ false → (h : Option RequestId) → IfNone h (list_any (is_earlier_flush r) flushes ≡ false)
-      → IfSome h (λ id. (f : Flush) × Contains flushes f × (f.id ≡ id) × (is_earlier_flush r f ≡ true)) → IsBlockerOf book r h
+  pub by_flushes : list_any (is_earlier_conflict (item_of r)) items ≡ false → (h : Option RequestId) → IfNone h (list_any (comes_after_flush r) flushes ≡ false)
+      → IfSome h (λ id. (f : Flush) × Contains flushes f × (f.id ≡ id) × (comes_after_flush r f ≡ true)) → IsBlockerOf book r h
   by_flushes none None empty_flushes some = none_found none empty_flushes
   by_flushes none (Some id) empty_flushes some = subst (λ (n : RequestId). IsBlockerOf book r (Some n)) some.2 (flush_holds some.0 some.1 some.3)
 

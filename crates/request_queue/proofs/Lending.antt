@@ -10,7 +10,7 @@ use Rattle.ata_types.specs.declared.request.ClientId.{ClientId}
 use Rattle.ata_types.specs.declared.request.Frame.{Frame}
 use Rattle.ata_types.specs.declared.request.RequestId.{RequestId}
 use Rattle.dma_frames.specs.FrameTables.{OwnersAndLoans, lent_to, SetsLoanOnly}
-use Rattle.request_queue.specs.BookEntries.{BookEntry, IsWellFormedEntry, HasItsFrames, has_id, update_if_id, without_entry, issued_request, requeued_request, aged_request, aged_entries, revoked_under_grant, all_revoked_under_grant}
+use Rattle.request_queue.specs.BookEntries.{BookEntry, IsWellFormedEntry, HasItsFrames, has_id, update_if_id, without_entry, issued_request, requeued_request, aged_request, aged_entries, with_revoked_mark_if_under_grant, with_requests_under_grant_revoked}
 use Rattle.request_queue.specs.declared.PendingRequest.{PendingRequest}
 use Rattle.request_queue.proofs.Members.{map_in}
 use Rattle.request_queue.proofs.Changing.{either_way, without_in}
@@ -23,7 +23,7 @@ still_accepted old new frames to e lends a apart = record {
   client_is_at_least_1 = a.client_is_at_least_1;
   client_is_at_most_8 = a.client_is_at_most_8;
   count_is_allowed = a.count_is_allowed;
-  range_is_below_2_48 = a.range_is_below_2_48;
+  range_is_below_2_48_unless_flush = a.range_is_below_2_48_unless_flush;
   frame_count_is = a.frame_count_is;
   frames_are_not_drivers = a.frames_are_not_drivers;
   frames_are_own = λ k d small. ap (λ (owners : List (Option ClientId)). get_or owners (get_or e.frames k d).0 None) lends.owners_are_kept ∙ a.frames_are_own k d small;
@@ -67,7 +67,7 @@ further table e issued issues age revoked a = record {
   client_is_at_least_1 = a.client_is_at_least_1;
   client_is_at_most_8 = a.client_is_at_most_8;
   count_is_allowed = a.count_is_allowed;
-  range_is_below_2_48 = a.range_is_below_2_48;
+  range_is_below_2_48_unless_flush = a.range_is_below_2_48_unless_flush;
   frame_count_is = a.frame_count_is;
   frames_are_not_drivers = a.frames_are_not_drivers;
   frames_are_own = a.frames_are_own;
@@ -100,8 +100,8 @@ all_aged table es ports all = all_changed table es (λ (e : BookEntry). record e
     (λ e a. either_way (λ (r : PendingRequest). IsWellFormedEntry table (record e { request = r })) (e.request.issued && ports e.request.port) (record (e.request) { age = min (suc e.request.age) 3 }) e.request
     (further table e e.request.issued e.request.issue_count (min (suc e.request.age) 3) e.request.revoked a) a) all
 
-pub all_revoked : (table : OwnersAndLoans) (es : List BookEntry) (client : ClientId) (grant : ℕ) → All (IsWellFormedEntry table) es → All (IsWellFormedEntry table) (all_revoked_under_grant client grant es)
-all_revoked table es client grant all = all_changed table es (λ (e : BookEntry). record e { request = revoked_under_grant client grant e.request })
+pub all_revoked : (table : OwnersAndLoans) (es : List BookEntry) (client : ClientId) (grant : ℕ) → All (IsWellFormedEntry table) es → All (IsWellFormedEntry table) (with_requests_under_grant_revoked client grant es)
+all_revoked table es client grant all = all_changed table es (λ (e : BookEntry). record e { request = with_revoked_mark_if_under_grant client grant e.request })
     (λ e a. either_way (λ (r : PendingRequest). IsWellFormedEntry table (record e { request = r })) (is_same_grant_name client grant e.request.client e.request.grant) (record (e.request) { revoked = true }) e.request
     (further table e e.request.issued e.request.issue_count e.request.age true a) a) all
 

@@ -11,7 +11,7 @@ use Rattle.block_machine.specs.DueRequests.{IsDue, due_of}
 use Rattle.block_machine.specs.State.{unanswered, newly_unanswered}
 use Rattle.block_machine.specs.State as machine
 use Rattle.block_machine.specs.Steps as steps
-use Rattle.request_queue.specs.BookEntries.{BookEntry, as_unanswered, unanswered_of, has_id, update_if_id, without_entry, issued_request, requeued_request, aged_request, aged_entries, revoked_under_grant, all_revoked_under_grant, entry_count_of_client, due_ids}
+use Rattle.request_queue.specs.BookEntries.{BookEntry, as_unanswered, unanswered_of, has_id, update_if_id, without_entry, issued_request, requeued_request, aged_request, aged_entries, with_revoked_mark_if_under_grant, with_requests_under_grant_revoked, entry_count_of_client, due_ids}
 use Rattle.request_queue.specs.BookRelation.{EntryRelation, BookRelation}
 use Rattle.request_queue.specs.declared.PendingRequest.{PendingRequest}
 use Rattle.request_queue.proofs.Members.{contains_none, contains_here, contains_there, contains_cases, count_cons, map_in, into_map}
@@ -124,7 +124,7 @@ at_right id g step e p s = go (p.request.id.0 == id.0) refl
     go true here = subst (λ (y : machine.Pending). EntryRelation e y) (sym (cond-true (p.request.id.0 == id.0) (g p) p here)) (step e p s)
     go false here = subst (λ (y : machine.Pending). EntryRelation e y) (sym (cond-false (p.request.id.0 == id.0) (g p) p here)) s
 
-one_revoked : (client : ClientId) (grant : ℕ) (e : BookEntry) (p : machine.Pending) → EntryRelation e p → EntryRelation (record e { request = revoked_under_grant client grant e.request }) p
+one_revoked : (client : ClientId) (grant : ℕ) (e : BookEntry) (p : machine.Pending) → EntryRelation e p → EntryRelation (record e { request = with_revoked_mark_if_under_grant client grant e.request }) p
 one_revoked client grant e p s = either_way (λ (r : PendingRequest). EntryRelation (record e { request = r }) p) (is_same_grant_name client grant e.request.client e.request.grant) (record (e.request) { revoked = true }) e.request
     (record { id = s.id; client = s.client; grant = s.grant; port = s.port; op = s.op; range = s.range; frames = s.frames; issued = s.issued; issues = s.issues; age = s.age }) s
 
@@ -160,14 +160,14 @@ is_answered es ps id is = zip_filter EntryRelation (λ e. not (has_id id e)) (λ
 pub is_older : (es : List BookEntry) (ps : List machine.Pending) (ports : Port → Bool) → BookRelation es ps → BookRelation (aged_entries ports es) (map (steps.aged_pending ports) ps)
 is_older es ps ports is = zip_both EntryRelation (λ (e : BookEntry). record e { request = aged_request ports e.request }) (steps.aged_pending ports) (one_older ports) es ps is
 
-pub is_revoked : (es : List BookEntry) (ps : List machine.Pending) (client : ClientId) (grant : ℕ) → BookRelation es ps → BookRelation (all_revoked_under_grant client grant es) ps
-is_revoked es ps client grant is = zip_left EntryRelation (λ (e : BookEntry). record e { request = revoked_under_grant client grant e.request }) (one_revoked client grant) es ps is
+pub is_revoked : (es : List BookEntry) (ps : List machine.Pending) (client : ClientId) (grant : ℕ) → BookRelation es ps → BookRelation (with_requests_under_grant_revoked client grant es) ps
+is_revoked es ps client grant is = zip_left EntryRelation (λ (e : BookEntry). record e { request = with_revoked_mark_if_under_grant client grant e.request }) (one_revoked client grant) es ps is
 
 pub is_touched : (es : List BookEntry) (ps : List machine.Pending) (id : RequestId) (i : ℕ) → BookRelation es ps → BookRelation es (map (steps.update_pending id (steps.touch i)) ps)
 is_touched es ps id i is = zip_right EntryRelation (steps.update_pending id (steps.touch i)) (at_right id (steps.touch i) (one_touched i)) es ps is
 
-pub is_ended : (es : List BookEntry) (ps : List machine.Pending) (id : RequestId) → BookRelation es ps → BookRelation es (map (steps.update_pending id steps.mark_ended) ps)
-is_ended es ps id is = zip_right EntryRelation (steps.update_pending id steps.mark_ended) (at_right id steps.mark_ended one_ended) es ps is
+pub is_ended_at_age_two : (es : List BookEntry) (ps : List machine.Pending) (id : RequestId) → BookRelation es ps → BookRelation es (map (steps.update_pending id steps.mark_ended) ps)
+is_ended_at_age_two es ps id is = zip_right EntryRelation (steps.update_pending id steps.mark_ended) (at_right id steps.mark_ended one_ended) es ps is
 
 -- ---- what is due is the machine's
 

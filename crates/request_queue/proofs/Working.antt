@@ -7,7 +7,7 @@ use Rattle.ata_types.specs.declared.request.RequestId.{RequestId}
 use Rattle.block_machine.specs.declared.due.QueueMode.{QueueMode}
 use Rattle.block_machine.specs.declared.due.Unanswered.{Unanswered}
 use Rattle.block_machine.specs.DueRequests.{IsDue, with_issued, with_waiting, without_request, AreAllDueInOrder}
-use Rattle.request_queue.specs.BookEntries.{BookEntry, as_unanswered, unanswered_of, has_id, update_if_id, without_entry, issued_request, requeued_request, aged_request, aged_entries, revoked_under_grant, all_revoked_under_grant, IsWaiting}
+use Rattle.request_queue.specs.BookEntries.{BookEntry, as_unanswered, unanswered_of, has_id, update_if_id, without_entry, issued_request, requeued_request, aged_request, aged_entries, with_revoked_mark_if_under_grant, with_requests_under_grant_revoked, IsWaiting}
 use Rattle.request_queue.specs.declared.PendingRequest.{PendingRequest}
 use Rattle.request_queue.proofs.Members.{map_in}
 use Rattle.request_queue.proofs.Changing.{all_asked, older_spares, revoked_spares}
@@ -19,7 +19,7 @@ due_waits mode es r due =
       e.0,
       e.1,
       ap (λ (u : Unanswered). u.id) (sym e.2),
-      ap (λ (u : Unanswered). u.issued) (sym e.2) ∙ not-true r.issued (and_parts (not r.issued) _ due.nothing_blocks).0,
+      ap (λ (u : Unanswered). u.issued) (sym e.2) ∙ not-true r.issued (and_parts (not r.issued) _ due.waits_and_nothing_blocks).0,
     )
 
 -- a change of one request
@@ -57,8 +57,8 @@ after_answer (e ∷ es) id = go (not (has_id id e)) (after_answer es id)
 pub after_tick : (es : List BookEntry) (ports : Port → Bool) → unanswered_of (aged_entries ports es) ≡ unanswered_of es
 after_tick es ports = all_asked (aged_request ports) (older_spares ports) es
 
-pub after_revoke : (es : List BookEntry) (client : ClientId) (grant : ℕ) → unanswered_of (all_revoked_under_grant client grant es) ≡ unanswered_of es
-after_revoke es client grant = all_asked (revoked_under_grant client grant) (revoked_spares client grant) es
+pub after_revoke : (es : List BookEntry) (client : ClientId) (grant : ℕ) → unanswered_of (with_requests_under_grant_revoked client grant es) ≡ unanswered_of es
+after_revoke es client grant = all_asked (with_revoked_mark_if_under_grant client grant) (revoked_spares client grant) es
 
 -- ---- a walk that issues
 

@@ -71,15 +71,15 @@ abbrev pub aged_entries : (Port → Bool) → List BookEntry → List BookEntry
 aged_entries ports entries = map (λ (e : BookEntry). record e { request = aged_request ports e.request }) entries
 
 -- the request is marked, if it was accepted under this grant of the client: the grant is revoked
-abbrev pub revoked_under_grant : ClientId → ℕ → PendingRequest → PendingRequest
-revoked_under_grant client grant r = if is_same_grant_name client grant r.client r.grant
+abbrev pub with_revoked_mark_if_under_grant : ClientId → ℕ → PendingRequest → PendingRequest
+with_revoked_mark_if_under_grant client grant r = if is_same_grant_name client grant r.client r.grant
     then record r { revoked = true } else
     r
 
 -- each request marked that was accepted under this grant of the client
-abbrev pub all_revoked_under_grant : ClientId → ℕ → List BookEntry → List BookEntry
-all_revoked_under_grant client grant entries =
-    map (λ (e : BookEntry). record e { request = revoked_under_grant client grant e.request }) entries
+abbrev pub with_requests_under_grant_revoked : ClientId → ℕ → List BookEntry → List BookEntry
+with_requests_under_grant_revoked client grant entries =
+    map (λ (e : BookEntry). record e { request = with_revoked_mark_if_under_grant client grant e.request }) entries
 
 -- the ids of the requests that pass, in order of acceptance
 abbrev pub ids_where : (PendingRequest → Bool) → List BookEntry → List RequestId
@@ -152,7 +152,7 @@ pub record IsWellFormedEntry (table : OwnersAndLoans) (book_entry : BookEntry) :
   pub client_is_at_least_1 : 1 ≤ book_entry.request.client.0
   pub client_is_at_most_8 : book_entry.request.client.0 ≤ 8
   pub count_is_allowed : IsAllowedCount book_entry.request.op book_entry.request.range.count
-  pub range_is_below_2_48 : book_entry.request.op ≢ Flush
+  pub range_is_below_2_48_unless_flush : book_entry.request.op ≢ Flush
       → book_entry.request.range.first.0 + book_entry.request.range.count ≤ 2 ^ 48
   pub frame_count_is : length book_entry.frames ≡ frame_count_for book_entry.request.op book_entry.request.range.count
   pub frames_are_not_drivers : All (λ frame. DRIVER_FRAMES ≤ frame.0) book_entry.frames

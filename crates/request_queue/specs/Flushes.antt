@@ -13,5 +13,5 @@ abbrev pub flushes_among : List Unanswered → List Flush
 flushes_among book = map listed_flush (filter (λ r. is_flush r.op) book)
 
 -- the flush was accepted before the request, on the same port
-abbrev pub is_earlier_flush : Unanswered → Flush → Bool
-is_earlier_flush r flush = flush.port.0 == r.port.0 && nat_lt flush.id.0 r.id.0
+abbrev pub comes_after_flush : Unanswered → Flush → Bool
+comes_after_flush r flush = flush.port.0 == r.port.0 && nat_lt flush.id.0 r.id.0

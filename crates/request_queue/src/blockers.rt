@@ -1,7 +1,7 @@
 // An earlier request that each waiting read or write conflicts with, so that no walk has to search for it anew.
 ghost use Rattle.std.specs.{Prelude.{◌≡◌, ◌<◌, ◌≤◌, ◌&&◌, [], length, false, true, Contains, List, IfNone, IfOk, IfSome, not, remove, vec_capacity}, List.{list_any}};
 ghost use Rattle.block_machine.specs.declared.due.Unanswered.{Unanswered};
-ghost use Rattle.request_queue.specs.{Conflicts.{AreConflictLists}, BookEntries.{unanswered_of}, Flushes.{flushes_among, is_earlier_flush}, Blockers.{AreBlockers, AreBlockersExceptOf, IsBlockerOf, is_read_or_write, may_be_blocked}, Sectors.{AreIndexed}};
+ghost use Rattle.request_queue.specs.{Conflicts.{AreConflictLists}, BookEntries.{unanswered_of}, Flushes.{flushes_among, comes_after_flush}, Blockers.{AreBlockers, AreBlockersExceptOf, IsBlockerOf, is_read_or_write, may_be_blocked}, Sectors.{AreIndexed}};
 
 use crate::blocker::Blocker;
 use crate::conflicts::Conflicts;
@@ -62,9 +62,9 @@ pub fn update_blockers(
 
 /// The flush that a request waits for, if there is one.
 fn blocking_flush(flushes: &[Flush], request: &Unanswered) -> Blocker
-    ensures none { IfNone result (list_any (is_earlier_flush request.now) flushes.now ≡ false) }
+    ensures none { IfNone result (list_any (comes_after_flush request.now) flushes.now ≡ false) }
     ensures found { IfSome result (λ id. (flush : Flush) × Contains flushes.now flush × (flush.id ≡ id)
-        × (is_earlier_flush request.now flush ≡ true)) }
+        × (comes_after_flush request.now flush ≡ true)) }
 {
     match earlier_flush(flushes, request) {
         Some(flush) => Blocker::of(request.id, flush),

@@ -3,7 +3,7 @@ ghost use Rattle.std.specs.Prelude.{◌≡◌, ◌&&◌, ◌==◌, ◌↔◌, �
 ghost use Rattle.block_machine.specs.{DueRequests.{is_due}, Rules.{HasNoFault, is_same_grant_name}};
 ghost use Rattle.dma_frames.specs.FrameTables.{SetsLoanOnly, lent_to, owner_of};
 ghost use Rattle.request_queue.specs.{BookIndexes.{IndexesMatch}, Blockers.{AreBlockers}};
-ghost use Rattle.request_queue.specs.BookEntries.{due_ids, BookEntry, GivesBack, IsEarlier, IsNewlyAccepted, BookIsWellFormed, IsUnanswered, IsWaiting, IsIssuedBelowLimit, HasItsFrames, HasAnyOverdue, HasOverdueOn, IsOverdueOn, aged_entries, unanswered_of, update_if_id, ids_where, is_among, is_of_port, issued_request, lone_due_id, aged_request, requeued_request, all_revoked_under_grant, revoked_under_grant, entry_count_of_client, waits_under, without_entry};
+ghost use Rattle.request_queue.specs.BookEntries.{due_ids, BookEntry, GivesBack, IsEarlier, IsNewlyAccepted, BookIsWellFormed, IsUnanswered, IsWaiting, IsIssuedBelowLimit, HasItsFrames, HasAnyOverdue, HasOverdueOn, IsOverdueOn, aged_entries, unanswered_of, update_if_id, ids_where, is_among, is_of_port, issued_request, lone_due_id, aged_request, requeued_request, with_requests_under_grant_revoked, with_revoked_mark_if_under_grant, entry_count_of_client, waits_under, without_entry};
 
 use crate::PendingRequest;
 use crate::blocker::Blocker;
@@ -100,7 +100,8 @@ impl Book {
         requires is_newly_accepted { IsNewlyAccepted request }
         requires client_is_valid { (1 ≤ request.client.0) × (request.client.0 ≤ 8) }
         requires client_has_room { entry_count_of_client self.old request.client.0 < 16 }
-        requires frames_have_no_fault { HasNoFault (owner_of table.old) (lent_to table.old) request.client frames.now
+        requires frames_have_no_fault_and_are_few { HasNoFault (owner_of table.old)
+            (lent_to table.old) request.client frames.now
             × (length frames.now ≤ MOST_REQUEST_FRAMES) }
         ensures request_is_appended { self.new ≡ self.old ++ record { request = request; frames = frames.now } ∷ [] }
         ensures frames_are_lent_to_request { SetsLoanOnly table.old table.new frames.now (Some request.id) }
@@ -222,7 +223,7 @@ impl Book {
 
     /// Notes that a client's grant was revoked: the requests that were accepted under it are marked.
     pub fn mark_revoked(&mut self, client: ClientId, grant: u8)
-        ensures { self.new ≡ all_revoked_under_grant client grant self.old }
+        ensures { self.new ≡ with_requests_under_grant_revoked client grant self.old }
     {
         mark(&mut self.store, client, grant);
     }
@@ -413,7 +414,7 @@ fn age(store: &mut RequestSlab, blockers: &[Blocker], ports: &[bool]) -> bool
 
 /// Marks the requests that were accepted under this grant of the client.
 fn mark(store: &mut RequestSlab, client: ClientId, grant: u8)
-    ensures { store.new ≡ all_revoked_under_grant client grant store.old }
+    ensures { store.new ≡ with_requests_under_grant_revoked client grant store.old }
 {
     for place in 0..store.len() {
         let request = store.request(place);
@@ -423,7 +424,7 @@ fn mark(store: &mut RequestSlab, client: ClientId, grant: u8)
 
 /// The request, marked if it was accepted under this grant of the client.
 fn revoked(request: PendingRequest, client: ClientId, grant: u8) -> PendingRequest
-    ensures { result ≡ revoked_under_grant client grant request }
+    ensures { result ≡ with_revoked_mark_if_under_grant client grant request }
 {
     if is_same_grant_name(request, client, grant) {
         PendingRequest {

@@ -8,7 +8,7 @@ use crate::blocker::Blocker;
 use crate::request_slab::RequestSlab;
 use arrayvec::ArrayVec;
 use ata_types::{MOST_UNANSWERED, Port, RequestId, SLOTS};
-use block_machine::laws::{law_due_ones_leave_a_slot, law_earlier_ones_stand_before};
+use block_machine::laws::{law_due_and_unblocked_ahead_agree, law_earlier_ones_stand_before};
 use block_machine::{QueueMode, Unanswered, is_plain};
 
 /// Ids of due requests: no more than a port has slots.
@@ -44,7 +44,7 @@ pub fn list_due(
     ensures { due.new.items ≡ due_ids mode port (unanswered_of store.now) }
 {
     law_earlier_ones_stand_before();
-    law_due_ones_leave_a_slot();
+    law_due_and_unblocked_ahead_agree();
     let mut places = ArrayVec::new();
     let issued = find_unblocked(store, blockers, mode, port, &mut places);
     let free = free_slots(mode, issued.count);

@@ -1,6 +1,6 @@
 // The unanswered flushes of all ports. A flush has no sectors, so no index finds it: it stands in a list of its own.
 ghost use Rattle.std.specs.{Prelude.{◌≡◌, ◌<◌, ◌≤◌, ◌++◌, ◌∷◌, ◌==◌, [], length, filter, not, false, true, Contains, IfNone, IfOk, IfSome, vec_capacity}, List.{list_any}};
-ghost use Rattle.request_queue.specs.Flushes.{flushes_among, is_earlier_flush};
+ghost use Rattle.request_queue.specs.Flushes.{flushes_among, comes_after_flush};
 ghost use Rattle.block_machine.specs.DueRequests as machine;
 
 use ata_types::{MOST_UNANSWERED, Op, Port, RequestId};
@@ -47,19 +47,19 @@ pub fn remove_flush(flushes: &mut Vec<Flush>, id: RequestId)
 
 /// A flush that was accepted before the request, on the same port, if there is one.
 pub fn earlier_flush(flushes: &[Flush], request: &Unanswered) -> Option<RequestId>
-    ensures none_is_earlier { IfNone result (list_any (is_earlier_flush request.now) flushes.now ≡ false) }
+    ensures none_is_earlier { IfNone result (list_any (comes_after_flush request.now) flushes.now ≡ false) }
     ensures found { IfSome result (λ id. (flush : Flush) × Contains flushes.now flush × (flush.id ≡ id)
-        × (is_earlier_flush request.now flush ≡ true)) }
+        × (comes_after_flush request.now flush ≡ true)) }
 {
     let flush = flushes
         .iter()
-        .find(|flush| is_earlier_flush(request, flush))?;
+        .find(|flush| comes_after_flush(request, flush))?;
     Some(flush.id)
 }
 
 /// Whether the flush was accepted before the request, on the same port.
-fn is_earlier_flush(request: &Unanswered, flush: &Flush) -> bool
-    ensures { result ≡ is_earlier_flush request.now flush.now }
+fn comes_after_flush(request: &Unanswered, flush: &Flush) -> bool
+    ensures { result ≡ comes_after_flush request.now flush.now }
 {
     flush.port.0 == request.port.0 && flush.id.0 < request.id.0
 }

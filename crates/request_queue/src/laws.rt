@@ -3,13 +3,13 @@ ghost use Rattle.std.specs.Prelude.{◌≡◌, ◌≢◌, ◌↔◌, ◌++◌, �
 ghost use Rattle.ata_types.specs.{declared.Port.{Port}, declared.request.ClientId.{ClientId}, declared.request.Frame.{Frame}, declared.request.Outcome.{Outcome}, declared.request.Reply.{Reply}, declared.request.RequestId.{RequestId}};
 ghost use Rattle.block_machine.specs.{DueRequests.{AreAllDueInOrder, IsDue, IsInOrder, with_issued, without_request, with_waiting}, State.{Machine, unanswered}, declared.due.QueueMode.{QueueMode}, declared.due.Unanswered.{Unanswered}};
 ghost use Rattle.dma_frames.specs.FrameTables.{OwnersAndLoans, SetsLoanOnly, lent_to};
-ghost use Rattle.request_queue.specs.{BookEntries.{BookEntry, IsWellFormedEntry, IsEarlier, IsNewlyAccepted, BookIsWellFormed, IsUnanswered, IsWaiting, IsIssuedBelowLimit, HasItsFrames, aged_entries, unanswered_of, update_if_id, due_ids, entry_with_id, issued_request, requeued_request, all_revoked_under_grant, entry_count_of_client, without_entry}, Dispositions.{CompletesAllWith, BookAndLoans, AreResolved, keeps_loan}};
+ghost use Rattle.request_queue.specs.{BookEntries.{BookEntry, IsWellFormedEntry, IsEarlier, IsNewlyAccepted, BookIsWellFormed, IsUnanswered, IsWaiting, IsIssuedBelowLimit, HasItsFrames, aged_entries, unanswered_of, update_if_id, due_ids, entry_with_id, issued_request, requeued_request, with_requests_under_grant_revoked, entry_count_of_client, without_entry}, Dispositions.{CompletesAllWith, BookAndLoans, AreResolved, keeps_loan}};
 ghost use Rattle.request_queue.specs.{BookRelation.{BookRelation, EntryRelation}, declared.PendingRequest.{PendingRequest}, declared.disposition.Disposition.TheVariants.{Complete}};
 ghost use Rattle.block_machine.specs.State as machine;
 ghost use Rattle.block_machine.specs.Steps as steps;
 
 use ata_types::MOST_UNANSWERED;
-use block_machine::laws::{law_due_in_turn, law_due_is_exact};
+use block_machine::laws::{law_due_in_turn, law_due_list_is_exact};
 
 /// Where the machine's book is the book, the machine's due requests are the book's.
 pub fn law_book_dues_agree()
@@ -25,7 +25,7 @@ pub fn law_book_dues_agree()
         → BookRelation entries pending → p.request.port ≡ port → IsDue mode (map unanswered pending) (unanswered p)
         → Contains (due_ids mode port (unanswered_of entries)) p.request.id }
 {
-    law_due_is_exact();
+    law_due_list_is_exact();
 }
 
 /// Each step of the machine on requests is a change of the book, or leaves it.
@@ -48,7 +48,7 @@ pub fn law_steps_change_the_book()
         → BookRelation (aged_entries ports entries) (steps.after_step m (steps.Age ports)).book }
     ensures revoke { (entries : List BookEntry) (m : Machine) (client : ClientId) (grant : ℕ)
         → BookRelation entries m.book
-        → BookRelation (all_revoked_under_grant client grant entries)
+        → BookRelation (with_requests_under_grant_revoked client grant entries)
         (steps.after_step m (steps.Revoke client grant)).book }
     ensures touch { (entries : List BookEntry) (m : Machine) (p : machine.Pending) (i : ℕ) (block : machine.Block)
         → BookRelation entries m.book → BookRelation entries (steps.after_step m (steps.Touch p i block)).book }
@@ -65,7 +65,7 @@ pub fn law_client_counts_agree()
 
 /// A due request of the book waits, so that it may be issued; and what the book's operations leave of what says which
 /// are due.
-pub fn law_operations_change_what_is_due()
+pub fn law_operations_change_the_unanswered()
     ensures waits { (mode : QueueMode) (entries : List BookEntry) (r : Unanswered)
         → IsDue mode (unanswered_of entries) r
         → IsWaiting r.id entries }
@@ -80,13 +80,13 @@ pub fn law_operations_change_what_is_due()
     ensures tick { (entries : List BookEntry) (ports : Port → Bool) → unanswered_of (aged_entries ports entries)
         ≡ unanswered_of entries }
     ensures revoked { (entries : List BookEntry) (client : ClientId) (grant : ℕ)
-        → unanswered_of (all_revoked_under_grant client grant entries) ≡ unanswered_of entries }
+        → unanswered_of (with_requests_under_grant_revoked client grant entries) ≡ unanswered_of entries }
 {}
 
 /// The due requests of a port may be issued one after the other: each of them waits when its turn comes; and then none
 /// is due.
 pub fn law_due_requests_go_in_turn()
-    ensures due_ids_are_due_in_order { (mode : QueueMode) (port : Port) (entries : List BookEntry)
+    ensures each_due_is_due_after_those_before { (mode : QueueMode) (port : Port) (entries : List BookEntry)
         → BookIsWellFormed entries
         → AreAllDueInOrder mode port (due_ids mode port (unanswered_of entries)) (unanswered_of entries) }
     ensures first_waits_rest_is_due { (mode : QueueMode) (port : Port) (id : RequestId) (ids : List RequestId)
@@ -159,7 +159,7 @@ pub fn law_book_stays_well_formed()
     ensures aged { (entries : List BookEntry) (ports : Port → Bool) → BookIsWellFormed entries
         → BookIsWellFormed (aged_entries ports entries) }
     ensures revoked { (entries : List BookEntry) (client : ClientId) (grant : ℕ) → BookIsWellFormed entries
-        → BookIsWellFormed (all_revoked_under_grant client grant entries) }
+        → BookIsWellFormed (with_requests_under_grant_revoked client grant entries) }
     ensures answered { (entries : List BookEntry) (id : RequestId) → BookIsWellFormed entries
         → BookIsWellFormed (without_entry id entries) }
     ensures has_128_at_most { (entries : List BookEntry) → BookIsWellFormed entries → length entries ≤ MOST_UNANSWERED }
@@ -195,7 +195,7 @@ pub fn law_well_formed_entries_stay()
         → All (IsWellFormedEntry table) entries → All (IsWellFormedEntry table) (aged_entries ports entries) }
     ensures revoked { (table : OwnersAndLoans) (entries : List BookEntry) (client : ClientId) (grant : ℕ)
         → All (IsWellFormedEntry table) entries
-        → All (IsWellFormedEntry table) (all_revoked_under_grant client grant entries) }
+        → All (IsWellFormedEntry table) (with_requests_under_grant_revoked client grant entries) }
     ensures frames_are_lent_to_all { (table : OwnersAndLoans) (entries : List BookEntry)
         → All (IsWellFormedEntry table) entries
         → All (HasItsFrames table) entries }
@@ -205,14 +205,14 @@ pub fn law_well_formed_entries_stay()
 /// is kept, the others are left, and what was lent to those is given back. And where that is so, it may have come about
 /// so, to a table that has the same lent.
 pub fn law_answers_of_one_outcome_are_one_change()
-    ensures at_once { (passes : PendingRequest → Bool) (outcome : Outcome)
+    ensures one_by_one_is_at_once { (passes : PendingRequest → Bool) (outcome : Outcome)
         → ((e : PendingRequest) → keeps_loan outcome e ≡ false)
         → (old : BookAndLoans) → BookIsWellFormed old.book → All (IsWellFormedEntry old.table) old.book
         → (replies : List Reply)
         (new : BookAndLoans) → AreResolved (λ e. Complete outcome) (filter (λ e. passes e.request) old.book) replies old
         new
         → CompletesAllWith passes outcome replies old new }
-    ensures one_by_one { (passes : PendingRequest → Bool) (outcome : Outcome)
+    ensures at_once_is_one_by_one { (passes : PendingRequest → Bool) (outcome : Outcome)
         → ((e : PendingRequest) → keeps_loan outcome e ≡ false)
         → (old : BookAndLoans) → BookIsWellFormed old.book → All (IsWellFormedEntry old.table) old.book
         → (replies : List Reply)

@@ -16,12 +16,12 @@ pub record GoesOn (n number k : ℕ) (word : List ℕ) : Type 0 where
   pub within : number * 10 + digit ≤ n
 
 -- what a number's digits are, and what those before a place say
-abbrev IsSpellable : ℕ → List ℕ → Type 0
-IsSpellable n ds = n < 2 ^ 64 → (ds ≡ decimal n)
+abbrev HasNoFieldsWithoutWord : ℕ → List ℕ → Type 0
+HasNoFieldsWithoutWord n ds = n < 2 ^ 64 → (ds ≡ decimal n)
     × ((k number digit : ℕ) → 0 < k → k < length ds → number < 2 ^ 64 → decimal number ≡ take k ds → get_or ds k 0 ≡ 48 + digit
     → (0 < number) × (number * 10 + digit ≤ n))
 
-last_digit : (n : ℕ) (ds : List ℕ) → 10 ≤ n → IsSpellable (n / 10) ds → IsSpellable n (ds ++ ((48 + n % 10) ∷ []))
+last_digit : (n : ℕ) (ds : List ℕ) → 10 ≤ n → HasNoFieldsWithoutWord (n / 10) ds → HasNoFieldsWithoutWord n (ds ++ ((48 + n % 10) ∷ []))
 last_digit n ds many front small =
     let before = front (omega arith) in (
       ap (λ (xs : List ℕ). xs ++ ((48 + n % 10) ∷ [])) before.0 ∙ sym (decimal_step n many small),
@@ -42,9 +42,9 @@ last_digit n ds many front small =
           ],
     )
 
-spelled_by_steps : (n : ℕ) → n < 2 ^ 64 → IsSpellable n (decimal n)
+spelled_by_steps : (n : ℕ) → n < 2 ^ 64 → HasNoFieldsWithoutWord n (decimal n)
 spelled_by_steps n small =
-    decimal_by_steps IsSpellable (λ n few. λ _. (sym (decimal_digit n few), λ k number digit least below fits said byte. absurd (omega (arith, least, below))))
+    decimal_by_steps HasNoFieldsWithoutWord (λ n few. λ _. (sym (decimal_digit n few), λ k number digit least below fits said byte. absurd (omega (arith, least, below))))
     last_digit n small
 
 -- a digit of a number

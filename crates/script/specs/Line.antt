@@ -84,11 +84,11 @@ line_text call = join_with_byte 32 (line_words call)
 
 -- the request asks for nothing that a line of its operation has no word for: of a trim there are no frames, and of a
 -- flush no sectors either
-abbrev pub IsSpellable : Op → Request → Type 0
-IsSpellable Read r = Unit {0}
-IsSpellable Write r = Unit {0}
-IsSpellable Trim r = r.frames.items ≡ []
-IsSpellable Flush r = (r.first.0 ≡ 0) × (r.count ≡ 0) × (r.frames.items ≡ [])
+abbrev pub HasNoFieldsWithoutWord : Op → Request → Type 0
+HasNoFieldsWithoutWord Read r = Unit {0}
+HasNoFieldsWithoutWord Write r = Unit {0}
+HasNoFieldsWithoutWord Trim r = r.frames.items ≡ []
+HasNoFieldsWithoutWord Flush r = (r.first.0 ≡ 0) × (r.count ≡ 0) × (r.frames.items ≡ [])
 
 -- the request's numbers are in their ranges
 pub record RequestFitsTypes (r : Request) : Type 0 where
@@ -100,16 +100,16 @@ pub record RequestFitsTypes (r : Request) : Type 0 where
   pub frame_count_in_range : length r.frames.items ≤ MOST_REQUEST_FRAMES
 
 -- the port and slot are ones that an adapter can have
-abbrev pub IsPortAndSlot : Port → Slot → Type 0
-IsPortAndSlot port slot = (port.0 < 4) × (slot.0 < 32)
+abbrev pub PortAndSlotInRange : Port → Slot → Type 0
+PortAndSlotInRange port slot = (port.0 < 4) × (slot.0 < 32)
 
 -- the step's numbers are in their ranges
 abbrev pub StepInRange : DeviceStep → Type 0
-StepInRange (step.Fetch port slot) = IsPortAndSlot port slot
-StepInRange (step.Move port slot) = IsPortAndSlot port slot
+StepInRange (step.Fetch port slot) = PortAndSlotInRange port slot
+StepInRange (step.Move port slot) = PortAndSlotInRange port slot
 StepInRange (step.Clear port slot count) = (port.0 < 4) × (slot.0 < 32) × (count < 2 ^ 32)
-StepInRange (step.Done port slot) = IsPortAndSlot port slot
-StepInRange (step.Finish port slot) = IsPortAndSlot port slot
+StepInRange (step.Done port slot) = PortAndSlotInRange port slot
+StepInRange (step.Finish port slot) = PortAndSlotInRange port slot
 StepInRange (step.Fault port slot error) = (port.0 < 4) × (slot.0 < 32) × (error < 256)
 StepInRange (step.FaultBusy port slot error) = (port.0 < 4) × (slot.0 < 32) × (error < 256)
 StepInRange (step.Fatal port error) = port.0 < 4
@@ -124,7 +124,7 @@ StepInRange (step.LosePlug port) = port.0 < 4
 
 -- the value has a line
 abbrev pub HasLine : Call DeviceStep → Type 0
-HasLine (Submit request) = IsSpellable request.op request × RequestFitsTypes request
+HasLine (Submit request) = HasNoFieldsWithoutWord request.op request × RequestFitsTypes request
 HasLine (ClientStore client frame offset bytes) = (client.0 < 256) × (frame.0 < 65536) × (offset < 2 ^ 32)
     × All (λ b. b < 256) bytes.items × (1 ≤ length bytes.items) × (length bytes.items ≤ MOST_CALL_BYTES)
 HasLine (ClientLoad client frame offset count) = (client.0 < 256) × (frame.0 < 65536) × (offset < 2 ^ 32) × (1 ≤ count)
@@ -139,16 +139,16 @@ HasLine (Device asked) = StepInRange asked
 -- ---- what is read from words
 
 -- if a step is found, these are its words
-abbrev pub ReadsAsStep : List Word → Option DeviceStep → Type 0
-ReadsAsStep words found = IfSome found (λ s. StepInRange s × (step_words s ≡ words))
+abbrev pub FoundStepHasWords : List Word → Option DeviceStep → Type 0
+FoundStepHasWords words found = IfSome found (λ s. StepInRange s × (step_words s ≡ words))
 
 -- the step whose words these are is found
 abbrev pub FindsSpelledStep : List Word → Option DeviceStep → Type 0
 FindsSpelledStep words found = (s : DeviceStep) → StepInRange s → step_words s ≡ words → found ≡ Some s
 
 -- if a call is found, which then stands in the place, these are its line's words
-abbrev pub ReadsAsLine : List Word → Option ⊤ → Call DeviceStep → Type 0
-ReadsAsLine words found call = OnSome found (HasLine call × (line_words call ≡ words))
+abbrev pub FoundCallHasWords : List Word → Option ⊤ → Call DeviceStep → Type 0
+FoundCallHasWords words found call = OnSome found (HasLine call × (line_words call ≡ words))
 
 -- the call whose line has these words is found
 abbrev pub FindsSpelledLine : List Word → Option ⊤ → Call DeviceStep → Type 0

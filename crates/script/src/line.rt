@@ -1,6 +1,6 @@
 // One line of a script: the call that it asks for.
 ghost use Rattle.std.specs.{Prelude.{◌≡◌, ◌<◌, ◌≤◌, ◌==◌, ◌↔◌, IsTrue, ◌++◌, ◌∷◌, [], codes, Some, None, IfSome, OnSome, length, map}, List.{slice_split}};
-ghost use Rattle.script.specs.Line.{HasLine, RequestFitsTypes, IsSpellable, ReadsAsLine, ReadsAsStep, FindsSpelledLine, FindsSpelledStep, line_text, op_word, request_words, transfer_words};
+ghost use Rattle.script.specs.Line.{HasLine, RequestFitsTypes, HasNoFieldsWithoutWord, FoundCallHasWords, FoundStepHasWords, FindsSpelledLine, FindsSpelledStep, line_text, op_word, request_words, transfer_words};
 ghost use Rattle.ata_types.specs.{declared.call.Call.{Call}, declared.call.Call.TheVariants.{Device, Submit}, declared.request.Op.{Op}, declared.request.Request.{Request}};
 ghost use Rattle.adapter.specs.declared.access.DeviceStep.{DeviceStep};
 
@@ -63,7 +63,7 @@ fn transfer(op: Op, words: &[&[u8]], request: &mut Request) -> Option<()>
 
 /// The lie that the disk of the port is to tell of this page: where, and which bits are turned.
 fn lie(port: &[u8], page: &[u8], offset: &[u8], bits: &[u8]) -> Option<DeviceStep>
-    ensures found { ReadsAsStep (codes "lie" ∷ port.now ∷ page.now ∷ offset.now ∷ bits.now ∷ []) result }
+    ensures found { FoundStepHasWords (codes "lie" ∷ port.now ∷ page.now ∷ offset.now ∷ bits.now ∷ []) result }
     ensures only { FindsSpelledStep (codes "lie" ∷ port.now ∷ page.now ∷ offset.now ∷ bits.now ∷ []) result }
 {
     let port = fields::parse_port(port)?;
@@ -75,7 +75,7 @@ fn lie(port: &[u8], page: &[u8], offset: &[u8], bits: &[u8]) -> Option<DeviceSte
 
 /// The clear that the device is to do: where, and of how many sectors.
 fn clear(port: &[u8], slot: &[u8], count: &[u8]) -> Option<DeviceStep>
-    ensures found { ReadsAsStep (codes "clear" ∷ port.now ∷ slot.now ∷ count.now ∷ []) result }
+    ensures found { FoundStepHasWords (codes "clear" ∷ port.now ∷ slot.now ∷ count.now ∷ []) result }
     ensures only { FindsSpelledStep (codes "clear" ∷ port.now ∷ slot.now ∷ count.now ∷ []) result }
 {
     let port = fields::parse_port(port)?;
@@ -86,7 +86,7 @@ fn clear(port: &[u8], slot: &[u8], count: &[u8]) -> Option<DeviceStep>
 
 /// The fault that a command of the device is to end with: where, and which error.
 fn fault(port: &[u8], slot: &[u8], error: &[u8]) -> Option<DeviceStep>
-    ensures found { ReadsAsStep (codes "fault" ∷ port.now ∷ slot.now ∷ error.now ∷ []) result }
+    ensures found { FoundStepHasWords (codes "fault" ∷ port.now ∷ slot.now ∷ error.now ∷ []) result }
     ensures only { FindsSpelledStep (codes "fault" ∷ port.now ∷ slot.now ∷ error.now ∷ []) result }
 {
     let port = fields::parse_port(port)?;
@@ -97,7 +97,7 @@ fn fault(port: &[u8], slot: &[u8], error: &[u8]) -> Option<DeviceStep>
 
 /// The same, of one that leaves its disk busy.
 fn fault_busy(port: &[u8], slot: &[u8], error: &[u8]) -> Option<DeviceStep>
-    ensures found { ReadsAsStep (codes "faultbusy" ∷ port.now ∷ slot.now ∷ error.now ∷ []) result }
+    ensures found { FoundStepHasWords (codes "faultbusy" ∷ port.now ∷ slot.now ∷ error.now ∷ []) result }
     ensures only { FindsSpelledStep (codes "faultbusy" ∷ port.now ∷ slot.now ∷ error.now ∷ []) result }
 {
     let port = fields::parse_port(port)?;
@@ -108,7 +108,7 @@ fn fault_busy(port: &[u8], slot: &[u8], error: &[u8]) -> Option<DeviceStep>
 
 /// The byte that the device is to fill with what it may write.
 fn scribble(port: &[u8], byte: &[u8]) -> Option<DeviceStep>
-    ensures found { ReadsAsStep (codes "scribble" ∷ port.now ∷ byte.now ∷ []) result }
+    ensures found { FoundStepHasWords (codes "scribble" ∷ port.now ∷ byte.now ∷ []) result }
     ensures only { FindsSpelledStep (codes "scribble" ∷ port.now ∷ byte.now ∷ []) result }
 {
     let port = fields::parse_port(port)?;
@@ -118,7 +118,7 @@ fn scribble(port: &[u8], byte: &[u8]) -> Option<DeviceStep>
 
 /// A step of which nothing but its port is told.
 fn of_port(name: &[u8], port: &[u8]) -> Option<DeviceStep>
-    ensures found { ReadsAsStep (name.now ∷ port.now ∷ []) result }
+    ensures found { FoundStepHasWords (name.now ∷ port.now ∷ []) result }
     ensures only { FindsSpelledStep (name.now ∷ port.now ∷ []) result }
 {
     let port = fields::parse_port(port)?;
@@ -142,7 +142,7 @@ fn of_port(name: &[u8], port: &[u8]) -> Option<DeviceStep>
 
 /// A step of which its port and one thing more is told.
 fn of_port_and(name: &[u8], port: &[u8], last: &[u8]) -> Option<DeviceStep>
-    ensures found { ReadsAsStep (name.now ∷ port.now ∷ last.now ∷ []) result }
+    ensures found { FoundStepHasWords (name.now ∷ port.now ∷ last.now ∷ []) result }
     ensures only { FindsSpelledStep (name.now ∷ port.now ∷ last.now ∷ []) result }
 {
     if is_text(name, "scribble") {
@@ -172,7 +172,7 @@ fn of_port_and(name: &[u8], port: &[u8], last: &[u8]) -> Option<DeviceStep>
 
 /// A step of which its port, a slot and one thing more is told.
 fn of_slot_and(name: &[u8], port: &[u8], slot: &[u8], last: &[u8]) -> Option<DeviceStep>
-    ensures found { ReadsAsStep (name.now ∷ port.now ∷ slot.now ∷ last.now ∷ []) result }
+    ensures found { FoundStepHasWords (name.now ∷ port.now ∷ slot.now ∷ last.now ∷ []) result }
     ensures only { FindsSpelledStep (name.now ∷ port.now ∷ slot.now ∷ last.now ∷ []) result }
 {
     if is_text(name, "clear") {
@@ -195,7 +195,7 @@ fn of_page_and(
     offset: &[u8],
     bits: &[u8],
 ) -> Option<DeviceStep>
-    ensures found { ReadsAsStep (name.now ∷ port.now ∷ page.now ∷ offset.now ∷ bits.now ∷ []) result }
+    ensures found { FoundStepHasWords (name.now ∷ port.now ∷ page.now ∷ offset.now ∷ bits.now ∷ []) result }
     ensures only { FindsSpelledStep (name.now ∷ port.now ∷ page.now ∷ offset.now ∷ bits.now ∷ []) result }
 {
     if is_text(name, "lie") {
@@ -206,7 +206,7 @@ fn of_page_and(
 
 /// The step that the device is to do, from its name and the words after it.
 fn step(name: &[u8], words: &[&[u8]]) -> Option<DeviceStep>
-    ensures found { ReadsAsStep (name.now ∷ map (λ w. w.now) words.now) result }
+    ensures found { FoundStepHasWords (name.now ∷ map (λ w. w.now) words.now) result }
     ensures only { FindsSpelledStep (name.now ∷ map (λ w. w.now) words.now) result }
 {
     match words {
@@ -226,7 +226,8 @@ fn trim(
     count: &[u8],
     call: &mut Call<DeviceStep>,
 ) -> Option<()>
-    ensures found { ReadsAsLine (codes "trim" ∷ client.now ∷ grant.now ∷ first.now ∷ count.now ∷ []) result call.new }
+    ensures found { FoundCallHasWords (codes "trim" ∷ client.now ∷ grant.now ∷ first.now ∷ count.now ∷ []) result
+        call.new }
     ensures only { FindsSpelledLine (codes "trim" ∷ client.now ∷ grant.now ∷ first.now ∷ count.now ∷ []) result
         call.new }
 {
@@ -247,7 +248,7 @@ fn trim(
 
 /// The same of the flush that is asked, from the words after `flush`. It names no sectors.
 fn flush(client: &[u8], grant: &[u8], call: &mut Call<DeviceStep>) -> Option<()>
-    ensures found { ReadsAsLine (codes "flush" ∷ client.now ∷ grant.now ∷ []) result call.new }
+    ensures found { FoundCallHasWords (codes "flush" ∷ client.now ∷ grant.now ∷ []) result call.new }
     ensures only { FindsSpelledLine (codes "flush" ∷ client.now ∷ grant.now ∷ []) result call.new }
 {
     let client = fields::parse_client(client)?;
@@ -271,7 +272,8 @@ fn store(
     bytes: &[u8],
     call: &mut Call<DeviceStep>,
 ) -> Option<()>
-    ensures found { ReadsAsLine (codes "store" ∷ client.now ∷ frame.now ∷ offset.now ∷ bytes.now ∷ []) result call.new }
+    ensures found { FoundCallHasWords (codes "store" ∷ client.now ∷ frame.now ∷ offset.now ∷ bytes.now ∷ []) result
+        call.new }
     ensures only { FindsSpelledLine (codes "store" ∷ client.now ∷ frame.now ∷ offset.now ∷ bytes.now ∷ []) result
         call.new }
 {
@@ -296,7 +298,8 @@ fn load(
     count: &[u8],
     call: &mut Call<DeviceStep>,
 ) -> Option<()>
-    ensures found { ReadsAsLine (codes "load" ∷ client.now ∷ frame.now ∷ offset.now ∷ count.now ∷ []) result call.new }
+    ensures found { FoundCallHasWords (codes "load" ∷ client.now ∷ frame.now ∷ offset.now ∷ count.now ∷ []) result
+        call.new }
     ensures only { FindsSpelledLine (codes "load" ∷ client.now ∷ frame.now ∷ offset.now ∷ count.now ∷ []) result
         call.new }
 {
@@ -315,7 +318,7 @@ fn load(
 
 /// The same of the revocation that is asked, from the words after `revoke`.
 fn revoke(client: &[u8], grant: &[u8], call: &mut Call<DeviceStep>) -> Option<()>
-    ensures found { ReadsAsLine (codes "revoke" ∷ client.now ∷ grant.now ∷ []) result call.new }
+    ensures found { FoundCallHasWords (codes "revoke" ∷ client.now ∷ grant.now ∷ []) result call.new }
     ensures only { FindsSpelledLine (codes "revoke" ∷ client.now ∷ grant.now ∷ []) result call.new }
 {
     let client = fields::parse_client(client)?;
@@ -339,7 +342,7 @@ fn make_step(call: &mut Call<DeviceStep>, step: DeviceStep)
 /// call is written, which would have room for a request.
 #[inline(never)]
 fn of_device(words: &[&[u8]], call: &mut Call<DeviceStep>) -> Option<()>
-    ensures found { ReadsAsLine (codes "dev" ∷ map (λ w. w.now) words.now) result call.new }
+    ensures found { FoundCallHasWords (codes "dev" ∷ map (λ w. w.now) words.now) result call.new }
     ensures only { FindsSpelledLine (codes "dev" ∷ map (λ w. w.now) words.now) result call.new }
 {
     let (name, rest) = words.split_first()?;
@@ -354,7 +357,7 @@ fn of_device(words: &[&[u8]], call: &mut Call<DeviceStep>) -> Option<()>
 /// A line that is one word. Where the call is a service already, none is written over it.
 #[inline(never)]
 fn of_word(name: &[u8], call: &mut Call<DeviceStep>) -> Option<()>
-    ensures found { ReadsAsLine (name.now ∷ []) result call.new }
+    ensures found { FoundCallHasWords (name.now ∷ []) result call.new }
     ensures only { FindsSpelledLine (name.now ∷ []) result call.new }
 {
     if is_text(name, "service") {
@@ -392,8 +395,8 @@ fn make_request(call: &mut Call<DeviceStep>)
 /// A read or a write, from the words after its own. A request that is in the place already keeps its room for frames.
 #[inline(never)]
 fn of_transfer(op: Op, words: &[&[u8]], call: &mut Call<DeviceStep>) -> Option<()>
-    requires { (r : Request) → IsSpellable op r × (request_words op r ≡ transfer_words r) }
-    ensures found { ReadsAsLine (op_word op ∷ map (λ w. w.now) words.now) result call.new }
+    requires { (r : Request) → HasNoFieldsWithoutWord op r × (request_words op r ≡ transfer_words r) }
+    ensures found { FoundCallHasWords (op_word op ∷ map (λ w. w.now) words.now) result call.new }
     ensures only { FindsSpelledLine (op_word op ∷ map (λ w. w.now) words.now) result call.new }
 {
     if !matches!(call, Call::Submit(_)) {
@@ -408,7 +411,7 @@ fn of_transfer(op: Op, words: &[&[u8]], call: &mut Call<DeviceStep>) -> Option<(
 /// A trim, from the words after `trim`.
 #[inline(never)]
 fn of_trim(words: &[&[u8]], call: &mut Call<DeviceStep>) -> Option<()>
-    ensures found { ReadsAsLine (codes "trim" ∷ map (λ w. w.now) words.now) result call.new }
+    ensures found { FoundCallHasWords (codes "trim" ∷ map (λ w. w.now) words.now) result call.new }
     ensures only { FindsSpelledLine (codes "trim" ∷ map (λ w. w.now) words.now) result call.new }
 {
     match words {
@@ -420,7 +423,7 @@ fn of_trim(words: &[&[u8]], call: &mut Call<DeviceStep>) -> Option<()>
 /// A flush, from the words after `flush`.
 #[inline(never)]
 fn of_flush(words: &[&[u8]], call: &mut Call<DeviceStep>) -> Option<()>
-    ensures found { ReadsAsLine (codes "flush" ∷ map (λ w. w.now) words.now) result call.new }
+    ensures found { FoundCallHasWords (codes "flush" ∷ map (λ w. w.now) words.now) result call.new }
     ensures only { FindsSpelledLine (codes "flush" ∷ map (λ w. w.now) words.now) result call.new }
 {
     match words {
@@ -432,7 +435,7 @@ fn of_flush(words: &[&[u8]], call: &mut Call<DeviceStep>) -> Option<()>
 /// A store, from the words after `store`.
 #[inline(never)]
 fn of_store(words: &[&[u8]], call: &mut Call<DeviceStep>) -> Option<()>
-    ensures found { ReadsAsLine (codes "store" ∷ map (λ w. w.now) words.now) result call.new }
+    ensures found { FoundCallHasWords (codes "store" ∷ map (λ w. w.now) words.now) result call.new }
     ensures only { FindsSpelledLine (codes "store" ∷ map (λ w. w.now) words.now) result call.new }
 {
     match words {
@@ -444,7 +447,7 @@ fn of_store(words: &[&[u8]], call: &mut Call<DeviceStep>) -> Option<()>
 /// A load, from the words after `load`.
 #[inline(never)]
 fn of_load(words: &[&[u8]], call: &mut Call<DeviceStep>) -> Option<()>
-    ensures found { ReadsAsLine (codes "load" ∷ map (λ w. w.now) words.now) result call.new }
+    ensures found { FoundCallHasWords (codes "load" ∷ map (λ w. w.now) words.now) result call.new }
     ensures only { FindsSpelledLine (codes "load" ∷ map (λ w. w.now) words.now) result call.new }
 {
     match words {
@@ -456,7 +459,7 @@ fn of_load(words: &[&[u8]], call: &mut Call<DeviceStep>) -> Option<()>
 /// A revocation, from the words after `revoke`.
 #[inline(never)]
 fn of_revoke(words: &[&[u8]], call: &mut Call<DeviceStep>) -> Option<()>
-    ensures found { ReadsAsLine (codes "revoke" ∷ map (λ w. w.now) words.now) result call.new }
+    ensures found { FoundCallHasWords (codes "revoke" ∷ map (λ w. w.now) words.now) result call.new }
     ensures only { FindsSpelledLine (codes "revoke" ∷ map (λ w. w.now) words.now) result call.new }
 {
     match words {
@@ -468,7 +471,7 @@ fn of_revoke(words: &[&[u8]], call: &mut Call<DeviceStep>) -> Option<()>
 /// A port's state, from the words after `state`.
 #[inline(never)]
 fn of_state(words: &[&[u8]], call: &mut Call<DeviceStep>) -> Option<()>
-    ensures found { ReadsAsLine (codes "state" ∷ map (λ w. w.now) words.now) result call.new }
+    ensures found { FoundCallHasWords (codes "state" ∷ map (λ w. w.now) words.now) result call.new }
     ensures only { FindsSpelledLine (codes "state" ∷ map (λ w. w.now) words.now) result call.new }
 {
     match words {
@@ -485,7 +488,7 @@ fn of_state(words: &[&[u8]], call: &mut Call<DeviceStep>) -> Option<()>
 fn parse_other_line(name: &[u8], words: &[&[u8]], call: &mut Call<DeviceStep>) -> Option<()>
     requires name { (name.now ≡ codes "read" → ⊥) × (name.now ≡ codes "write" → ⊥) × (name.now ≡ codes "dev" → ⊥) }
     requires more { 1 ≤ length words.now }
-    ensures found { ReadsAsLine (name.now ∷ map (λ w. w.now) words.now) result call.new }
+    ensures found { FoundCallHasWords (name.now ∷ map (λ w. w.now) words.now) result call.new }
     ensures only { FindsSpelledLine (name.now ∷ map (λ w. w.now) words.now) result call.new }
 {
     if is_text(name, "trim") {
@@ -512,7 +515,7 @@ fn parse_other_line(name: &[u8], words: &[&[u8]], call: &mut Call<DeviceStep>) -
 /// Reads what a line's first word and those after it ask. Each kind of line has a function of its own, so that what one
 /// kind has room for is cleared for that kind alone.
 fn asked(name: &[u8], words: &[&[u8]], call: &mut CallBuffer) -> Option<()>
-    ensures found { ReadsAsLine (name.now ∷ map (λ w. w.now) words.now) result call.new }
+    ensures found { FoundCallHasWords (name.now ∷ map (λ w. w.now) words.now) result call.new }
     ensures only { FindsSpelledLine (name.now ∷ map (λ w. w.now) words.now) result call.new }
 {
     call.last = CallPart::Other;

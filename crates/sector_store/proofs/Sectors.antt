@@ -4,7 +4,7 @@ use Rattle.std.specs.Prelude.{slice_set, ◌++◌, ◌-◌, ◌≤◌, ◌∷◌
 use Rattle.std.proofs.lemmas.Bool.Decides.{eqb_tells}
 use Rattle.std.proofs.lemmas.List.{set-append_left, length-set, append_assoc, replicate-append-replicate, length-replicate}
 use Rattle.std.proofs.Common.{length-append}
-use Rattle.sector_store.specs.Stores.{AreSectors, IsStoredSector, followed_by_zeros, with_sector}
+use Rattle.sector_store.specs.Stores.{AreSectors, IsSectorBytes, followed_by_zeros, with_sector}
 
 -- one sector replaced
 pub sectors_set : (xs : List (List ℕ)) (p : ℕ) (new : List ℕ) → p < length xs →
@@ -24,7 +24,7 @@ each_same P x d zero k here lt = absurd (omega arith)
 each_same P x d (suc n) zero here lt = here
 each_same P x d (suc n) (suc k) here lt = each_same P x d n k here (omega arith)
 
-pub zero_sector : IsStoredSector (replicate 512 0)
+pub zero_sector : IsSectorBytes (replicate 512 0)
 zero_sector = (refl, λ k d lt. each_same (λ b. b < 256) 0 d 512 k (omega arith) lt)
 
 -- behind what was written there are zeros, of which so many more may be written
@@ -56,7 +56,7 @@ sector_rewritten size p xs new small =
 
 -- where sectors are told, one of them replaced, they still are
 pub replaced_are_sectors : (size p : ℕ) (told : ℕ → List ℕ) (new : List ℕ) → AreSectors size (Some told)
-    → IsStoredSector new → AreSectors size (Some (with_sector told p new))
+    → IsSectorBytes new → AreSectors size (Some (with_sector told p new))
 replaced_are_sectors size p told new are is k lt =
     elim (eqb_tells k p) [
       | inl same ↦ rw same.0 is
@@ -67,5 +67,5 @@ replaced_are_sectors size p told new are is k lt =
 pub zeros_are_sectors : (size : ℕ) → AreSectors size (Some (λ k. slice_index_or (followed_by_zeros size []) k []))
 zeros_are_sectors size =
     let all : followed_by_zeros size [] ≡ replicate size (replicate 512 0) = ap (λ n. replicate n (replicate 512 0)) (omega arith) in
-    λ k lt. subst (λ (l : List (List ℕ)). IsStoredSector (slice_index_or l k [])) (sym all)
-    (each_same IsStoredSector (replicate 512 0) [] size k zero_sector (simp length-replicate lt))
+    λ k lt. subst (λ (l : List (List ℕ)). IsSectorBytes (slice_index_or l k [])) (sym all)
+    (each_same IsSectorBytes (replicate 512 0) [] size k zero_sector (simp length-replicate lt))

@@ -45,9 +45,9 @@ unfilled serial sectors a number past =
       trim_support_is = λ e. absurd (omega (arith, e, past));
       depth_is = λ e. absurd (omega (arith, e, past));
       queuing_is = λ e. absurd (omega (arith, e, past));
-      feature_sets_are = λ e. absurd (omega (arith, e, past));
+      word_83_is = λ e. absurd (omega (arith, e, past));
       sectors_are = λ _ less. absurd (omega (arith, less, past));
-      function_is = λ either. absurd (elim either [ inl e ↦ omega (arith, e, past) | inr e ↦ omega (arith, e, past) ]);
+      trim_function_is = λ either. absurd (elim either [ inl e ↦ omega (arith, e, past) | inr e ↦ omega (arith, e, past) ]);
       sector_size_is = λ e. absurd (omega (arith, e, past));
       others_are = λ _ _ _ _ _ _ _ _ _. refl;
     }

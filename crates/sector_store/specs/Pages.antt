@@ -34,9 +34,9 @@ pub record IsIdentifyWord (serial : List ℕ) (sectors : ℕ) (a : Abilities) (n
   pub trim_support_is : number ≡ 69 → w ≡ trim_support_word a.trim
   pub depth_is : number ≡ 75 → w ≡ a.depth - 1
   pub queuing_is : number ≡ 76 → w ≡ (if a.ncq then 0x100 else 0)
-  pub feature_sets_are : number ≡ 83 → w ≡ 0x6400
+  pub word_83_is : number ≡ 83 → w ≡ 0x6400
   pub sectors_are : 100 ≤ number → number < 104 → w ≡ sectors / 2 ^ (16 * (number - 100)) % 2 ^ 16
-  pub function_is : (number ≡ 105) ⊎ (number ≡ 169) → w ≡ trim_function_word a.trim
+  pub trim_function_is : (number ≡ 105) ⊎ (number ≡ 169) → w ≡ trim_function_word a.trim
   pub sector_size_is : number ≡ 106 → w ≡ 0x4000
   pub others_are : (number < 10) ⊎ (20 ≤ number) → number ≢ 69 → number ≢ 75 → number ≢ 76 → number ≢ 83
       → (number < 100) ⊎ (104 ≤ number) → number ≢ 105 → number ≢ 106 → number ≢ 169 → w ≡ 0

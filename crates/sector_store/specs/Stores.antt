@@ -3,8 +3,8 @@ use Rattle.std.specs.Prelude.{ℕ, Bool, true, false, ◌≡◌, ◌+◌, ◌-�
 use Rattle.sector_store.specs.declared.store.Failures.{Failures}
 
 -- the bytes of a sector
-abbrev pub IsStoredSector : List ℕ → Type 0
-IsStoredSector bytes = (length bytes ≡ 512) × All (λ byte. byte < 256) bytes
+abbrev pub IsSectorBytes : List ℕ → Type 0
+IsSectorBytes bytes = (length bytes ≡ 512) × All (λ byte. byte < 256) bytes
 
 -- these sectors, but for one, which has other bytes
 abbrev pub with_sector : (ℕ → List ℕ) → ℕ → List ℕ → ℕ → List ℕ
@@ -12,7 +12,7 @@ with_sector told sector bytes = λ k. if nat_eq k sector then bytes else told k
 
 -- where they are told, these are so many sectors
 abbrev pub AreSectors : ℕ → Option (ℕ → List ℕ) → Type 0
-AreSectors size told = IfSome told (λ f. (k : ℕ) → k < size → IsStoredSector (f k))
+AreSectors size told = IfSome told (λ f. (k : ℕ) → k < size → IsSectorBytes (f k))
 
 -- so many sectors, these and zeros behind them
 abbrev pub followed_by_zeros : ℕ → List (List ℕ) → List (List ℕ)
@@ -38,7 +38,7 @@ pub record ReadsSector {S : Type 0} (size : S → ℕ) (told : S → Option (ℕ
     (sector : ℕ) (old new : S) (before after : List ℕ) (done : Bool) : Type 0 where
   pub is_inside : done ≡ true → sector < size old
   pub bytes_are_told : done ≡ true → IfSome (told old) (λ told. after ≡ told sector)
-  pub is_sector : done ≡ true → IsStoredSector after
+  pub is_sector : done ≡ true → IsSectorBytes after
   pub place_is_kept : done ≡ false → after ≡ before
   pub no_call_fails : (done ≡ true) ⊎ (size old ≤ sector) → failures new ≡ failures old
   pub failure_is_noted : done ≡ false → sector < size old → HasOneMoreFailure false sector (failures old) (failures new)

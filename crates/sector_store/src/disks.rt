@@ -18,7 +18,7 @@ impl SectorStore for DiskStore {
 
     ghost failures = { failures_of };
 
-    ghost tells_sectors = { elim [ File file ↦ tt | Memory memory ↦ memory.are_sectors ] };
+    ghost told_sectors_are_valid = { elim [ File file ↦ tt | Memory memory ↦ memory.are_sectors ] };
 
     ghost fits = { elim [ File file ↦ file.few | Memory memory ↦ memory.few ] };
 

@@ -1,6 +1,6 @@
 // A disk over an open file.
 ghost use Rattle.std.specs.Prelude.{◌≡◌, ◌↔◌, ◌<◌, ◌≤◌, ◌*◌, ◌/◌, ◌^◌, Some, None, IsTrue, true, false};
-ghost use Rattle.sector_store.specs.Stores.{HasOneMoreFailure, IsStoredSector};
+ghost use Rattle.sector_store.specs.Stores.{HasOneMoreFailure, IsSectorBytes};
 
 use crate::sector_file::SectorFile;
 use crate::{Failures, SectorStore};
@@ -99,7 +99,7 @@ impl SectorStore for FileStore {
 
     ghost failures = { λ s. Some s.failures };
 
-    ghost tells_sectors = { λ _. tt };
+    ghost told_sectors_are_valid = { λ _. tt };
 
     ghost fits = { λ s. s.few };
 

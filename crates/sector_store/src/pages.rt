@@ -1,6 +1,6 @@
 // The pages by which a disk says what it is, and which queued command failed.
 ghost use Rattle.std.specs.Prelude.{◌≡◌, ◌<◌, ◌≤◌, ◌%◌, All, length, sum};
-ghost use Rattle.sector_store.specs.{Pages.{IsLogPage, IsIdentifyPage, IsIdentifyWord, character, logged_error_byte, logged_status, logged_tag, trim_function_word, trim_support_word}, Stores.{IsStoredSector}};
+ghost use Rattle.sector_store.specs.{Pages.{IsLogPage, IsIdentifyPage, IsIdentifyWord, character, logged_error_byte, logged_status, logged_tag, trim_function_word, trim_support_word}, Stores.{IsSectorBytes}};
 
 /// What a disk says of DATA SET MANAGEMENT with TRIM.
 #[derive(Clone, Copy, Debug, Default, PartialEq, Eq)]
@@ -117,7 +117,7 @@ fn sum_of(page: &[u8]) -> u8
 pub fn identify_page(serial: &[u8], sectors: u64, abilities: Abilities) -> [u8; 512]
     requires { length serial.now ≤ 20 }
     ensures page { IsIdentifyPage serial.now sectors abilities result }
-    ensures bytes { IsStoredSector result }
+    ensures bytes { IsSectorBytes result }
 {
     let mut page = [0; 512];
     for number in 0..FILLED_WORDS {
@@ -160,7 +160,7 @@ fn log_error(failed: Option<LoggedError>) -> u8
 /// The page that READ LOG EXT brings of log 10h (ACS-3, A.14): it names the queued command that failed, or none.
 pub fn log_page(failed: Option<LoggedError>) -> [u8; 512]
     ensures page { IsLogPage failed result }
-    ensures bytes { IsStoredSector result }
+    ensures bytes { IsSectorBytes result }
 {
     let mut log = [0; 512];
     log[0] = log_tag(failed);

@@ -1,6 +1,6 @@
 // A file as sectors, some of which are read ahead.
 ghost use Rattle.std.specs.Prelude.{◌≡◌, ◌<◌, ◌≤◌, ◌+◌, ◌-◌, ◌*◌, ◌^◌, IfOk, length, take, true, false};
-ghost use Rattle.sector_store.specs.{declared.sector_file.TheConstants.{MOST_SECTORS, QUARTER_BYTES}, Stores.{IsStoredSector, first_untaken_sector}};
+ghost use Rattle.sector_store.specs.{declared.sector_file.TheConstants.{MOST_SECTORS, QUARTER_BYTES}, Stores.{IsSectorBytes, first_untaken_sector}};
 
 use std::alloc::{AllocError, Global};
 use std::fs::File;
@@ -73,7 +73,7 @@ fn copy_quarter(bytes: &[u8], out: &mut [u8; 512], at: usize)
 pub(crate) fn copy(bytes: &[u8], out: &mut [u8; 512])
     requires { length bytes.now ≡ 512 }
     ensures same { out.new ≡ bytes.now }
-    ensures bytes { IsStoredSector out.new }
+    ensures bytes { IsSectorBytes out.new }
 {
     copy_quarter(bytes, out, 0);
     copy_quarter(bytes, out, QUARTER_BYTES);
@@ -119,7 +119,7 @@ impl SectorFile {
     pub fn copy_next(&mut self, sector: u64, out: &mut [u8; 512]) -> bool
         ensures copies_only_next { result ≡ true → (sector ≡ self.old.next) × (sector < self.old.end)
             × (out.new ≡ first_untaken_sector self.old.room.items (self.old.end - sector)) }
-        ensures bytes { result ≡ true → IsStoredSector out.new }
+        ensures bytes { result ≡ true → IsSectorBytes out.new }
         ensures out_is_kept_if_not_next { result ≡ false → out.new ≡ out.old }
         ensures next_is_after { result ≡ true → self.new.next ≡ sector + 1 }
         ensures room_is_kept { (self.new.end ≡ self.old.end) × (self.new.room.items ≡ self.old.room.items) }
@@ -137,7 +137,7 @@ impl SectorFile {
     /// Copies a sector, which alone is read.
     pub fn read(&mut self, sector: u64, out: &mut [u8; 512]) -> bool
         requires { 512 * (sector + 1) ≤ 2 ^ 64 }
-        ensures bytes { result ≡ true → IsStoredSector out.new }
+        ensures bytes { result ≡ true → IsSectorBytes out.new }
         ensures out_is_kept_if_failed { result ≡ false → out.new ≡ out.old }
         ensures read_ahead_is_forgotten { self.new.end ≤ self.new.next }
         ensures end { self.new.end ≤ sector + 1 }
@@ -152,7 +152,7 @@ impl SectorFile {
     #[inline(never)]
     pub fn read_with_following(&mut self, sector: u64, ahead: u64, out: &mut [u8; 512]) -> bool
         requires { 512 * (sector + ahead + 1) ≤ 2 ^ 64 }
-        ensures bytes { result ≡ true → IsStoredSector out.new }
+        ensures bytes { result ≡ true → IsSectorBytes out.new }
         ensures out_is_kept_if_failed { result ≡ false → out.new ≡ out.old }
         ensures failed_read_forgets_ahead { result ≡ false → self.new.end ≤ self.new.next }
         ensures end { self.new.end ≤ sector + ahead + 1 }

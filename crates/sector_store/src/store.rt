@@ -51,7 +51,7 @@ pub trait SectorStore: Drop {
             result };
 
     /// What it tells are sectors.
-    ghost tells_sectors: { (s : Self) → AreSectors (size s) (told s) };
+    ghost told_sectors_are_valid: { (s : Self) → AreSectors (size s) (told s) };
 
     /// Each of its sectors has a number.
     ghost fits: { (s : Self) → size s < 2 ^ 64 };
@@ -108,7 +108,7 @@ impl SectorStore for MemStore {
 
     ghost failures = { λ _. None };
 
-    ghost tells_sectors = { λ s. s.are_sectors };
+    ghost told_sectors_are_valid = { λ s. s.are_sectors };
 
     ghost fits = { λ s. s.few };
 

@@ -34,7 +34,7 @@ use Rattle.block_machine.specs.Steps.{Step, Touch, End, Unplug, Replace, Answer,
 use Rattle.driver_history.specs.Evidence.{ShowsFailure}
 use Rattle.driver_history.specs.Histories.{ExplainsAccesses, IsDriverHistory}
 use Rattle.identify.specs.declared.wanted.Wanted.{Wanted}
-use Rattle.machine_runs.specs.AnswerOrigins.{AsksFor, WasUnansweredBefore, WasAsked, requeues_id}
+use Rattle.machine_runs.specs.AnswerOrigins.{SubmitsAndIsAccepted, WasUnansweredBefore, WasSubmittedAndAccepted, requeues_id}
 use Rattle.server_history.specs.Histories.{StartsHistory, LeadsToServer}
 use Rattle.server_history.specs.ServerState.{ServerState}
 use Rattle.block_server.specs.Promise.{RunsAsPromised}
@@ -45,15 +45,15 @@ use Rattle.arrayvec.specs.ArrayVec.{ArrayVec}
 use Rattle.ata_types.specs.declared.call.Call.{Call}
 use Rattle.ata_types.specs.declared.call.CallResult.{CallResult}
 use Rattle.ata_types.specs.declared.call.CallResult.TheVariants as said
-use Rattle.server_examples.specs.ShownHistories.{HasRun, ReleasesFrame, ShownRunLaws, ServesRead, ServesReadAnew}
+use Rattle.server_examples.specs.ShownHistories.{CallsHaveHistory, ReleasesFrame, ShownRunLaws, ServesRead, ServesReadAnew}
 
 pub has_run : {A : Type 0} (device : A → Device) (old new : ServerView A) (events : List (Call DeviceStep)) (before after : List (CallResult (ArrayVec Reply))) → RunsAsPromised device old new events before after → before ≡ []
-    → StartsHistory (server_of device old) → (device old.adapter).telling ≡ true → HasRun device old new events after
+    → StartsHistory (server_of device old) → (device old.adapter).telling ≡ true → CallsHaveHistory device old new events after
 has_run device old new events before after promised empty begun telling =
     let kept = promised.simulates_calls begun.0 [] begun.1 in
     let whole = append-nil kept.added in
     let is : promised.results ≡ after = sym (promised.results_are ∙ ap (λ (xs : List (CallResult (ArrayVec Reply))). xs ++ promised.results) empty) in
-    subst (HasRun device old new events) is (record {
+    subst (CallsHaveHistory device old new events) is (record {
       initial_state = begun.0;
       history_begins = begun.1;
       past = kept.added;
@@ -91,12 +91,12 @@ grows (h ∷ calls) past (event ∷ events) (one ∷ more) asks says =
     let turned = ap (λ (l : List (JointEvent Device DeviceStep)). l ++ past) (reverse-append (h ∷ []) calls) ∙ append_assoc (reverse calls) (h ∷ []) past in
     (h, asked, told, subst (TapeGrows (h ∷ past) (unanswered_of events more)) (sym turned) (grows calls (h ∷ past) events more asks_on says_on))
 
-grown : {A : Type 0} {device : A → Device} {old new : ServerView A} {events : List (Call DeviceStep)} {some : List (CallResult (ArrayVec Reply))} (r : HasRun device old new events some) → TapeGrows [] (unanswered_of events some) r.past
+grown : {A : Type 0} {device : A → Device} {old new : ServerView A} {events : List (Call DeviceStep)} {some : List (CallResult (ArrayVec Reply))} (r : CallsHaveHistory device old new events some) → TapeGrows [] (unanswered_of events some) r.past
 grown {A} {device} {old} {new} {events} {some} r =
     subst (TapeGrows [] (unanswered_of events some)) (append-nil (reverse (reverse r.past)) ∙ reverse-reverse r.past) (grows (reverse r.past) [] events some r.asks_calls r.says_results)
 
-pub has_said : {A : Type 0} {device : A → Device} {old new : ServerView A} {events : List (Call DeviceStep)} {some other : List (CallResult (ArrayVec Reply))} → HasRun device old new events some → some ≡ other → HasRun device old new events other
-has_said {A} {device} {old} {new} {events} {some} {other} r is = subst (HasRun device old new events) is r
+pub has_said : {A : Type 0} {device : A → Device} {old new : ServerView A} {events : List (Call DeviceStep)} {some other : List (CallResult (ArrayVec Reply))} → CallsHaveHistory device old new events some → some ≡ other → CallsHaveHistory device old new events other
+has_said {A} {device} {old} {new} {events} {some} {other} r is = subst (CallsHaveHistory device old new events) is r
 
 in_middle : {X : Type 0} (late : List X) (x : X) (early : List X) → Contains (late ++ x ∷ early) x
 in_middle late x early = Contains-append_right late (x ∷ early) x (Contains-append_left (x ∷ []) early x (Contains-push [] x))
@@ -104,19 +104,19 @@ in_middle late x early = Contains-append_right late (x ∷ early) x (Contains-ap
 -- ---- who asked
 
 -- a call that isn't a submit asked for nothing
-device_asks_none : (r : Accepted) (event : CallRecord DeviceStep) (step : DeviceStep) → event.call ≡ AskDevice step → AsksFor r event → ⊥
+device_asks_none : (r : Accepted) (event : CallRecord DeviceStep) (step : DeviceStep) → event.call ≡ AskDevice step → SubmitsAndIsAccepted r event → ⊥
 device_asks_none r event step is asks = let e : AskDevice step ≡ AskSubmit r.asked = sym is ∙ asks.0 in cc
 
-state_asks_none : (r : Accepted) (event : CallRecord DeviceStep) (port : Port) → event.call ≡ AskState port → AsksFor r event → ⊥
+state_asks_none : (r : Accepted) (event : CallRecord DeviceStep) (port : Port) → event.call ≡ AskState port → SubmitsAndIsAccepted r event → ⊥
 state_asks_none r event port is asks = let e : ◌≡◌ {A = AbstractCall DeviceStep} (AskState port) (AskSubmit r.asked) = sym is ∙ asks.0 in cc
 
-service_asks_none : (r : Accepted) (event : CallRecord DeviceStep) → event.call ≡ AskService → AsksFor r event → ⊥
+service_asks_none : (r : Accepted) (event : CallRecord DeviceStep) → event.call ≡ AskService → SubmitsAndIsAccepted r event → ⊥
 service_asks_none r event is asks = let e : ◌≡◌ {A = AbstractCall DeviceStep} AskService (AskSubmit r.asked) = sym is ∙ asks.0 in cc
 
-store_asks_none : (r : Accepted) (event : CallRecord DeviceStep) (client : ClientId) (frame : Frame) (offset : ℕ) (bytes : List ℕ) → event.call ≡ StoreAt client frame offset bytes → AsksFor r event → ⊥
+store_asks_none : (r : Accepted) (event : CallRecord DeviceStep) (client : ClientId) (frame : Frame) (offset : ℕ) (bytes : List ℕ) → event.call ≡ StoreAt client frame offset bytes → SubmitsAndIsAccepted r event → ⊥
 store_asks_none r event client frame offset bytes is asks = let e : ◌≡◌ {A = AbstractCall DeviceStep} (StoreAt client frame offset bytes) (AskSubmit r.asked) = sym is ∙ asks.0 in cc
 
-submit_asks : (r : Accepted) (event : CallRecord DeviceStep) (asked : Request) → event.call ≡ AskSubmit asked → AsksFor r event → r.asked ≡ asked
+submit_asks : (r : Accepted) (event : CallRecord DeviceStep) (asked : Request) → event.call ≡ AskSubmit asked → SubmitsAndIsAccepted r event → r.asked ≡ asked
 submit_asks r event asked is asks = let e : ◌≡◌ {A = AbstractCall DeviceStep} (AskSubmit asked) (AskSubmit r.asked) = sym is ∙ asks.0 in cc
 
 -- ---- a read that is answered Ok
@@ -127,7 +127,7 @@ told_alone items reply only = subst (λ (xs : List Reply). Contains xs reply) (s
 
 served_last : (laws : ShownRunLaws) (old new : ServerState) (asked : Request) (first : JointState Device) → LeadsToServer first [] old → (past : List (JointEvent Device DeviceStep)) (last : JointEvent Device DeviceStep)
     → LeadsToServer first (last ∷ past) new → IsRun first.abstract (events_of (last ∷ past)) → EveryReadHoldsExpected first.abstract (events_of (last ∷ past)) → (items : List Reply) (reply : Reply)
-    → last.event.result ≡ Replied items → items ≡ reply ∷ [] → reply.outcome ≡ outcome.Ok → asked.op ≡ Read → ((r : Accepted) → WasAsked r (events_of past) → r.asked ≡ asked) → ServesRead old new asked
+    → last.event.result ≡ Replied items → items ≡ reply ∷ [] → reply.outcome ≡ outcome.Ok → asked.op ≡ Read → ((r : Accepted) → WasSubmittedAndAccepted r (events_of past) → r.asked ≡ asked) → ServesRead old new asked
 served_last laws old new asked first begun past last leads run holds items reply says only ok reads asks =
     let there : Contains (replies_of last.event.result) reply = subst (λ (s : machine.AbstractCallResult). Contains (replies_of s) reply) (sym says) (told_alone items reply only) in
     let told = laws.replied_was_asked first.abstract (events_of past) last.event reply run there in
@@ -146,7 +146,7 @@ served_last laws old new asked first begun past last leads run holds items reply
     }
 
 pub shows_a_read : {A : Type 0} (device : A → Device) (old new : ServerView A) (read : Request) (step : DeviceStep) (id : RequestId) (did : Bool) (replies : List Reply) (reply : Reply) → ShownRunLaws
-    → HasRun device old new (Submit read ∷ Tell step ∷ Service ∷ []) (said.Submitted (Ok id) ∷ said.Stepped did ∷ said.Replied (record { items = replies }) ∷ [])
+    → CallsHaveHistory device old new (Submit read ∷ Tell step ∷ Service ∷ []) (said.Submitted (Ok id) ∷ said.Stepped did ∷ said.Replied (record { items = replies }) ∷ [])
     → replies ≡ reply ∷ [] → reply.outcome ≡ outcome.Ok → read.op ≡ Read → ServesRead (server_of device old) (server_of device new) read
 shows_a_read device old new read step id did replies reply laws r only ok reads =
     let a = grown r in
@@ -193,7 +193,7 @@ count_append p late early = sum_by-append (λ s. cond {A = ℕ} (p s) 1 0) late 
 -- A call of the kind that lets all be: of its steps none is the server's, and ports are what they were.
 record LetsBe (old : AbstractState) (event : CallRecord DeviceStep) : Type 0 where
   issues : (id : RequestId) → IsIssuedIn id event.steps → ⊥
-  asks : (r : Accepted) → AsksFor r event → ⊥
+  asks : (r : Accepted) → SubmitsAndIsAccepted r event → ⊥
   ports : (port : Port) → event.ports.state port ≡ old.ports.state port
   calm : (past : List (CallRecord DeviceStep)) → IsStillStuck (event ∷ past) → IsStillStuck past
 
@@ -311,7 +311,7 @@ lone_of laws wanted first asked id submit one two three fatal service finish c e
     let state : Port → PortState = fatal.event.ports.state in
     let calm : IsStillStuck (events_of (submit ∷ [])) → ⊥ = λ stuck. subst (λ (q : AbstractCall DeviceStep). IsStuckAfterCall q submit.event.result ⊥) c.submits.0 stuck in
     let ready : state e.request.port ≡ Ready = ⊎_elim (λ is. is) (λ dead. absurd (calm (l2.0.calm (events_of (submit ∷ [])) (l3.0.calm (events_of (one ∷ submit ∷ [])) (l4.0.calm (events_of (two ∷ one ∷ submit ∷ [])) (l5.calm (events_of (three ∷ two ∷ one ∷ submit ∷ [])) dead.1))))))
-    (laws.unanswered_where_ready first.abstract (events_of (fatal ∷ three ∷ two ∷ one ∷ submit ∷ [])) e r5 here) in
+    (laws.unanswered_only_where_ready_or_stuck first.abstract (events_of (fatal ∷ three ∷ two ∷ one ∷ submit ∷ [])) e r5 here) in
     let fit = r5.1.ports_are_well_formed in
     let served : fatal.event.ports.served e.request.port ≡ true = ⊎_elim (λ is. is) (λ no. absurd (absent_ready (sym (fit.unserved_are_absent e.request.port no) ∙ ready))) (cases_Bool (fatal.event.ports.served e.request.port)) in
     let of : (n : ℕ) → e.request.port.0 ≡ n → state (record { 0 = n }) ≡ Ready = λ n is. subst (λ (k : ℕ). state (record { 0 = k }) ≡ Ready) is ready in
@@ -342,7 +342,7 @@ issued_first laws first asked id submit e r is says here =
     (λ asks. let e : ◌≡◌ {A = machine.AbstractCallResult} (Submitted (Ok x.request.id)) (Submitted (Ok id)) = sym asks.1 ∙ says in cc)
     (laws.unanswered_was_there_or_asked first.abstract [] submit.event x r h) in
     let ready = ⊎_elim (λ is. is) (λ (dead : ((abstract_after_all first.abstract run).ports.state e.request.port ≡ Dead) × IsStillStuck run).
-    let no : ⊥ = subst (λ (q : AbstractCall DeviceStep). IsStuckAfterCall q submit.event.result ⊥) is dead.1 in absurd no) (laws.unanswered_where_ready first.abstract run e r here) in
+    let no : ⊥ = subst (λ (q : AbstractCall DeviceStep). IsStuckAfterCall q submit.event.result ⊥) is dead.1 in absurd no) (laws.unanswered_only_where_ready_or_stuck first.abstract run e r here) in
     let issued = laws.lone_request_is_issued first.abstract run e r here ready (λ x h. its x h ∙ sym (its e here)) in
     let counted = (laws.issues_are_counted first.abstract.machine (steps_of run) e legal.0 legal.1 (subst (λ (m : Machine). Contains m.book e) legal.2 here)).1 in
     let one : ◌≡◌ {A = ℕ} (cond e.issued 1 0) 1 = ap (λ (b : Bool). cond {A = ℕ} b 1 0) issued in
@@ -395,7 +395,7 @@ went_again laws wanted first asked id submit one two three fatal service finish 
     (twice, omega (arith, twice, counted, is_one))
 
 pub shows_a_read_anew : {A : Type 0} (device : A → Device) (old new : ServerView A) (read : Request) (step : DeviceStep) (id : RequestId) (before replies : List Reply) (reply : Reply) → ShownRunLaws
-    → HasRun device old new
+    → CallsHaveHistory device old new
     (Submit read ∷ State (record { 0 = 1 }) ∷ State (record { 0 = 2 }) ∷ State (record { 0 = 3 }) ∷ Tell (Fatal port_0 Interface) ∷ Service ∷ Tell step ∷ Service ∷ [])
     (said.Submitted (Ok id) ∷ said.State Absent ∷ said.State Absent ∷ said.State Absent ∷ said.Stepped true ∷ said.Replied (record { items = before }) ∷ said.Stepped true
     ∷ said.Replied (record { items = replies }) ∷ [])
@@ -438,7 +438,7 @@ shows_a_read_anew device old new read step id before replies reply laws r only o
     let went = went_again laws new.wanted r.initial_state read id a.0 b.0 c.0 d.0 e.0 f.0 g.0 restarted was.pending was.is_in_book was.issued in
     record {
       serves = serves;
-      was_issued_twice = subst (λ (i : RequestId). 2 ≤ count_by (issues_id i) (steps_of (events_of past))) was.id_is went.0;
+      was_issued_at_least_twice = subst (λ (i : RequestId). 2 ≤ count_by (issues_id i) (steps_of (events_of past))) was.id_is went.0;
       was_requeued = subst (λ (i : RequestId). 1 ≤ count_by (requeues_id i) (steps_of (events_of past))) was.id_is went.1;
     }
   where
@@ -464,7 +464,7 @@ some_of None is = absurd (false≢true is)
 some_of (Some x) is = (x, refl)
 
 -- the id that a submit gave
-id_given : (r : Accepted) (event : CallRecord DeviceStep) (id : RequestId) → event.result ≡ Submitted (Ok id) → AsksFor r event → r.id ≡ id
+id_given : (r : Accepted) (event : CallRecord DeviceStep) (id : RequestId) → event.result ≡ Submitted (Ok id) → SubmitsAndIsAccepted r event → r.id ≡ id
 id_given r event id says asks = let e : Submitted (Ok r.id) ≡ Submitted (Ok id) = sym asks.1 ∙ says in cc
 
 -- a store that is told to be done
@@ -488,7 +488,7 @@ reset_releases old event is says answered =
 
 pub shows_a_release : {A : Type 0} (device : A → Device) (old new : ServerView A) (request : Request) (client : ClientId) (frame : Frame) (bytes last_bytes : List ℕ) (id : RequestId) (replies : List Reply) (reply : Reply)
     (others : List Reply) → ShownRunLaws
-    → HasRun device old new
+    → CallsHaveHistory device old new
     (Tell (Hold port_0) ∷ Tell (Fatal port_0 HostBus) ∷ Submit request ∷ Service ∷ ClientStore client frame 0 (record { items = bytes }) ∷ Reset ∷ ClientStore client frame 0 (record { items = last_bytes }) ∷ [])
     (said.Stepped true ∷ said.Stepped true ∷ said.Submitted (Ok id) ∷ said.Replied (record { items = replies }) ∷ said.Stored (Err FrameLent) ∷ said.WasReset (Ok (record { items = others }))
     ∷ said.Stored (Ok tt) ∷ [])
@@ -508,7 +508,7 @@ shows_a_release device old new request client frame bytes last_bytes id replies 
     let there : Contains (replies_of d.0.event.result) reply = subst (λ (s : machine.AbstractCallResult). Contains (replies_of s) reply) (sym d.2) (told_alone replies reply only) in
     let told = laws.replied_was_asked r.initial_state.abstract (events_of before) d.0.event reply run.0.0.0 there in
     let answered : Contains d.0.event.steps (Answer told.0 outcome.PortDead) = subst (λ (o : Outcome). Contains d.0.event.steps (Answer told.0 o)) dead told.1 in
-    let given_then : (x : Accepted) → WasAsked x (events_of before) → x.id ≡ id = λ x asked.
+    let given_then : (x : Accepted) → WasSubmittedAndAccepted x (events_of before) → x.id ≡ id = λ x asked.
     ⊎_elim (λ now. id_given x c.0.event id c.2 now)
     (λ more. ⊎_elim (λ now. absurd (device_asks_none x b.0.event _ b.1 now))
     (λ rest. ⊎_elim (λ now. absurd (device_asks_none x a.0.event _ a.1 now)) (λ no. absurd no) rest) more) asked in

@@ -22,8 +22,8 @@ use Rattle.driver_history.specs.Claims.{HandlesShownFailure}
 use Rattle.driver_history.specs.Evidence.{ShowsFailure}
 use Rattle.driver_history.specs.Histories.{IsDriverHistory}
 use Rattle.identify.specs.declared.wanted.Wanted.{Wanted}
-use Rattle.machine_runs.specs.AnswerOrigins.{AsksFor, WasUnansweredBefore, CallAnswersOk, WasAsked, requeues_id}
-use Rattle.server_history.specs.Histories.{LeadsToServer}
+use Rattle.machine_runs.specs.AnswerOrigins.{SubmitsAndIsAccepted, WasUnansweredBefore, CallAnswersOk, WasSubmittedAndAccepted, requeues_id}
+use Rattle.server_history.specs.Histories.{LeadsToServer, StartsHistory}
 use Rattle.server_history.specs.ServerState.{ServerState}
 use Rattle.block_server.specs.AbstractCalls.{abstract_call_of, machine_result_of}
 use Rattle.block_server.specs.ServerView.{ServerView, server_of}
@@ -32,9 +32,14 @@ use Rattle.ata_types.specs.declared.call.Call.{Call}
 use Rattle.ata_types.specs.declared.call.CallResult.{CallResult}
 use Rattle.ata_types.specs.declared.call.CallResult.TheVariants as says
 
+-- A history begins with the new server, over disks that tell their sectors.
+pub record StartsToldHistory {A : Type 0} (device : A → Device) (s : ServerView A) : Type 0 where
+  pub starts_history : StartsHistory (server_of device s)
+  pub disks_tell_sectors : (device s.adapter).telling ≡ true
+
 -- These calls of a new server said this: a history leads to the server before them without calls, and with theirs to
 -- the server after them. It is a run, and each read that it answers Ok holds what was left.
-pub record HasRun {A : Type 0} (device : A → Device) (old new : ServerView A) (asked : List (Call DeviceStep))
+pub record CallsHaveHistory {A : Type 0} (device : A → Device) (old new : ServerView A) (asked : List (Call DeviceStep))
     (said : List (CallResult (ArrayVec Reply))) : Type 0 where
   pub initial_state : JointState Device
   pub history_begins : LeadsToServer initial_state [] (server_of device old)
@@ -63,7 +68,7 @@ pub record ServesRead (old new : ServerState) (asked : Request) : Type 0 where
 -- And before that last call it was issued twice, and made to wait again.
 pub record ServesReadAnew (old new : ServerState) (asked : Request) : Type 0 where
   pub serves : ServesRead old new asked
-  pub was_issued_twice : 2 ≤ count_by (issues_id serves.read.request.id) (steps_of (events_of serves.past))
+  pub was_issued_at_least_twice : 2 ≤ count_by (issues_id serves.read.request.id) (steps_of (events_of serves.past))
   pub was_requeued : 1 ≤ count_by (requeues_id serves.read.request.id) (steps_of (events_of serves.past))
 
 -- A history leads from the new server to the other one, in which what was asked for is answered PortDead, and this
@@ -118,12 +123,12 @@ pub record ShownRunLaws : Type 0 where
       → IsLegal start history → (after start history).lent frame ≡ Some id
       → (r : Accepted) × WasAccepted start history r × (r.id ≡ id) × HasFrame r frame
   pub accepted_was_asked : (first : AbstractState) (run : List (CallRecord DeviceStep)) (r : Accepted) → IsRun first run
-      → WasAccepted first.machine (steps_of run) r → WasAsked r run
+      → WasAccepted first.machine (steps_of run) r → WasSubmittedAndAccepted r run
   pub replied_was_asked : (first : AbstractState) (past : List (CallRecord DeviceStep)) (event : CallRecord DeviceStep)
       (reply : Reply)
       → IsRun first (event ∷ past) → Contains (replies_of event.result) reply → (e : Pending)
       × Contains event.steps (Answer e reply.outcome) × (e.request.id ≡ reply.id)
-      × (e.request.asked.client ≡ reply.client) × WasAsked e.request past
+      × (e.request.asked.client ≡ reply.client) × WasSubmittedAndAccepted e.request past
   pub answers_are_lawful : (first : AbstractState) (past : List (CallRecord DeviceStep)) (event : CallRecord DeviceStep)
       (e : Pending) (o : Outcome)
       → IsRun first (event ∷ past) → Contains event.steps (Answer e o)
@@ -132,7 +137,7 @@ pub record ShownRunLaws : Type 0 where
   pub unanswered_was_there_or_asked : (first : AbstractState) (past : List (CallRecord DeviceStep))
       (event : CallRecord DeviceStep) (e : Pending)
       → IsRun first (event ∷ past) → Contains (abstract_after_all first (event ∷ past)).machine.book e
-      → WasUnansweredBefore (abstract_after_all first past).machine event.steps e ⊎ AsksFor e.request event
+      → WasUnansweredBefore (abstract_after_all first past).machine event.steps e ⊎ SubmitsAndIsAccepted e.request event
   pub ok_was_served : (first : AbstractState) (past : List (CallRecord DeviceStep)) (event : CallRecord DeviceStep)
       (e : Pending)
       → IsRun first (event ∷ past) → EveryReadHoldsExpected first (event ∷ past) → Contains event.steps (Answer e Ok)
@@ -148,7 +153,7 @@ pub record ShownRunLaws : Type 0 where
       → IsLegal start history
       → Contains (after start history).book e → (count_by (issues_id e.request.id) history ≡ e.issue_count)
       × (count_by (issues_id e.request.id) history ≡ count_by (requeues_id e.request.id) history + cond e.issued 1 0)
-  pub unanswered_where_ready : (first : AbstractState) (run : List (CallRecord DeviceStep)) (e : Pending)
+  pub unanswered_only_where_ready_or_stuck : (first : AbstractState) (run : List (CallRecord DeviceStep)) (e : Pending)
       → IsRun first run
       → Contains (abstract_after_all first run).machine.book e
       → ((abstract_after_all first run).ports.state e.request.port ≡ Ready)

@@ -3,8 +3,7 @@
 //! is proved then; a test makes the server, and has it answer yes.
 ghost use Rattle.std.specs.Prelude.{◌≡◌, IfSome, IsTrue, List, [], ◌∷◌, Ok, Err, true};
 ghost use Rattle.ata_types.specs.declared.request.Reply.{Reply};
-ghost use Rattle.server_examples.specs.ShownHistories.{HasRun, SaysFrameIsReleased, SaysServedAfterSecondService, SaysServedAtOnce, ReleasesFrame, ShownRunLaws, ServesRead, ServesReadAnew};
-ghost use Rattle.server_history.specs.Histories.{StartsHistory};
+ghost use Rattle.server_examples.specs.ShownHistories.{CallsHaveHistory, SaysFrameIsReleased, SaysServedAfterSecondService, SaysServedAtOnce, ReleasesFrame, ShownRunLaws, ServesRead, ServesReadAnew, StartsToldHistory};
 ghost use Rattle.block_server.specs.ServerView.{server_of};
 
 use adapter::{DeviceStep, FatalError, Stepped};
@@ -15,7 +14,7 @@ use ata_types::{
 };
 use block_machine::laws::{law_lent_was_accepted, law_runs_are_legal};
 use block_server::{CallResults, Server};
-use driver_history::troubles::law_shown_failures_are_heeded;
+use driver_history::troubles::law_services_heed_shown_failures;
 use machine_runs::laws::{
     law_a_lone_request_is_issued, law_accepted_was_asked, law_answers_are_lawful,
     law_issues_are_counted, law_ok_was_served, law_replied_was_asked,
@@ -37,24 +36,32 @@ fn law_shown_run_prerequisites()
     law_a_lone_request_is_issued::<DeviceStep>();
     law_issues_are_counted();
     law_unanswered_on_ready_or_stuck::<DeviceStep>();
-    law_shown_failures_are_heeded();
+    law_services_heed_shown_failures();
 }
 
-/// What calls of a new server say, one after another. None where memory for that is refused.
+/// What calls of a new server say, one after another. None where memory for that is refused. It has the laws on runs.
 fn calls<A: Stepped>(
     alloc: Global,
     server: &mut Server<A>,
     asked: &[Call<DeviceStep>],
 ) -> Option<Vec<CallResult>>
-    requires begun { StartsHistory (server_of A.device server.old) }
-    requires telling { (A.device server.old.adapter).telling ≡ true }
-    ensures { IfSome result (λ said. HasRun A.device server.old server.new asked.now said.items) }
+    requires { StartsToldHistory A.device server.old }
+    ensures has_run { IfSome result (λ said. CallsHaveHistory A.device server.old server.new asked.now said.items) }
+    ensures laws { ShownRunLaws }
 {
+    law_shown_run_prerequisites();
     let mut said = CallResults::new(alloc);
     match server.run(asked, &mut said) {
         Ok(()) => said.into_list().ok(),
         Err(_) => None,
     }
+}
+
+/// Whether the call asks for a read.
+fn is_read(call: &Call<DeviceStep>) -> bool
+    ensures { IsTrue result → (asked : Request) × (call.now ≡ Call.Submit asked) × (asked.op ≡ Op.Read) }
+{
+    matches!(call, Call::Submit(asked) if asked.op == Op::Read)
 }
 
 /// Whether the call accepted a request.
@@ -117,31 +124,23 @@ fn is_stored(said: &CallResult) -> bool
 fn is_reset(said: &CallResult) -> bool
     ensures { IsTrue result → said.now ≡ CallResult.WasReset (Ok (record { items = [] })) }
 {
-    match said {
-        CallResult::WasReset(Ok(replies)) => replies.is_empty(),
-        _ => false,
-    }
+    matches!(said, CallResult::WasReset(Ok(replies)) if replies.is_empty())
 }
 
 /// A read is accepted, its device does all of it, and a service answers it Ok.
 pub fn serves_a_read<A: Stepped>(alloc: Global, server: &mut Server<A>, read: Request) -> bool
-    requires starts_history { StartsHistory (server_of A.device server.old) }
-    requires disks_tell_sectors { (A.device server.old.adapter).telling ≡ true }
+    requires { StartsToldHistory A.device server.old }
     ensures { IsTrue result → ServesRead (server_of A.device server.old) (server_of A.device server.new) read }
 {
-    law_shown_run_prerequisites();
-    let Op::Read = read.op else {
-        return false;
-    };
     let asked = [
         Call::Submit(read),
         Call::Device(DeviceStep::Finish(Port(0), Slot(0))),
         Call::Service,
     ];
-    let Some(said) = calls(alloc, server, &asked) else {
-        return false;
-    };
-    is_served_at_once(&said)
+    match calls(alloc, server, &asked) {
+        Some(said) => is_read(&asked[0]) && is_served_at_once(&said),
+        None => false,
+    }
 }
 
 /// Whether a request was accepted, the device did what it was told, and then one request was told Ok.
@@ -157,14 +156,9 @@ fn is_served_at_once(said: &[CallResult]) -> bool
 /// A read is accepted, its port meets a fatal error of the interface, and a service boots the port anew. Then the
 /// device does all of the read, which the next service answers Ok. (No other port is there.)
 pub fn serves_a_read_anew<A: Stepped>(alloc: Global, server: &mut Server<A>, read: Request) -> bool
-    requires begun { StartsHistory (server_of A.device server.old) }
-    requires telling { (A.device server.old.adapter).telling ≡ true }
+    requires { StartsToldHistory A.device server.old }
     ensures { IsTrue result → ServesReadAnew (server_of A.device server.old) (server_of A.device server.new) read }
 {
-    law_shown_run_prerequisites();
-    let Op::Read = read.op else {
-        return false;
-    };
     let asked = [
         Call::Submit(read),
         Call::State(Port(1)),
@@ -175,10 +169,10 @@ pub fn serves_a_read_anew<A: Stepped>(alloc: Global, server: &mut Server<A>, rea
         Call::Device(DeviceStep::Finish(Port(0), Slot(0))),
         Call::Service,
     ];
-    let Some(said) = calls(alloc, server, &asked) else {
-        return false;
-    };
-    is_served_anew(&said)
+    match calls(alloc, server, &asked) {
+        Some(said) => is_read(&asked[0]) && is_served_anew(&said),
+        None => false,
+    }
 }
 
 /// Whether a request was accepted where three other ports are absent.
@@ -220,12 +214,10 @@ pub fn releases_a_frame<A: Stepped>(
     client: ClientId,
     frame: Frame,
 ) -> bool
-    requires begun { StartsHistory (server_of A.device server.old) }
-    requires telling { (A.device server.old.adapter).telling ≡ true }
+    requires { StartsToldHistory A.device server.old }
     ensures { IsTrue result → ReleasesFrame (server_of A.device server.old) (server_of A.device server.new) request
         frame }
 {
-    law_shown_run_prerequisites();
     let asked = [
         Call::Device(DeviceStep::Hold(Port(0))),
         Call::Device(DeviceStep::Fatal(Port(0), FatalError::HostBus)),
@@ -245,10 +237,10 @@ pub fn releases_a_frame<A: Stepped>(
             bytes: ArrayVec::new(),
         },
     ];
-    let Some(said) = calls(alloc, server, &asked) else {
-        return false;
-    };
-    is_released(&said)
+    match calls(alloc, server, &asked) {
+        Some(said) => is_released(&said),
+        None => false,
+    }
 }
 
 /// Whether the device did two things, a request was accepted and told `PortDead`, and a store into a lent frame was

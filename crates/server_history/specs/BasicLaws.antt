@@ -17,12 +17,12 @@ use Rattle.adapter.specs.KeptBySteps.{KeepsOverSteps}
 use Rattle.adapter.specs.Steps.{Steps}
 use Rattle.refinement.specs.Acts.{Act, AreActsDone, accesses_of, act_steps}
 use Rattle.refinement.specs.Relation.{StateRelation, ServeDistinctRequests}
-use Rattle.refinement.specs.ReadySlots.{IsStored, KeepsStoredCommand}
+use Rattle.refinement.specs.ReadySlots.{IsStoredOnPortWithStSet, KeepsStoredCommand}
 use Rattle.adapter.specs.Access.{Access, Does, DoesAll}
 use Rattle.adapter.specs.Access.Access.{Storing, Writing}
 use Rattle.adapter.specs.Decoding.{DecodesTo}
 use Rattle.refinement.specs.Fragments.{GainsNoMove}
-use Rattle.refinement.specs.Driver.{AllFree, IsBackedByDeviceAlone, MissesHeaderAndTable, ForgetsAtMost, DriverAdvances, HasNoSlot, DriverState, DriverRelation, with_slot_parked}
+use Rattle.refinement.specs.Driver.{AllFree, IsBackedByDeviceAlone, MissesTableAndHeaderButPrdbc, ForgetsAtMost, DriverAdvances, HasNoSlot, DriverState, DriverRelation, with_slot_freed_and_request_parked}
 use Rattle.refinement.specs.PreservedParts.{DoesNotWrite}
 use Rattle.refinement.specs.StartedPort.{ClearsNoStart}
 use Rattle.hba_regs.specs.Bits.{bit}
@@ -38,11 +38,11 @@ use Rattle.refinement.specs.PortFacts.{EndedIn, IsSlotClear, ShowsFault}
 use Rattle.dma_frames.specs.FrameTables.{OwnersAndLoans}
 use Rattle.request_queue.specs.BookEntries.{BookEntry, IsWellFormedEntry, BookIsWellFormed, aged_entries, unanswered_of}
 use Rattle.request_queue.specs.BookRelation.{BookRelation}
-use Rattle.block_machine.specs.Confinement.{HasFrame, IsGranted, WasAccepted, WithinLimits}
+use Rattle.block_machine.specs.Confinement.{HasFrame, IsGranted, WasAccepted, KeepsLimitsAndHoldsOwnFrames}
 use Rattle.block_machine.specs.Expected.{IsLegal, IsInitial, after}
 use Rattle.block_machine.specs.Histories.{JointState, IsReachable, IsSimulatedBySteps, JointEvent, joint_state_after}
 use Rattle.block_machine.specs.Events.{AllByDevice, AllEnabled}
-use Rattle.refinement.specs.SparedBook.{AllFurther, IsFurther, KeepsBookAndLoans}
+use Rattle.refinement.specs.SparedBook.{AllAsFarOrFurther, IsAsFarOrFurther, KeepsLoansAndBookOnlyAdvances}
 use Rattle.driver_history.specs.Histories.{IsDriverHistory}
 use Rattle.identify.specs.declared.wanted.Wanted.{Wanted}
 
@@ -74,11 +74,11 @@ pub record BasicLaws : Type 0 where
       → e.issued ≡ true
   -- what the device's own steps leave of it
   pub device_steps_spare_book : (m : Machine) (steps : List Step) → AllByDevice steps
-      → KeepsBookAndLoans m (after m steps)
-  pub found_later : (old new : List Pending) (e : Pending) → AllFurther old new → Contains old e → (x : Pending)
-      × Contains new x × IsFurther e x
-  pub found_before : (old new : List Pending) (e : Pending) → AllFurther old new → Contains new e → (x : Pending)
-      × Contains old x × IsFurther x e
+      → KeepsLoansAndBookOnlyAdvances m (after m steps)
+  pub entry_is_found_in_later_book : (old new : List Pending) (e : Pending) → AllAsFarOrFurther old new
+      → Contains old e → (x : Pending) × Contains new x × IsAsFarOrFurther e x
+  pub entry_is_found_in_earlier_book : (old new : List Pending) (e : Pending) → AllAsFarOrFurther old new
+      → Contains new e → (x : Pending) × Contains old x × IsAsFarOrFurther x e
   -- accesses one after another
   pub does_append : (early late : List Access) (old mid new : Device) → DoesAll early old mid → DoesAll late mid new
       → DoesAll (early ++ late) old new
@@ -93,10 +93,11 @@ pub record SlotLaws : Type 0 where
   -- a request is taken from its slot, once its command is over
   pub parked_agrees : (k : DriverState) (m : Machine) → DriverRelation m k → (port slot : ℕ)
       → IsOver (k.device.port port) slot
-      → (id : RequestId) → k.slot_states port slot ≡ Serves id → DriverRelation m (with_slot_parked k port slot id)
+      → (id : RequestId) → k.slot_states port slot ≡ Serves id
+      → DriverRelation m (with_slot_freed_and_request_parked k port slot id)
   pub parked_frees : (k : DriverState) (port slot : ℕ) (id : RequestId) → ServeDistinctRequests k.slot_states
       → k.slot_states port slot ≡ Serves id
-      → HasNoSlot (with_slot_parked k port slot id).slot_states id
+      → HasNoSlot (with_slot_freed_and_request_parked k port slot id).slot_states id
   pub ended_clear : (uses : SlotStates) (m : Machine) (d : Device) (port : Port) (slot : ℕ) (e : Pending)
       → IsReachable m
       → StateRelation uses m d → MayStillMove m e → e.ended ≡ true → uses port.0 slot ≡ Serves e.request.id
@@ -107,7 +108,7 @@ pub record SlotLaws : Type 0 where
       → HasNoSlot k.slot_states e.request.id
       → ForgetsAtMost e.request.id k.awaiting_disposition later
       → DriverRelation (after_step m (Answer e outcome)) (record k { awaiting_disposition = later })
-  pub again_agrees : (k : DriverState) (m : Machine) (e : Pending) (later : ℕ → List RequestId) → IsReachable m
+  pub wait_again_agrees : (k : DriverState) (m : Machine) (e : Pending) (later : ℕ → List RequestId) → IsReachable m
       → DriverRelation m k
       → Contains m.book e → HasNoSlot k.slot_states e.request.id
       → ForgetsAtMost e.request.id k.awaiting_disposition later
@@ -120,8 +121,8 @@ pub record SlotLaws : Type 0 where
   pub acts_advance_driver : (acts : List Act) (k later : DriverState) (m : Machine) → DriverRelation m k
       → AreActsDone acts k m later
       → DriverAdvances k m (act_steps acts) later
-  pub acts_gain_no_move : (acts : List Act) (k later : DriverState) (m : Machine) (port : ℕ) (o : Operation)
-      → client_operation_of o ≡ None
+  pub acts_gain_no_move_without_own_command : (acts : List Act) (k later : DriverState) (m : Machine) (port : ℕ)
+      (o : Operation) → client_operation_of o ≡ None
       → IsReachable m → DriverRelation m k → (k.slot_states port 0 ≡ Own o → ⊥)
       → All (λ act. act.state_after.slot_states port 0 ≡ Own o → ⊥) acts
       → AreActsDone acts k m later → GainsNoMove port o k.device later.device
@@ -157,7 +158,7 @@ pub record SlotLaws : Type 0 where
   -- a command that is over stays so
   pub over_stays_over_steps : (port slot : ℕ) (old new : Device) → Steps old new → IsOver (old.port port) slot
       → IsOver (new.port port) slot
-  pub over_stays_over_access : (port : Port) (slot : ℕ) (access : Access) (old new : Device)
+  pub over_stays_unless_ci_bit_is_written : (port : Port) (slot : ℕ) (access : Access) (old new : Device)
       → ((v : ℕ) → access ≡ Writing (Px port Ci) v → bit v slot ≡ false) → Does access old new
       → IsOver (old.port port.0) slot → IsOver (new.port port.0) slot
   -- the bytes of a slot say one command
@@ -165,18 +166,21 @@ pub record SlotLaws : Type 0 where
       → DecodesTo memory list slot m xs
       → DecodesTo memory list slot n ys → (m ≡ n) × (xs ≡ ys)
   -- what is stored for a slot stays so over acts that leave it
-  pub stored_stays_over_acts : (port : Port) (slot : ℕ) (c : Meaning) (places : List ℕ) (acts : List Act)
+  pub stored_stays_over_acts_that_leave_it : (port : Port) (slot : ℕ) (c : Meaning) (places : List ℕ) (acts : List Act)
       (k later : DriverState)
       (m : Machine) → IsReachable m → DriverRelation m k → AreActsDone acts k m later
-      → All (KeepsStoredCommand port slot) (accesses_of acts) → IsOn k.device → IsStored k.device port.0 slot c places
-      → IsStored later.device port.0 slot c places
+      → All (KeepsStoredCommand port slot) (accesses_of acts) → IsOn k.device
+      → IsStoredOnPortWithStSet k.device port.0 slot c places
+      → IsStoredOnPortWithStSet later.device port.0 slot c places
   -- and over an access that leaves it
-  pub stored_stays_over_access : (uses : SlotStates) (m : Machine) (port : Port) (slot : ℕ) (c : Meaning)
+  pub stored_stays_over_access_that_leaves_it : (uses : SlotStates) (m : Machine) (port : Port) (slot : ℕ) (c : Meaning)
       (places : List ℕ)
       (access : Access) (old new : Device) → IsReachable m → StateRelation uses m old → old.hr ≡ false
       → ClearsNoStart port access → DoesNotWrite (Px port Clb) access
-      → ((at : ℕ) (bytes : List ℕ) → access ≡ Storing at bytes → MissesHeaderAndTable port.0 slot at (length bytes))
-      → Does access old new → IsStored old port.0 slot c places → IsStored new port.0 slot c places
+      → ((at : ℕ) (bytes : List ℕ) → access ≡ Storing at bytes
+      → MissesTableAndHeaderButPrdbc port.0 slot at (length bytes))
+      → Does access old new → IsStoredOnPortWithStSet old port.0 slot c places
+      → IsStoredOnPortWithStSet new port.0 slot c places
   -- a fault that is shown is of the slot that alone is used
   pub shown_fault_is_of_lone_slot : (uses : SlotStates) (m : Machine) (d : Device) (port slot : ℕ)
       (entries : List TapeEntry)
@@ -203,7 +207,7 @@ pub record AgeLaws : Type 0 where
 -- requests that are unanswered or kept
 pub record FrameHolderLaws : Type 0 where
   pub legal_histories_stay_in_limits : (start : Machine) (history : List Step) → IsInitial start → IsLegal start history
-      → WithinLimits (after start history)
+      → KeepsLimitsAndHoldsOwnFrames (after start history)
   pub frame_holders_were_accepted : (start : Machine) (history : List Step) (e : Pending) → IsInitial start
       → IsLegal start history
       → HoldsFrames (after start history) e → WasAccepted start history e.request

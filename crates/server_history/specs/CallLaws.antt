@@ -15,7 +15,7 @@ use Rattle.hba_regs.specs.Bits.{bit}
 use Rattle.hba_regs.specs.declared.reg.PortReg.{PortReg}
 use Rattle.hba_regs.specs.declared.reg.PortReg.TheVariants.{Ci, Is, Sact, Sctl, Ssts}
 use Rattle.hba_regs.specs.declared.reg.Reg.TheVariants.{Ghc, Px}
-use Rattle.refinement.specs.Fragments.{IsDrivenBy, SparesOtherPorts, LeavesPort, GainsNoMove, TapeGrows}
+use Rattle.refinement.specs.Fragments.{IsDrivenBy, SparesOtherPorts, OnlyDeviceChangesPort, GainsNoMove, TapeGrows}
 use Rattle.refinement.specs.Errors.{NoDiskComes, IsFatalErrorOf}
 use Rattle.refinement.specs.Laws.{FragmentLaws}
 use Rattle.refinement.specs.PortFacts.{IsFaulted, RecordsFaultsIfSt, RunsWell, ShowsNoTrouble, PxisValueTellsNoTrouble, Undisturbed, IsFaultOf}
@@ -23,9 +23,9 @@ use Rattle.block_machine.specs.Events.{AbstractCall, AbstractState, AbstractCall
 use Rattle.block_machine.specs.Histories.{JointState}
 use Rattle.block_machine.specs.Ports.{Evidence, IsStoppedOrStuck, Ports, SamePort}
 use Rattle.driver_history.specs.Evidence.{IsEvidencedOf, ShowsLinkChange, ShowsFailure}
-use Rattle.error_recovery.specs.Evidence.{BringsLog, HasFailed, GainsSinceStart}
-use Rattle.driver_history.specs.Histories.{BootsAnew, HasOnlyTaskFileError, LosesNoPortError, RunsWellAnew, IsForeignOrUnfit, ProbesDisk}
-use Rattle.driver_history.specs.PortTurn.{HasTurnIn, EvidenceAgreesOn, call_accesses, EndsNoLinkDue}
+use Rattle.error_recovery.specs.Evidence.{BringsLastLogPage, HasFailed, GainsSinceStart}
+use Rattle.driver_history.specs.Histories.{BootsAnewWhereRequired, HasOnlyTaskFileError, LosesNoPortError, RunsWellAnew, IsForeignOrUnfit, ProbesDisk}
+use Rattle.driver_history.specs.PortTurn.{HasTurnIn, EvidenceAgreesOn, call_accesses, ChangedUnreadyPortEndsNoLinkDue}
 use Rattle.driver_history.specs.AccessTrace.{ClearsNoError, ResetsLink}
 use Rattle.port_control.specs.Engines.{Stops}
 use Rattle.port_control.specs.PortEvents.{TakesEvent, port_event_of, IsEventAccess}
@@ -42,12 +42,12 @@ pub record LookLaws : Type 0 where
   pub reading_is_noted : (port : Port) (r : PortReg) (v : ℕ) (old new : Device) → old.hr ≡ false
       → Reads (Px port r) v old new
       → (new.port port.0).notes ≡ notes_after_reading r v (old.port port.0)
-  pub disk_shown_if_in_stays : (port : Port) (access : Access) (old new : Device) → old.hr ≡ false
+  pub disk_shown_if_in_stays_but_for_sctl_write : (port : Port) (access : Access) (old new : Device) → old.hr ≡ false
       → DoesNotWrite (Px port Sctl) access → Does access old new → ShowsDiskIfIn (old.port port.0)
       → ShowsDiskIfIn (new.port port.0)
-  pub leaves_port_is_reflexive : (p : DevicePort) → LeavesPort p p
-  pub leaves_port_is_transitive : (old mid new : DevicePort) → LeavesPort old mid → LeavesPort mid new
-      → LeavesPort old new
+  pub leaves_port_is_reflexive : (p : DevicePort) → OnlyDeviceChangesPort p p
+  pub leaves_port_is_transitive : (old mid new : DevicePort) → OnlyDeviceChangesPort old mid
+      → OnlyDeviceChangesPort mid new → OnlyDeviceChangesPort old new
   -- a command that failed
   pub look_finds_fault_halted : (port : Port) (old new : Device) → IsOn old → TakesEvent port TaskFileError old new
       → (old.port port.0).st ≡ true → RecordsFaultsIfSt old.tape (old.port port.0) port.0
@@ -62,7 +62,7 @@ pub record LookLaws : Type 0 where
   pub look_tells_shown_change : (port : Port) (result : PortEvent) (old new : Device) → IsOn old
       → TakesEvent port result old new
       → ((old.port port.0).serr_n ≡ true) ⊎ ((old.port port.0).serr_x ≡ true) → result ≡ LinkChanged
-  pub look_tells_missing_device : (port : Port) (result : PortEvent) (old new : Device) → IsOn old
+  pub look_tells_missing_device_if_none_comes : (port : Port) (result : PortEvent) (old new : Device) → IsOn old
       → TakesEvent port result old new
       → (old.port port.0).ssts_det ≢ 3 → (old.port port.0).link_due ≡ false → NoDiskComes port.0 old new
       → result ≡ LinkChanged
@@ -108,11 +108,11 @@ pub record LookLaws : Type 0 where
   pub look_is_driven_by_its_accesses : (port : Port) (result : PortEvent) (old new : Device)
       → TakesEvent port result old new
       → IsDrivenBy (IsEventAccess port) old new
-  pub well_port_shows_no_event : (port : Port) (result : PortEvent) (old new : Device) → IsOn old
+  pub undisturbed_well_port_shows_no_event : (port : Port) (result : PortEvent) (old new : Device) → IsOn old
       → TakesEvent port result old new
       → RunsWell (old.port port.0) → Undisturbed port.0 old new → (result ≡ NoEvent) × RunsWell (new.port port.0)
   -- what serving ports writes, and leaves
-  pub services_spare_host : (access : Access) → IsServiceAccess access → DoesNotWrite Ghc access
+  pub services_do_not_write_ghc : (access : Access) → IsServiceAccess access → DoesNotWrite Ghc access
   pub services_spare_other_registers : (port : Port) (r : PortReg) → r ≢ Is → r ≢ Ci → r ≢ Sact → (access : Access)
       → IsServiceAccess access
       → DoesNotWrite (Px port r) access
@@ -141,7 +141,8 @@ pub record CallLaws : Type 0 where
       → HasFailed port t.turn t.start t.end fault → HasFailed port (call_accesses t) old new fault
   pub turn_log_page_is_calls : (port : Port) (old new : Device) (page : List ℕ) → IsOn old
       → (t : HasTurnIn port old new)
-      → GainsNoMove port.0 ReadLog t.end new → BringsLog port t.start t.end page → BringsLog port old new page
+      → GainsNoMove port.0 ReadLog t.end new → BringsLastLogPage port t.start t.end page
+      → BringsLastLogPage port old new page
   -- a port's trouble, and its turn in the call
   pub ordinary_accesses_lose_no_error : (port : Port) (old : JointState Device) (new : Device) (accesses : List Access)
       (evidence : Evidence)
@@ -171,8 +172,8 @@ pub record CallLaws : Type 0 where
       → (old.abstract.ports.state port ≡ Ready → (old.device.port port.0).link_due ≡ false)
       → (t : HasTurnIn port old.device new) → IsOn t.end → SamePort ended ports port
       → SamePort old.abstract.ports begun.ports port
-      → BootsAnew Service one t.turn (record { device = t.start; abstract = begun }) ended t.end port
-      → BootsAnew Service other (call_accesses t) old ports new port
+      → BootsAnewWhereRequired Service one t.turn (record { device = t.start; abstract = begun }) ended t.end port
+      → BootsAnewWhereRequired Service other (call_accesses t) old ports new port
   pub turn_running_well_is_calls : (port : Port) (old : JointState Device) (begun : AbstractState) (ended ports : Ports)
       (new : Device)
       (turn call : Evidence) → IsOn old.device
@@ -188,7 +189,7 @@ pub record CallLaws : Type 0 where
       → IsOn old.device → (t : HasTurnIn port old.device new) → IsOn t.end → SamePort ended ports port
       → SamePort old.abstract.ports begun.ports port
       → (IsForeignOrUnfit old.abstract.ports port → ShowsDiskIfIn (old.device.port port.0))
-      → EndsNoLinkDue port (record { device = t.start; abstract = begun }) ended t.end
+      → ChangedUnreadyPortEndsNoLinkDue port (record { device = t.start; abstract = begun }) ended t.end
       → (NoDiskComes port.0 t.start t.end → ProbesDisk t.turn
       (record { device = t.start; abstract = begun }) ended t.end
       port)
@@ -197,13 +198,13 @@ pub record CallLaws : Type 0 where
       (ended ports : Ports) (new : Device)
       → IsOn old.device → (t : HasTurnIn port old.device new) → IsOn t.end → SamePort ended ports port
       → SamePort old.abstract.ports begun.ports port
-      → EndsNoLinkDue port (record { device = t.start; abstract = begun }) ended
-      t.end → EndsNoLinkDue port old ports new
+      → ChangedUnreadyPortEndsNoLinkDue port (record { device = t.start; abstract = begun }) ended
+      t.end → ChangedUnreadyPortEndsNoLinkDue port old ports new
   pub stopped_port_set_st_since : (port : Port) (accesses : List Access) (old new : Device) → IsOn old
       → All (DoesNotWrite Ghc) accesses → DoesAll accesses old new → Stops port accesses → (new.port port.0).st ≡ true
       → length old.tape ≤ (new.port port.0).notes.st_set_at
   -- what came since ST was set
-  pub fatal_in_part : (port : ℕ) (old start end new : Device) → TapeGrows old start → TapeGrows end new
+  pub fatal_in_part_is_in_whole : (port : ℕ) (old start end new : Device) → TapeGrows old start → TapeGrows end new
       → (new.port port).notes.st_set_at ≡ (end.port port).notes.st_set_at
       → GainsSinceStart (IsFatalErrorOf port) port start end
       → GainsSinceStart (IsFatalErrorOf port) port old new

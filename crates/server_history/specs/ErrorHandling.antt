@@ -134,7 +134,7 @@ abbrev pub book_and_loans_of : Port → ServerState → BookAndLoans
 book_and_loans_of port s = record { book = s.book; table = s.table; kept = quarantined_at s.kept_loans port.0 }
 
 -- no slot of the port is used, and as many are usable as its mode has
-pub record HasNoUsedSlot (mode : QueueMode) (slots : PortSlots) : Type 0 where
+pub record HasAllSlotsFreeAndCountOfMode (mode : QueueMode) (slots : PortSlots) : Type 0 where
   pub usable_count_is_of_mode : slots.usable_count ≡ mode.usable_slots
   pub has_32_slots : length slots.slot_uses ≡ 32
   pub all_slots_are_free : (slot : ℕ) → use_at slots slot ≡ None
@@ -171,7 +171,7 @@ pub record HasResolved (port : Port) (later : List Reply) (old new : ServerState
   pub mode : QueueMode
   pub mode_is : mode ≡ probed_mode new.device.cap found
   pub slots : PortSlots
-  pub has_no_used_slot : HasNoUsedSlot mode slots
+  pub has_no_used_slot : HasAllSlotsFreeAndCountOfMode mode slots
   pub failed : Option disposition.FailedRequest
   pub failed_request_is : IsFailedRequest (slots_at server_after_handling.slots port.0) error_handled.result.failed
       failed

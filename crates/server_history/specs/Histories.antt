@@ -59,8 +59,9 @@ InvariantBetweenCalls false s = SettledInvariant s
 InvariantBetweenCalls true s = StuckInvariant s
 
 -- So it does, and it is for the new server as it was.
-abbrev pub ExtendsByStuck : Bool → ServerState → ServerState → AbstractCall DeviceStep → AbstractCallResult → Type 0
-ExtendsByStuck stuck old new ask said = InvariantBetweenCalls stuck new × ExtendsHistory old new ask said
+abbrev pub ExtendsAndHasInvariantByStuck : Bool → ServerState → ServerState → AbstractCall DeviceStep
+    → AbstractCallResult → Type 0
+ExtendsAndHasInvariantByStuck stuck old new ask said = InvariantBetweenCalls stuck new × ExtendsHistory old new ask said
 
 -- a history without calls leads to the server
 abbrev pub StartsHistory : ServerState → Type 0

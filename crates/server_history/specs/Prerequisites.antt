@@ -46,15 +46,15 @@ use Rattle.std.specs.List.{AllZip, list_any}
 use Rattle.block_machine.specs.Events.{changes_disk, IsByDevice}
 use Rattle.block_machine.specs.Expected.{IsInitial, after}
 use Rattle.block_machine.specs.Histories.{IsReachable}
-use Rattle.error_recovery.specs.Evidence.{BringsLog, HasFailed}
-use Rattle.port_boot.specs.States.{StaysRunning, IsBootAccess}
+use Rattle.error_recovery.specs.Evidence.{BringsLastLogPage, HasFailed}
+use Rattle.port_boot.specs.States.{StaysRunningIfUndisturbed, IsBootAccess}
 use Rattle.port_control.specs.Engines.{EngineFalls, EngineSticks}
 use Rattle.error_recovery.specs.Recovery.{IsRecoveryAccess}
 use Rattle.commands.specs.Masks.{ReadsDone, ReadsCiOrSact}
 use Rattle.commands.specs.Batches.{IsBatchAccess, IssuesBatch, MayServeBatch, PlacedTask, issues_of, with_serving_batch}
 use Rattle.commands.specs.Tasks.{IsTaskOf}
 use Rattle.port_control.specs.EventLaws.{Laws}
-use Rattle.request_queue.specs.BookEntries.{BookEntry, IsWellFormedEntry, IsEarlier, IsNewlyAccepted, BookIsWellFormed, IsWaiting, IsIssuedBelowLimit, all_revoked_under_grant, unanswered_of, update_if_id, issued_request, requeued_request, entry_count_of_client, without_entry}
+use Rattle.request_queue.specs.BookEntries.{BookEntry, IsWellFormedEntry, IsEarlier, IsNewlyAccepted, BookIsWellFormed, IsWaiting, IsIssuedBelowLimit, with_requests_under_grant_revoked, unanswered_of, update_if_id, issued_request, requeued_request, entry_count_of_client, without_entry}
 use Rattle.request_queue.specs.declared.PendingRequest.{PendingRequest}
 use Rattle.request_queue.specs.Dispositions.{CompletesAllWith, BookAndLoans, AreResolved, keeps_loan}
 use Rattle.request_queue.specs.BookRelation.{BookRelation, EntryRelation}
@@ -81,7 +81,7 @@ pub record PrerequisiteLaws : Type 0 where
       → BookRelation (without_entry p.request.id entries) (after_step m (Answer p outcome)).book
   pub revoke_keeps_book_relation : (entries : List BookEntry) (m : Machine) (client : ClientId) (grant : ℕ)
       → BookRelation entries m.book
-      → BookRelation (all_revoked_under_grant client grant entries) (after_step m (Revoke client grant)).book
+      → BookRelation (with_requests_under_grant_revoked client grant entries) (after_step m (Revoke client grant)).book
   pub client_counts_agree : (entries : List BookEntry) (book : List Pending) (client : ClientId)
       → BookRelation entries book
       → steps.unanswered_count book client ≡ entry_count_of_client entries client.0
@@ -104,7 +104,7 @@ pub record PrerequisiteLaws : Type 0 where
       → BookIsWellFormed (without_entry id entries)
   pub marking_keeps_book_well_formed : (entries : List BookEntry) (client : ClientId) (grant : ℕ)
       → BookIsWellFormed entries
-      → BookIsWellFormed (all_revoked_under_grant client grant entries)
+      → BookIsWellFormed (with_requests_under_grant_revoked client grant entries)
   pub update_keeps_other_entries : (entries : List BookEntry) (id : RequestId) (change : PendingRequest
       → PendingRequest) (e : BookEntry)
       → Contains entries e
@@ -132,7 +132,7 @@ pub record PrerequisiteLaws : Type 0 where
   pub marking_keeps_entries_well_formed : (table : OwnersAndLoans) (entries : List BookEntry) (client : ClientId)
       (grant : ℕ)
       → All (IsWellFormedEntry table) entries
-      → All (IsWellFormedEntry table) (all_revoked_under_grant client grant entries)
+      → All (IsWellFormedEntry table) (with_requests_under_grant_revoked client grant entries)
   -- requests that are answered with one outcome
   pub completing_all_is_resolving : (passes : PendingRequest → Bool) (outcome : Outcome)
       → ((e : PendingRequest) → keeps_loan outcome e ≡ false)
@@ -147,9 +147,10 @@ pub record PrerequisiteLaws : Type 0 where
   -- requests that get older
   pub ages : AgeLaws
   -- what the device backs
-  pub backed_none : (d : Device) (m : Machine) → TapeBacksSteps d d m []
-  pub backed_own : (d : Device) (m : Machine) (step : Step) → (IsByDevice step → ⊥) → TapeBacksSteps d d m (step ∷ [])
-  pub backed_parts : (old mid new : Device) (m : Machine) (early late : List Step) → TapeBacksSteps old mid m early
+  pub empty_steps_are_backed : (d : Device) (m : Machine) → TapeBacksSteps d d m []
+  pub drivers_own_step_is_backed : (d : Device) (m : Machine) (step : Step) → (IsByDevice step → ⊥)
+      → TapeBacksSteps d d m (step ∷ [])
+  pub backed_parts_join : (old mid new : Device) (m : Machine) (early late : List Step) → TapeBacksSteps old mid m early
       → TapeBacksSteps mid new (after m early) late → TapeBacksSteps old new m (late ++ early)
   -- what is due
   pub due_is_waiting : (mode : QueueMode) (entries : List BookEntry) (r : Unanswered)
@@ -241,13 +242,13 @@ pub record PrerequisiteLaws : Type 0 where
   -- a port that runs does so still
   pub runs_on_after_access : (port : Port) (access : Access) (old new : Device) → IsOn old
       → DoesNotWrite (Px port Sctl) access
-      → DoesNotWrite (Px port Cmd) access → Does access old new → StaysRunning port.0 old new
+      → DoesNotWrite (Px port Cmd) access → Does access old new → StaysRunningIfUndisturbed port.0 old new
   pub runs_on_after_accesses : (port : Port) (accesses : List Access) (old new : Device) → IsOn old
       → DoesAll accesses old new
       → All (DoesNotWrite Ghc) accesses → All (DoesNotWrite (Px port Sctl)) accesses
-      → All (DoesNotWrite (Px port Cmd)) accesses → StaysRunning port.0 old new
-  pub stays_well_if_undisturbed : (port : ℕ) (old new : Device) → StaysRunning port old new → Undisturbed port old new
-      → RunsWell (old.port port) → RunsWell (new.port port)
+      → All (DoesNotWrite (Px port Cmd)) accesses → StaysRunningIfUndisturbed port.0 old new
+  pub stays_well_if_undisturbed : (port : ℕ) (old new : Device) → StaysRunningIfUndisturbed port old new
+      → Undisturbed port old new → RunsWell (old.port port) → RunsWell (new.port port)
   -- a port is recovered
   pub recovery : RecoveryLaws
   -- what is shown of trouble
@@ -281,23 +282,22 @@ pub record PrerequisiteLaws : Type 0 where
       → DoesAll late new end → HasFailed port part old new fault → HasFailed port (early ++ (part ++ late)) start end
       fault
   pub log_page_is_of_whole : (port : Port) (start old new end : Device) (page : List ℕ) → TapeGrows start old
-      → GainsNoMove port.0 ReadLog new end → BringsLog port old new page → BringsLog port start end page
+      → GainsNoMove port.0 ReadLog new end → BringsLastLogPage port old new page → BringsLastLogPage port start end page
   -- a request that waits again
   pub unanswered_after_requeue : (entries : List BookEntry) (id : RequestId)
       → unanswered_of (map (update_if_id id requeued_request) entries)
       ≡ with_waiting id (unanswered_of entries)
   -- requests that are marked
   pub unanswered_after_marking : (entries : List BookEntry) (client : ClientId) (grant : ℕ)
-      → unanswered_of (all_revoked_under_grant client grant entries) ≡ unanswered_of entries
+      → unanswered_of (with_requests_under_grant_revoked client grant entries) ≡ unanswered_of entries
   -- a disk that comes, or goes
-  pub absent_disk_stays_out : (port : Port) (access : Access) (old new : Device) → NoDiskComes port.0 old new
-      → Does access old new
+  pub absent_disk_stays_out_if_no_disk_comes : (port : Port) (access : Access) (old new : Device)
+      → NoDiskComes port.0 old new → Does access old new
       → (old.port port.0).present ≡ false → (new.port port.0).present ≡ false
-  pub vacant_port_stays_vacant : (port : Port) (access : Access) (old new : Device) → NoDiskComes port.0 old new
-      → Does access old new
-      → IsVacant (old.port port.0) → IsVacant (new.port port.0)
-  pub first_fis_stays : (port : Port) (access : Access) (old new : Device) → NoDiskComes port.0 old new
-      → Does access old new
+  pub vacant_port_stays_vacant_if_no_disk_comes : (port : Port) (access : Access) (old new : Device)
+      → NoDiskComes port.0 old new → Does access old new → IsVacant (old.port port.0) → IsVacant (new.port port.0)
+  pub first_fis_if_shown_stays_if_no_disk_comes : (port : Port) (access : Access) (old new : Device)
+      → NoDiskComes port.0 old new → Does access old new
       → HasFirstFisIfShown (old.port port.0) → HasFirstFisIfShown (new.port port.0)
   pub comreset_has_first_fis_if_shown : (port : Port) (v : ℕ) (old new : Device) → v % 16 ≡ 1
       → Writes (Px port Sctl) v old new

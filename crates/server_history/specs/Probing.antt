@@ -6,7 +6,7 @@ use Rattle.ata_types.specs.declared.PortState.{PortState}
 use Rattle.ata_types.specs.declared.PortState.TheVariants.{Absent, Dead, Foreign, Unfit}
 use Rattle.adapter.specs.Device.{Device}
 use Rattle.block_machine.specs.declared.due.QueueMode.{QueueMode}
-use Rattle.error_recovery.specs.Recovery.{StopsForReset}
+use Rattle.error_recovery.specs.Recovery.{StopsOrSticksForReset}
 use Rattle.error_recovery.specs.declared.Next.{Next}
 use Rattle.error_recovery.specs.declared.Next.TheVariants as next
 use Rattle.error_recovery.specs.declared.Recovered.{Recovered}
@@ -16,17 +16,17 @@ use Rattle.host_boot.specs.declared.Booted.{Booted}
 use Rattle.host_boot.specs.declared.ProbeResult.{ProbeResult}
 use Rattle.host_boot.specs.declared.ProbeResult.TheVariants.{Unready}
 use Rattle.identify.specs.declared.wanted.Wanted.{Wanted}
-use Rattle.port_control.specs.DeviceChecks.{ChecksForChange, ChecksForDevice}
+use Rattle.port_control.specs.DeviceChecks.{ChecksForChangeOrNoDevice, ChecksForDevice}
 use Rattle.slots.specs.SlotUses.{PortSlots}
-use Rattle.server_history.specs.ErrorHandling.{HasNoUsedSlot}
+use Rattle.server_history.specs.ErrorHandling.{HasAllSlotsFreeAndCountOfMode}
 use Rattle.server_history.specs.ServerState.{ServerState, probed_mode}
 
 -- What a port in such a state is looked at for, and whether that was found: an absent one for a device that shows; one
 -- whose disk isn't served, for a change of its link, or a device that doesn't show. A dead port isn't looked at.
 abbrev pub FindsReasonToBoot : PortState → Port → Bool → Device → Device → Type 0
 FindsReasonToBoot Absent port result old new = ChecksForDevice port result old new
-FindsReasonToBoot Foreign port result old new = ChecksForChange port result old new
-FindsReasonToBoot (Unfit cause) port result old new = ChecksForChange port result old new
+FindsReasonToBoot Foreign port result old new = ChecksForChangeOrNoDevice port result old new
+FindsReasonToBoot (Unfit cause) port result old new = ChecksForChangeOrNoDevice port result old new
 FindsReasonToBoot state port result old new = (result ≡ false) × (new ≡ old)
 
 -- What a port that was stopped is found to be: what its boot has found; or dead.
@@ -41,7 +41,7 @@ pub record ProbesAnew (wanted : Wanted) (port : Port) (found : ProbeResult) (mod
     (old new : Device) : Type 0 where
   pub result : Recovered
   pub stopped : Device
-  pub stops_for_reset : StopsForReset port 0 true result old stopped
+  pub stops_for_reset : StopsOrSticksForReset port 0 true result old stopped
   pub is_probed_anew : IsFoundAfterStop wanted port result.next stopped new found
   pub mode_is : mode ≡ probed_mode new.cap found
 
@@ -51,7 +51,7 @@ pub record BootsUnreadyPort (port : Port) (old new : ServerState) : Type 0 where
   pub mode : QueueMode
   pub probes_anew : ProbesAnew (wanted_of old.wanted port.0) port found mode old.device new.device
   pub slots : PortSlots
-  pub has_no_used_slot : HasNoUsedSlot mode slots
+  pub has_no_used_slot : HasAllSlotsFreeAndCountOfMode mode slots
   pub server_is : new ≡ record old {
     device = new.device;
     probe_results = slice_set old.probe_results port.0 found;

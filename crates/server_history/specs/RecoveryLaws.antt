@@ -20,7 +20,7 @@ use Rattle.refinement.specs.Errors.{NoFatalErrors}
 use Rattle.refinement.specs.PortFacts.{RecordsFaultsIfSt, Undisturbed}
 use Rattle.refinement.specs.Halting.{HaltIsOfTaken, HaltOfTakenIfSt}
 use Rattle.refinement.specs.PreservedParts.{ShowsDiskIfIn, KeepsDisk, NoPlugEvents, SameAdapter, DoesNotWrite}
-use Rattle.refinement.specs.HaltRecovery.{WorksPlainly}
+use Rattle.refinement.specs.HaltRecovery.{WorksOnUnqueuedCommandsOnly}
 use Rattle.refinement.specs.Slots.{Serves, SlotState, SlotStates, set_slot_state, serving_count}
 use Rattle.block_machine.specs.DueRequests.{issued_count}
 use Rattle.block_machine.specs.Histories.{IsReachable}
@@ -28,7 +28,7 @@ use Rattle.block_machine.specs.Expected.{after}
 use Rattle.block_machine.specs.State.{Machine, unanswered}
 use Rattle.block_machine.specs.Steps.{NoneKept, Step}
 use Rattle.host_boot.specs.Reboots.{RebootsPort, RebootsIfPresent, IsCapPiOrBootAccess}
-use Rattle.host_boot.specs.TakeOver.{FoundUnusableDevice, IsServed, LeavesFoundPort, BacksProbeResult, StillBacksProbeResult}
+use Rattle.host_boot.specs.TakeOver.{FoundUnusableDevice, IsServed, KeepsWhatBacksProbeResult, BacksProbeResult, StillBacksProbeResult}
 use Rattle.host_boot.specs.declared.Booted.{Booted}
 use Rattle.host_boot.specs.declared.ProbeResult.{ProbeResult}
 use Rattle.host_boot.specs.declared.ProbeResult.TheVariants.{Unready}
@@ -74,7 +74,7 @@ pub record RecoveryLaws : Type 0 where
       → BacksProbeResult wanted found port d
       → StillBacksProbeResult wanted found port d
   pub backing_goes_on : (wanted : Wanted) (found : ProbeResult) (port : ℕ) (old new : Device) → SameAdapter old new
-      → LeavesFoundPort found (old.port port) (new.port port) → (found ≢ Unready Dead
+      → KeepsWhatBacksProbeResult found (old.port port) (new.port port) → (found ≢ Unready Dead
       → GainsNoMove port Identify old new)
       → StillBacksProbeResult wanted found port old → StillBacksProbeResult wanted found port new
   -- and one that was booted where a device showed
@@ -114,10 +114,10 @@ pub record PortErrorLaws : Type 0 where
       → DriverRelation m k
       → AreActsDone acts k m later → All (DoesNotWrite (Px port Cmd)) (accesses_of acts)
       → HaltOfTakenIfSt (k.device.port port.0) → HaltOfTakenIfSt (later.device.port port.0)
-  pub halt_of_taken_stays_over_access : (uses : SlotStates) (m : Machine) (port : Port) (access : Access)
+  pub halt_of_taken_stays_but_for_cmd_write : (uses : SlotStates) (m : Machine) (port : Port) (access : Access)
       (old new : Device)
       → IsReachable m
       → StateRelation uses m old → DoesNotWrite (Px port Cmd) access → Does access old new
       → HaltOfTakenIfSt (old.port port.0) → HaltOfTakenIfSt (new.port port.0)
   pub unhalted_has_no_halt : (p : DevicePort) → p.halt ≡ NotHalted → HaltIsOfTaken p
-  pub plain_port_halt_is_of_taken : (p : DevicePort) → WorksPlainly p → HaltIsOfTaken p
+  pub plain_port_halt_is_of_taken : (p : DevicePort) → WorksOnUnqueuedCommandsOnly p → HaltIsOfTaken p

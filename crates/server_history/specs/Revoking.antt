@@ -4,7 +4,7 @@ use Rattle.ata_types.specs.declared.request.ClientId.{ClientId}
 use Rattle.ata_types.specs.declared.request.Outcome.TheVariants.{Revoked}
 use Rattle.ata_types.specs.declared.request.Reply.{Reply}
 use Rattle.block_machine.specs.Rules.{HasRow, without_row}
-use Rattle.request_queue.specs.BookEntries.{all_revoked_under_grant, waits_under}
+use Rattle.request_queue.specs.BookEntries.{with_requests_under_grant_revoked, waits_under}
 use Rattle.request_queue.specs.Dispositions.{CompletesAllWith}
 use Rattle.server_history.specs.ErrorHandling.{book_and_loans_of}
 use Rattle.server_history.specs.ServerState.{ServerState}
@@ -13,7 +13,7 @@ use Rattle.server_history.specs.ServerState.{ServerState}
 abbrev pub with_grant_revoked : ClientId → ℕ → ServerState → ServerState
 with_grant_revoked client number s = record s {
   grants = without_row client number s.grants;
-  book = all_revoked_under_grant client number s.book;
+  book = with_requests_under_grant_revoked client number s.book;
 }
 
 -- A client's grant was revoked: its row was there, and is gone; requests that were accepted under it are marked; and

@@ -15,7 +15,7 @@ use Rattle.refinement.specs.Fragments.{driver_state_of}
 use Rattle.refinement.specs.Driver.{DriverRelation}
 use Rattle.refinement.specs.Halting.{HaltIsOfTaken}
 use Rattle.refinement.specs.PreservedParts.{ShowsDiskIfIn}
-use Rattle.refinement.specs.ReadySlots.{IsStored}
+use Rattle.refinement.specs.ReadySlots.{IsStoredOnPortWithStSet}
 use Rattle.refinement.specs.Slots.{Free, Serves, SlotState, SlotStates}
 use Rattle.block_machine.specs.DueRequests.{NoneDue, is_plain}
 use Rattle.block_machine.specs.Histories.{IsReachable}
@@ -203,7 +203,7 @@ pub record QuarantineRelation (found : List ProbeResult) (kept : List (List Lend
 -- and its next id.
 pub record MachineRelation (s : ServerState) (m : Machine) : Type 0 where
   pub uses : SlotStates
-  pub are_uses_of : SlotUsesAgreeUnlessDead s uses
+  pub slot_uses_agree_unless_dead : SlotUsesAgreeUnlessDead s uses
   pub awaiting_disposition : ℕ → List RequestId
   pub only_dead_ports_park : (port : ℕ) → probe_result_of s.probe_results port ≢ Unready Dead
       → awaiting_disposition port ≡ []
@@ -222,8 +222,8 @@ abbrev pub IsLentOut : OwnersAndLoans → Lending → Type 0
 IsLentOut table loan = All (λ f. lent_to table f ≡ Some loan.request) loan.frames
 
 -- frames that have an owner are clients' frames of the memory
-abbrev pub OwnedFramesAreInMemory : OwnersAndLoans → ℕ → Type 0
-OwnedFramesAreInMemory table size = (frame : Frame) (client : ClientId) → owner_of table frame ≡ Some client
+abbrev pub OwnedFramesAreClientsAndInMemory : OwnersAndLoans → ℕ → Type 0
+OwnedFramesAreClientsAndInMemory table size = (frame : Frame) (client : ClientId) → owner_of table frame ≡ Some client
     → (DRIVER_FRAMES ≤ frame.0) × (FRAME_BYTES * frame.0 + FRAME_BYTES ≤ size)
 
 -- What stands behind each port, as it was found; a ready one runs, has a disk in if it shows one, and doesn't wait for
@@ -235,7 +235,8 @@ pub record PortInvariant (wanted : List Wanted) (found : List ProbeResult) (port
   pub bad_disk_is_shown_if_in : FoundUnusableDevice (state_of (probe_result_of found port))
       → ShowsDiskIfIn (d.port port)
   pub ready_has_disk_if_shown : state_of (probe_result_of found port) ≡ ReadyState → ShownDiskIsIn (d.port port)
-  pub queued_halt_has_taken_command : state_of (probe_result_of found port) ≡ ReadyState → HaltIsOfTaken (d.port port)
+  pub ready_is_not_log_only_and_halt_is_of_taken : state_of (probe_result_of found port) ≡ ReadyState
+      → HaltIsOfTaken (d.port port)
 
 -- how many slots of a port may be used: those of its mode, if it is ready
 abbrev pub usable_slots_of : ProbeResult → QueueMode → ℕ
@@ -254,7 +255,7 @@ pub record SlotsInvariant (found : List ProbeResult) (modes : List QueueMode) (s
 pub record HasStoredCommand (queued : Bool) (d : Device) (port slot : ℕ) : Type 0 where
   pub command : Meaning
   pub places : List ℕ
-  pub stored : IsStored d port slot command places
+  pub stored : IsStoredOnPortWithStSet d port slot command places
   pub is_queued_as_given : is_queued command.operation ≡ queued
 
 -- the slot is slot 0, and no other one of the port is used
@@ -294,11 +295,11 @@ pub record InCallInvariant (s : ServerState) : Type 0 where
       → Contains s.book e → e.request.id ≡ used.id → used.queued ≡ not (is_plain (mode_in s port) e.request.op)
   pub slots_store_commands : (port slot : ℕ) (used : SlotUse) → used_for s.slots port slot ≡ Some used
       → HasStoredCommand used.queued s.device port slot
-  pub plain_stands_alone : (port slot : ℕ) (used : SlotUse) → used_for s.slots port slot ≡ Some used → used.queued
+  pub plain_is_alone_in_slot_0 : (port slot : ℕ) (used : SlotUse) → used_for s.slots port slot ≡ Some used → used.queued
       ≡ false
       → IsLoneSlot0 s.slots port slot
   pub rows_are_valid : All IsValidRow s.grants
-  pub owned_frames_are_clients : OwnedFramesAreInMemory s.table s.device.memory_size
+  pub owned_frames_are_clients : OwnedFramesAreClientsAndInMemory s.table s.device.memory_size
   pub entries_are_well_formed : All (IsWellFormedEntry s.table) s.book
   pub book_is_well_formed : BookIsWellFormed s.book
   pub revoked_marks_agree : All (RevokedMarkInvariant s.grants) s.book
@@ -327,7 +328,7 @@ pub record IsNewServer (host : Host) (s : ServerState) : Type 0 where
   pub rows_are_valid : All IsValidRow s.grants
   pub grants_differ_in_name : AllPairs DifferInName s.grants
   pub at_most_64_grants : length s.grants ≤ 64
-  pub owned_frames_are_clients : OwnedFramesAreInMemory s.table s.device.memory_size
+  pub owned_frames_are_clients : OwnedFramesAreClientsAndInMemory s.table s.device.memory_size
   pub owners_are_clients : (frame : Frame) (client : ClientId) → owner_of s.table frame ≡ Some client → (1 ≤ client.0)
       × (client.0 ≤ 8) × (frame.0 < MOST_FRAMES)
   pub driver_memory_fits : DRIVER_BYTES ≤ s.device.memory_size

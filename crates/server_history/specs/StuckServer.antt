@@ -16,7 +16,7 @@ use Rattle.host_boot.specs.declared.ProbeResult.{ProbeResult}
 use Rattle.host_boot.specs.declared.ProbeResult.TheVariants.{Unserved, Unready}
 use Rattle.request_queue.specs.BookEntries.{BookEntry, IsWellFormedEntry, BookIsWellFormed}
 use Rattle.server_history.specs.ErrorHandling.{requests_of}
-use Rattle.server_history.specs.ServerState.{ServerState, MachineRelation, RevokedMarkInvariant, OwnedFramesAreInMemory, last_disk_in, is_served, quarantined_at, mode_at, plain_mode, remembered_at, slots_at, used_for}
+use Rattle.server_history.specs.ServerState.{ServerState, MachineRelation, RevokedMarkInvariant, OwnedFramesAreClientsAndInMemory, last_disk_in, is_served, quarantined_at, mode_at, plain_mode, remembered_at, slots_at, used_for}
 
 -- What holds of a server whether or not its adapter is on. The adapter has the memory of the driver and of the clients.
 -- Ports are served in which a disk is wanted, and which the adapter has; another one is idle, has no slot that is used,
@@ -41,7 +41,7 @@ pub record ServerInvariant (s : ServerState) : Type 0 where
       → length (quarantined_at s.kept_loans port.0) + count_by (λ (e : BookEntry). e.request.issued)
       (requests_of port s.book) ≤ 32
   pub rows_are_valid : All IsValidRow s.grants
-  pub owned_frames_are_clients : OwnedFramesAreInMemory s.table s.device.memory_size
+  pub owned_frames_are_clients : OwnedFramesAreClientsAndInMemory s.table s.device.memory_size
   pub entries_are_well_formed : All (IsWellFormedEntry s.table) s.book
   pub book_is_well_formed : BookIsWellFormed s.book
   pub revoked_marks_agree : All (RevokedMarkInvariant s.grants) s.book

@@ -12,21 +12,21 @@ use Rattle.adapter.specs.declared.tape.Fault as tape_fault
 use Rattle.refinement.specs.Relation.{port_at}
 use Rattle.refinement.specs.Fragments.{SparesOtherPorts, GainsNoMove}
 use Rattle.refinement.specs.Driver.{TapeBacksSteps}
-use Rattle.block_machine.specs.Events.{AbstractCall, AnswersAndWaitsLawful, AllEnabled, AnswersEnded, AreStepsOfCall, UnpluggedLostDisk, ShownDiskWasInOrCame, IsByDevice, IssueIsLastOfRequest, AbstractState, NoneStaysIssued, Replied, Service, RepliesMatch, Tick, UnpluggedEmptiesPort}
+use Rattle.block_machine.specs.Events.{AbstractCall, AnswersAndWaitsLawful, AllEnabled, AnswersEnded, AreStepsOfCall, UnpluggedPortIsNotDeadNorReadyWithSameDisk, ShownDiskWasInOrCame, IsByDevice, IssueIsLastOfRequest, AbstractState, NoneStaysIssued, Replied, Service, RepliesMatch, Tick, UnpluggedEmptiesPort}
 use Rattle.block_machine.specs.DueRequests.{requests_of_port}
 use Rattle.block_machine.specs.Histories.{JointEvent, JointState, IsReachable}
 use Rattle.block_machine.specs.Expected.{after}
 use Rattle.block_machine.specs.Ports.{Evidence, RequestFault, IsStoppedOrStuck, IsServiced, Ports, SameSerialAndSize, SamePort}
 use Rattle.block_machine.specs.State.{Machine, Pending}
 use Rattle.block_machine.specs.Steps.{Step, WaitAgain, Answer, Issue}
-use Rattle.driver_history.specs.EvidenceHandling.{OnlyFailedPortsRequeueOrFault}
+use Rattle.driver_history.specs.EvidenceHandling.{OnlyFailedPortsRequeueAbortRevokeOrFault}
 use Rattle.driver_history.specs.Evidence.{IsEvidencedOf}
-use Rattle.error_recovery.specs.Evidence.{BringsLog, HasFailed}
+use Rattle.error_recovery.specs.Evidence.{BringsLastLogPage, HasFailed}
 use Rattle.identify.specs.ErrorLog.{NamesQueuedCommand}
 use Rattle.driver_history.specs.Histories.{FindsDone, IsIssuedOn, IssuesDue, LosesNoPortError, RunsWellAnew, PortCorresponds}
 use Rattle.driver_history.specs.PortInvariants.{HasNoUnanswered}
 use Rattle.driver_history.specs.AccessTrace.{StaysInDriverFrames, ResetsLink}
-use Rattle.driver_history.specs.PortTurn.{EndsNoLinkDue}
+use Rattle.driver_history.specs.PortTurn.{ChangedUnreadyPortEndsNoLinkDue}
 use Rattle.host_boot.specs.TakeOver.{probe_result_of}
 use Rattle.host_boot.specs.declared.ProbeResult.{ProbeResult}
 use Rattle.host_boot.specs.declared.ProbeResult.TheVariants.{Ready, Unready, Unserved}
@@ -74,7 +74,7 @@ IsFaultOfCommand false port accesses old new slot told =
     × (fault.status ≡ told.status) × (fault.error ≡ told.error)
 IsFaultOfCommand true port accesses old new slot told =
     ((fault : tape_fault.Fault) × HasFailed port accesses old new fault)
-    × ((page : List ℕ) × BringsLog port old new page × NamesQueuedCommand page slot told.status told.error)
+    × ((page : List ℕ) × BringsLastLogPage port old new page × NamesQueuedCommand page slot told.status told.error)
 
 -- The fault that is told is of a request that had a slot of the port when the turn began. (Where the log's page told
 -- it, the port doesn't end dead.)
@@ -85,7 +85,7 @@ pub record IsFaultOfUsedSlot (port : Port) (accesses : List Access) (old new : S
   pub slot_use_is : used_for old.slots port.0 slot ≡ Some used
   pub id_is : used.id ≡ told.id
   pub is_fault_of_command : IsFaultOfCommand used.queued port accesses old.device new.device slot told
-  pub port_is_not_dead : used.queued ≡ true → state_of (probe_result_of new.probe_results port.0) ≢ Dead
+  pub port_is_not_dead_if_queued : used.queued ≡ true → state_of (probe_result_of new.probe_results port.0) ≢ Dead
 
 -- ---- a turn
 
@@ -122,8 +122,8 @@ pub record HandlesShownErrors (port : Port) (accesses : List Access) (old : Join
   pub runs_well_anew : RunsWellAnew evidence accesses old ports new port
 
 -- As such a call it has done of its port what a service does of one; where it probed a port that showed X, and no disk
--- came, no link is due at its end (EndsNoLinkDue); and where it restarts the port it has done what a call does of
--- trouble.
+-- came, no link is due at its end (ChangedUnreadyPortEndsNoLinkDue); and where it restarts the port it has done what a
+-- call does of trouble.
 abbrev pub TurnCorresponds : Turn → Port → List Reply → List Access → ServerState → ServerState → Machine → Evidence
     → List Step → Type 0
 TurnCorresponds ServingReady port replies accesses old new m evidence steps =
@@ -132,7 +132,7 @@ TurnCorresponds InRestart port replies accesses old new m evidence steps =
     HandlesShownErrors port accesses (joint_state_of old m) evidence (ports_of new) new.device
 TurnCorresponds InProbe port replies accesses old new m evidence steps =
     PortCorresponds (joint_state_of old m) (joint_event_of_turn InProbe replies new evidence steps) accesses port
-    × EndsNoLinkDue port (joint_state_of old m) (ports_of new) new.device
+    × ChangedUnreadyPortEndsNoLinkDue port (joint_state_of old m) (ports_of new) new.device
 TurnCorresponds RestingInTick port replies accesses old new m evidence steps = Unit {0}
 
 -- What was done was found by a reading of the masks, in which the bits of each slot that wasn't used when the turn
@@ -156,7 +156,7 @@ pub record RestartsPort (port : Port) (accesses : List Access) (old new : Server
   pub answers_ended : AnswersEnded m steps port
   pub is_interrupted : IsStoppedOrStuck evidence port
   pub none_stays_issued : NoneStaysIssued steps (after m steps) port
-  pub unplugged_lost_its_disk : UnpluggedLostDisk steps (ports_of old) (ports_of new)
+  pub unplugged_lost_its_disk : UnpluggedPortIsNotDeadNorReadyWithSameDisk steps (ports_of old) (ports_of new)
   pub shown_disk_was_in_or_came : ShownDiskWasInOrCame (abstract_state_of old m) steps
       (abstract_state_of new (after m steps)) port
 
@@ -165,8 +165,9 @@ pub record RestartsPort (port : Port) (accesses : List Access) (old new : Server
 -- Where a port rests nothing is done.
 abbrev pub MeetsTurnDuty : Turn → Port → List Access → ServerState → ServerState → Machine → Evidence → List Step
     → Type 0
-MeetsTurnDuty ServingReady port accesses old new m evidence steps = OnlyFailedPortsRequeueOrFault evidence steps
-MeetsTurnDuty InProbe port accesses old new m evidence steps = OnlyFailedPortsRequeueOrFault evidence steps
+MeetsTurnDuty ServingReady port accesses old new m evidence steps = OnlyFailedPortsRequeueAbortRevokeOrFault evidence
+    steps
+MeetsTurnDuty InProbe port accesses old new m evidence steps = OnlyFailedPortsRequeueAbortRevokeOrFault evidence steps
     × (evidence.faults ≡ [])
     × (evidence.lost ≡ [])
 MeetsTurnDuty InRestart port accesses old new m evidence steps = RestartsPort port accesses old new m evidence steps
@@ -212,7 +213,7 @@ pub record SimulatesTurn (turn : Turn) (port : Port) (replies : List Reply) (acc
 -- what a turn of the port leaves of the server: its grants, the disks that are wanted, the id that was handed out last,
 -- and what it has of other ports and their requests (the machine that stands for it has the owners, and the loans that
 -- are kept)
-pub record LeavesOthers (port : Port) (old new : ServerState) : Type 0 where
+pub record LeavesOtherPortsGrantsAndLastId (port : Port) (old new : ServerState) : Type 0 where
   pub grants : new.grants ≡ old.grants
   pub wanted : new.wanted ≡ old.wanted
   pub last_id : new.last_id ≡ old.last_id
@@ -232,8 +233,8 @@ pub record IsPortTurn (turn : Turn) (port : Port) (replies : List Reply) (old ne
   pub accesses_are_done : DoesAll accesses old.device new.device
   pub accesses_are_of_port : All (SparesOtherPorts port) accesses
   pub accesses_are_drivers_own : All StaysInDriverFrames accesses
-  pub leaves_others : LeavesOthers port old new
-  pub others_get_no_log : (q : ℕ) → q ≢ port.0 → state_of (probe_result_of old.probe_results q) ≢ Dead
+  pub leaves_others : LeavesOtherPortsGrantsAndLastId port old new
+  pub others_get_no_log_unless_dead : (q : ℕ) → q ≢ port.0 → state_of (probe_result_of old.probe_results q) ≢ Dead
       → GainsNoMove q ReadLog old.device new.device
   pub simulates_turn : (m : Machine) → IsReachable m → MachineRelation old m
       → SimulatesTurn turn port replies accesses old new m

@@ -2,7 +2,7 @@
 ghost use Rattle.std.specs.Prelude.{ℕ, Bool, true, false, ◌≡◌, ◌≢◌, ◌<◌, ◌≤◌, ◌+◌, ◌*◌, ◌/◌, ◌%◌, ◌++◌, List, [], ◌∷◌, Some, None, Ok, Err, length, All, Contains, count_by, not};
 ghost use Rattle.ata_types.specs.{declared.Port.{Port}, declared.PortState.TheVariants.{Dead, Ready as ReadyState}, declared.grant.GrantRow.{GrantRow}, declared.memory.TheConstants.{FRAME_BYTES}, declared.refusal.MemFault.{MemFault}, declared.refusal.Refusal.{Refusal}, declared.request.ClientId.{ClientId}, declared.request.Frame.{Frame}, declared.request.Reply.{Reply}, declared.request.Request.{Request}};
 ghost use Rattle.ata_types.specs.{declared.request.RequestId.{RequestId}, declared.PortState.{PortState}};
-ghost use Rattle.adapter.specs.{Access.{Loads, Stores}, AskedSteps.{DoesOrFailsStep}, Device.{Device}, Idle.{IsIdle, TellsDisks}, Rules.{HasPort, IsUnowned, IsOn, IsStable}, Steps.{Steps}, declared.access.DeviceStep.{DeviceStep}};
+ghost use Rattle.adapter.specs.{Access.{Loads, Stores}, AskedSteps.{DoesOrFailsStep}, Device.{Device}, Idle.{IsIdle, DisksAreKnownIfTelling}, Rules.{HasPort, IsUnowned, IsOn, IsStable}, Steps.{Steps}, declared.access.DeviceStep.{DeviceStep}};
 ghost use Rattle.refinement.specs.{Fragments.{SomeMachineAgreesWith, AnySlotStates, IsSimulated}, PortFacts.{RunsWell, Undisturbed}, Slots.{IsOver}};
 ghost use Rattle.block_machine.specs.{DueRequests.{IsDue, is_plain}, Events.{Submit, StoreAt, LoadAt, RevokeOf, Service, State, Tick, StepDevice as Told, Submitted, Replied, PortStateShown, Stepped, WasRevoked}, Refusals.{IsAcceptable, IsFirstRefusal, MayAccessFrame, IsFirstMemFault}, Rules.{HasRow, IsNamed}};
 ghost use Rattle.command_table.specs.TableStores.{IsUnused};
@@ -12,20 +12,20 @@ ghost use Rattle.identify.specs.declared.DiskInfo.{DiskInfo};
 ghost use Rattle.hba_regs.specs.Bits.{bit};
 ghost use Rattle.commands.specs.{Batches.{PlacedTask}, Masks.{ReadsDone, FindsEachClearSlot}};
 ghost use Rattle.request_queue.specs.BookEntries.{BookEntry, as_unanswered, unanswered_of, due_ids};
-ghost use Rattle.server_history.specs.{Histories.{ExtendsSettled, ExtendsByStuck, ExtendsHistory, StartsHistory, InvariantBetweenCalls, load_result, store_result}, KeptLoans.{LoansEndInTurn}, Revoking.{RevokesGrant}, IssuingAndAnswering.{AcceptsAndIssues, AnswersDoneAndIssues, AnswersOne, IsEmptyMask, IsMaskOf, IssuesDueOfPort, IssuesTogetherIfAny, ChangesOnlySlotsAndBook, FindsSlotFor, PutsInSlot, PutsInSlots, with_accepted}};
+ghost use Rattle.server_history.specs.{Histories.{ExtendsSettled, ExtendsAndHasInvariantByStuck, ExtendsHistory, StartsHistory, InvariantBetweenCalls, load_result, store_result}, KeptLoans.{LoansEndInTurn}, Revoking.{RevokesGrant}, IssuingAndAnswering.{AcceptsAndIssues, AnswersDoneAndIssues, AnswersOne, IsEmptyMask, IsMaskOf, IssuesDueOfPort, IssuesTogetherIfAny, ChangesOnlySlotsAndBook, FindsSlotFor, PutsInSlot, PutsInSlots, with_accepted}};
 ghost use Rattle.server_history.specs.{StuckServer.{ServerInvariant}, Probing.{ProbesPort}, Turns.{IsPortTurn, InRestart, ServicesEachPort, ServicesPort, Ticks, ProbesUnready, a_tick_older}, ServerState.{ServerState, probed_mode, InCallInvariant, IsNewServer, SettledInvariant, quarantined_at, mode_in, ports_of, admission_context, slots_at, state_of, used_for}};
 ghost use Rattle.server_history.specs.ErrorHandling.{AreAllQueuedAs, IsErrorHandled, HasResolved, HandlesPortError, requests_of};
 ghost use Rattle.port_control.specs.{declared.events.PortError.TheVariants.{TimedOut}, PortEvents.{IsEventAccess, TakesEvent}, declared.events.PortEvent.TheVariants.{TaskFileError, NoEvent}, Ports.{IsStopped}, declared.Stopped.{Stopped}};
 ghost use Rattle.slots.specs.{SlotUses.{IsLowestFree, IsTaken}, declared.SlotUse.{SlotUse}};
-ghost use Rattle.error_recovery.specs.{Recovery.{PlainUsesSlot0, StopsForReset, PlainIsSlot0, PortMayRecover}, declared.Recovered.{Recovered}, declared.Next.TheVariants.{Restart}};
-ghost use Rattle.port_boot.specs.States.{IsBootable};
+ghost use Rattle.error_recovery.specs.{Recovery.{PlainUsesSlot0, StopsOrSticksForReset, PlainIsSlot0, PortMayRecover}, declared.Recovered.{Recovered}, declared.Next.TheVariants.{Restart}};
+ghost use Rattle.port_boot.specs.States.{IsOnWithPortMemoryAndFreeSlots};
 
 use super::prerequisites::{law_frame_holder_prerequisites, law_history_prerequisites};
 use ata_types::MOST_READINGS;
 use host_boot::laws::law_what_was_taken_over_may_be_served;
 
 /// A ready port of a new server runs well, if nothing went wrong on it since the adapter was idle.
-pub fn law_new_ready_ports_run_well()
+pub fn law_new_undisturbed_ready_ports_run_well()
     ensures { (s : ServerState) (host : Host) (idle : Device) (port : Port) → InCallInvariant s → IsIdle idle
         → TakesOver s.wanted host idle s.device → s.probe_results ≡ host.ports
         → state_of (probe_result_of s.probe_results port.0) ≡ ReadyState
@@ -36,7 +36,7 @@ pub fn law_new_ready_ports_run_well()
 
 /// A server of an adapter that was taken over holds what a server keeps, and a history without calls leads to it.
 pub fn law_new_server_starts_history()
-    ensures { (s : ServerState) (host : Host) (idle : Device) → IsIdle idle → TellsDisks idle
+    ensures { (s : ServerState) (host : Host) (idle : Device) → IsIdle idle → DisksAreKnownIfTelling idle
         → TakesOver s.wanted host idle s.device → IsNewServer host s → SettledInvariant s × StartsHistory s }
 {
     law_history_prerequisites();
@@ -48,7 +48,7 @@ pub fn law_new_server_starts_history()
 pub fn law_device_steps_extend_history()
     ensures did { (stuck : Bool) (s : ServerState) (new : Device) (step : DeviceStep) → InvariantBetweenCalls stuck s
         → DoesOrFailsStep step s.device new → Steps s.device new
-        → ExtendsByStuck stuck s (record s { device = new }) (Told step) (Stepped true) }
+        → ExtendsAndHasInvariantByStuck stuck s (record s { device = new }) (Told step) (Stepped true) }
     ensures did_not { (stuck : Bool) (s : ServerState) (step : DeviceStep) → InvariantBetweenCalls stuck s
         → ExtendsHistory s s (Told step) (Stepped false) }
 {
@@ -93,14 +93,15 @@ pub fn law_client_bytes_extend_history()
         (bytes : List ℕ) → InvariantBetweenCalls stuck s
         → MayAccessFrame (owner_of s.table) (lent_to s.table) client frame offset (length bytes)
         → Stores (FRAME_BYTES * frame.0 + offset) bytes s.device new
-        → ExtendsByStuck stuck s (record s { device = new }) (StoreAt client frame offset bytes)
+        → ExtendsAndHasInvariantByStuck stuck s (record s { device = new }) (StoreAt client frame offset bytes)
         (store_result (Ok tt)) }
     ensures load { (stuck : Bool) (s : ServerState) (new : Device) (client : ClientId) (frame : Frame)
         (offset count : ℕ)
         (bytes : List ℕ) → InvariantBetweenCalls stuck s → length bytes ≡ count
         → MayAccessFrame (owner_of s.table) (lent_to s.table) client frame offset count
         → Loads (FRAME_BYTES * frame.0 + offset) bytes s.device new
-        → ExtendsByStuck stuck s (record s { device = new }) (LoadAt client frame offset count) (load_result (Ok tt)
+        → ExtendsAndHasInvariantByStuck stuck s (record s { device = new }) (LoadAt client frame offset count)
+        (load_result (Ok tt)
         bytes) }
 {
     law_history_prerequisites();
@@ -108,7 +109,7 @@ pub fn law_client_bytes_extend_history()
 
 /// A due request of a server finds a free slot. The lowest is usable, one of the adapter's, and slot 0 for a plain
 /// command; and some machine agrees with a driver that doesn't use it.
-pub fn law_a_due_request_may_issue()
+pub fn law_a_due_request_finds_a_free_slot()
     ensures lowest_free_slot_fits { (s : ServerState) (request : BookEntry) → InCallInvariant s
         → Contains s.book request
         → IsDue (mode_in s request.request.port) (unanswered_of s.book) (as_unanswered request.request)
@@ -218,7 +219,7 @@ pub fn law_looks_preserve_invariant()
         → state_of (probe_result_of s.probe_results port.0) ≡ ReadyState → IsMaskOf (slots_at s.slots port.0) mask
         → slot < 32
         → ReadsDone port mask done s.device new → bit done slot ≡ true → IsOver (new.port port.0) slot }
-    ensures no_look_is_one { (port : Port) (device : Device)
+    ensures empty_look_is_simulated { (port : Port) (device : Device)
         → IsSimulated (IsEventAccess port) AnySlotStates device device }
 {
     law_history_prerequisites();
@@ -295,7 +296,7 @@ pub fn law_a_port_goes_on_after_its_errors()
     ensures bootable { (s mid : ServerState) (device : Device) (port : Port) (token : Stopped) → InCallInvariant s
         → state_of (probe_result_of s.probe_results port.0) ≡ ReadyState → (r : IsErrorHandled port s mid device)
         → IsSimulated (IsEventAccess port) AnySlotStates s.device r.device_after_look → r.result.next ≡ Restart token
-        → IsBootable port device
+        → IsOnWithPortMemoryAndFreeSlots port device
         × IsStopped (device.port port.0) × ((device.port port.0).notes.link_wait_count ≡ MOST_READINGS) }
     ensures mode_is_kept { (s mid : ServerState) (device : Device) (port : Port) → InCallInvariant s
         → state_of (probe_result_of s.probe_results port.0)
@@ -360,8 +361,8 @@ pub fn law_an_unready_port_is_probed()
         (token : Stopped) → InCallInvariant s
         → probe_result_of s.probe_results port.0 ≡ Unready state → state ≢ Dead
         → IsSimulated (IsEventAccess port) AnySlotStates s.device seen
-        → StopsForReset port 0 true result seen stopped → result.next ≡ Restart token
-        → (token.port ≡ port) × IsBootable port stopped × IsStopped (stopped.port port.0) }
+        → StopsOrSticksForReset port 0 true result seen stopped → result.next ≡ Restart token
+        → (token.port ≡ port) × IsOnWithPortMemoryAndFreeSlots port stopped × IsStopped (stopped.port port.0) }
     ensures probe_is_a_turn { (s new : ServerState) (port : Port) → SettledInvariant s
         → (probes : ProbesPort port s new)
         → (probes.state ≢ Dead → IsSimulated (IsEventAccess port) AnySlotStates s.device probes.device_after_look)

@@ -10,7 +10,7 @@ use block_machine::laws::law_a_name_is_of_one_row;
 use block_machine::laws::law_accepted_is_granted;
 use block_machine::laws::law_due_depends_on_own_port;
 use block_machine::laws::law_due_in_turn;
-use block_machine::laws::law_due_is_exact;
+use block_machine::laws::law_due_list_is_exact;
 use block_machine::laws::law_ended_is_issued;
 use block_machine::laws::law_frame_holder_was_accepted;
 use block_machine::laws::law_frames_are_their_clients;
@@ -25,27 +25,27 @@ use block_machine::laws::law_rows_shrink_and_owners_stay;
 use block_machine::laws::law_step_lists_compose;
 use commands::laws::law_batch_issues_come_last;
 use commands::laws::law_calls_are_of_one_port;
-use commands::laws::law_finding_is_followed;
+use commands::laws::law_reading_done_is_simulated;
 use driver_history::laws::law_a_turns_evidence_is_the_calls;
 use driver_history::laws::law_driver_invariant_holds;
 use driver_history::laws::law_histories_reach_their_machines;
 use driver_history::troubles::law_a_fatal_error_of_a_part_is_of_the_whole;
 use driver_history::troubles::law_a_fault_alone_in_a_call_is_alone_in_a_turn;
-use driver_history::troubles::law_a_port_that_was_stopped_was_set_since;
 use driver_history::troubles::law_a_turn_that_probes_a_disk_is_the_calls;
 use driver_history::troubles::law_a_turns_errors_are_the_calls;
 use driver_history::troubles::law_ordinary_accesses_lose_no_error;
+use driver_history::troubles::law_st_of_a_stopped_port_was_set_since;
 use driver_history::troubles::law_what_is_untroubled_since_st_was_set_is_calm;
 use error_recovery::laws::law_recovery_is_of_its_port;
 use error_recovery::laws::law_what_stands_behind_a_fault_stays;
 use host_boot::laws::law_what_was_booted_again_may_be_served;
 use host_boot::laws::law_what_was_found_still_stands;
 use port_boot::laws::law_a_boot_is_of_its_port;
-use port_boot::laws::law_a_disk_is_in_where_one_shows;
 use port_boot::laws::law_a_port_runs_on;
-use port_control::events::laws::law_errors_are_heeded;
+use port_boot::laws::law_shown_disk_is_in_is_kept;
 use port_control::events::laws::law_errors_are_seen;
 use port_control::events::laws::law_failures_are_found;
+use port_control::events::laws::law_looks_and_services_hide_no_error;
 use port_control::events::laws::law_looks_are_of_one_port;
 use port_control::events::laws::law_looks_are_services;
 use port_control::events::laws::law_port_events_tell;
@@ -55,7 +55,7 @@ use port_control::events::prerequisites::law_prerequisites;
 use port_control::laws::law_what_is_told_of_engines_stays;
 use refinement::access_kinds::law_fragment_prerequisites;
 use refinement::acts::law_acts_advance_driver;
-use refinement::disks::law_where_no_disk_comes;
+use refinement::disks::law_vacancy_stays_where_no_disk_comes;
 use refinement::fragments::law_other_ports_are_untouched;
 use refinement::giving_up::law_fault_is_outstanding;
 use refinement::giving_up::law_given_up_requests_are_parked;
@@ -65,6 +65,7 @@ use refinement::laws::law_advances_compose;
 use refinement::laws::law_an_idle_device_agrees;
 use refinement::laws::law_answering_agrees;
 use refinement::laws::law_backing_composes;
+use refinement::laws::law_book_only_advances_over_device_steps;
 use refinement::laws::law_client_bytes_are_accessible;
 use refinement::laws::law_client_load_is_followed;
 use refinement::laws::law_client_store_is_followed;
@@ -79,17 +80,16 @@ use refinement::laws::law_parking_frees;
 use refinement::laws::law_revoking_agrees;
 use refinement::laws::law_setting_changes_one_slot;
 use refinement::laws::law_slots_are_counted;
-use refinement::laws::law_steps_spare_the_book;
 use refinement::laws::law_ticking_agrees;
 use refinement::laws::law_waiting_has_no_slot;
 use refinement::port_facts::law_disk_in_stays_shown;
-use refinement::port_facts::law_disk_stays;
+use refinement::port_facts::law_disk_stays_without_plug_events;
 use refinement::port_facts::law_ended_is_clear;
 use refinement::port_facts::law_errors_are_shown;
 use refinement::port_facts::law_notes_are_set;
 use refinement::port_facts::law_over_stays;
 use refinement::port_facts::law_plug_events_are_found;
-use refinement::port_facts::law_undisturbed_ports_tell_nothing;
+use refinement::port_facts::law_undisturbed_has_no_error_or_plug;
 use refinement::port_facts::law_writing_ghc_switches_on;
 use refinement::readying::law_stored_stays;
 use refinement::readying::law_stored_stays_over_acts;
@@ -99,7 +99,7 @@ use request_queue::laws::law_answers_of_one_outcome_are_one_change;
 use request_queue::laws::law_book_stays_well_formed;
 use request_queue::laws::law_client_counts_agree;
 use request_queue::laws::law_operations_change_one_request;
-use request_queue::laws::law_operations_change_what_is_due;
+use request_queue::laws::law_operations_change_the_unanswered;
 use request_queue::laws::law_steps_change_the_book;
 use request_queue::laws::law_well_formed_entries_stay;
 use std::marker::Brand;
@@ -117,7 +117,7 @@ fn law_basics()
     law_histories_reach_their_machines();
     law_one_id_is_in_the_book_once();
     law_ended_is_issued();
-    law_steps_spare_the_book();
+    law_book_only_advances_over_device_steps();
     law_accesses_compose();
 }
 
@@ -168,7 +168,7 @@ fn law_ages()
     law_steps_change_the_book();
     law_book_stays_well_formed();
     law_well_formed_entries_stay();
-    law_operations_change_what_is_due();
+    law_operations_change_the_unanswered();
 }
 
 /// What looks at ports tell, and what they leave.
@@ -183,7 +183,7 @@ fn law_looks()
     law_failures_are_found();
     law_errors_are_seen();
     law_port_events_tell();
-    law_errors_are_heeded();
+    law_looks_and_services_hide_no_error();
     law_looks_are_services();
     law_looks_are_of_one_port();
     law_services_keep_ports_running();
@@ -198,7 +198,7 @@ fn law_recoveries()
     law_advances_compose();
     law_setting_changes_one_slot();
     law_other_ports_are_untouched();
-    law_a_disk_is_in_where_one_shows();
+    law_shown_disk_is_in_is_kept();
     law_what_was_booted_again_may_be_served();
     law_what_was_found_still_stands();
 }
@@ -209,8 +209,8 @@ fn law_port_errors()
 {
     law_errors_are_shown();
     law_plug_events_are_found();
-    law_undisturbed_ports_tell_nothing();
-    law_disk_stays();
+    law_undisturbed_has_no_error_or_plug();
+    law_disk_stays_without_plug_events();
     law_halts_are_of_taken_commands();
 }
 
@@ -223,7 +223,7 @@ fn law_calls()
     law_a_fault_alone_in_a_call_is_alone_in_a_turn();
     law_a_turns_errors_are_the_calls();
     law_a_turn_that_probes_a_disk_is_the_calls();
-    law_a_port_that_was_stopped_was_set_since();
+    law_st_of_a_stopped_port_was_set_since();
     law_a_fatal_error_of_a_part_is_of_the_whole();
     law_what_is_untroubled_since_st_was_set_is_calm();
 }
@@ -249,15 +249,15 @@ pub fn law_history_prerequisites()
     law_answers_of_one_outcome_are_one_change();
     law_backing_composes();
     law_own_steps_are_backed();
-    law_operations_change_what_is_due();
-    law_due_is_exact();
+    law_operations_change_the_unanswered();
+    law_due_list_is_exact();
     law_due_in_turn();
     law_due_depends_on_own_port();
     law_other_ports_requests_stay();
     law_prerequisites();
     law_batch_issues_come_last();
     law_calls_are_of_one_port();
-    law_finding_is_followed();
+    law_reading_done_is_simulated();
     law_writing_ghc_switches_on();
     law_other_ports_are_untouched();
     law_a_port_runs_on();
@@ -265,7 +265,7 @@ pub fn law_history_prerequisites()
     law_a_boot_is_of_its_port();
     law_what_is_told_of_engines_stays();
     law_what_stands_behind_a_fault_stays();
-    law_where_no_disk_comes();
+    law_vacancy_stays_where_no_disk_comes();
     law_disks_are_told();
     law_an_idle_device_agrees();
     law_frames_are_their_clients();

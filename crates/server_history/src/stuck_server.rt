@@ -10,7 +10,7 @@ ghost use Rattle.server_history.specs.{Histories.{ExtendsStuck}, Revoking.{Revok
 use super::prerequisites::{law_frame_holder_prerequisites, law_history_prerequisites};
 
 /// What holds of a server at each moment of a call holds of its book, whether or not its adapter is on.
-pub fn law_server_invariant_holds()
+pub fn law_in_call_gives_server_invariant()
     ensures server_invariant { (s : ServerState) → InCallInvariant s → ServerInvariant s }
     ensures may_resolve { (s : ServerState) → ServerInvariant s → MayResolve s }
 {

@@ -20,11 +20,12 @@ pub data AccessOrStep : Type 0 where
   DeviceStepCame : DeviceTransition → AccessOrStep
 
 -- the access keeps to the rules in the state in which it is made, and what it gives is what is there
-abbrev pub IsAllowedInState : Access → Device → Type 0
-IsAllowedInState (Reading r v) d = MayRead r d × Shows r v d
-IsAllowedInState (Writing r v) d = MayWrite r v d
-IsAllowedInState (Loading at bytes) d = IsUnowned at (length bytes) d × (bytes ≡ bytes_at d.memory at (length bytes))
-IsAllowedInState (Storing at bytes) d = IsUnowned at (length bytes) d
+abbrev pub IsAllowedAndShowsState : Access → Device → Type 0
+IsAllowedAndShowsState (Reading r v) d = MayRead r d × Shows r v d
+IsAllowedAndShowsState (Writing r v) d = MayWrite r v d
+IsAllowedAndShowsState (Loading at bytes) d = IsUnowned at (length bytes) d
+    × (bytes ≡ bytes_at d.memory at (length bytes))
+IsAllowedAndShowsState (Storing at bytes) d = IsUnowned at (length bytes) d
 
 abbrev pub after_access : Access → Device → Device
 after_access (Reading r v) d = device_after_reading r v d
@@ -33,7 +34,7 @@ after_access (Loading at bytes) d = d
 after_access (Storing at bytes) d = record d { memory = patched d.memory at bytes }
 
 abbrev pub MayCome : AccessOrStep → Device → Type 0
-MayCome (MadeAccess access) d = IsAllowedInState access d
+MayCome (MadeAccess access) d = IsAllowedAndShowsState access d
 MayCome (DeviceStepCame step) d = Can step d
 
 abbrev pub after_access_or_step : AccessOrStep → Device → Device
@@ -73,7 +74,7 @@ pub record IsReachableByRun (d : Device) : Type 0 where
   pub device_is : d ≡ device_after_run events initial_device
 
 -- Its commands stand on bytes that no step of the device changes.
-pub record CommandsAreSafe (d : Device) : Type 0 where
+pub record CommandBytesAreGuarded (d : Device) : Type 0 where
   pub tables : ℕ → Bool
   pub kept_addresses : ℕ → Bool
   pub guarded : IsGuarded (PassesTest tables) (PassesTest kept_addresses) d
@@ -108,9 +109,9 @@ pub record StepCanCome (kind : TransitionKind) : Type 0 where
   pub step_can_come : Can step device
 
 -- the same in a state in which the commands are safe
-pub record ComesSafely (kind : TransitionKind) : Type 0 where
+pub record CanComeWithGuardedCommands (kind : TransitionKind) : Type 0 where
   pub comes : StepCanCome kind
-  pub safe : CommandsAreSafe comes.device
+  pub safe : CommandBytesAreGuarded comes.device
 
 -- ---- what runs come to
 
@@ -118,7 +119,7 @@ pub record ComesSafely (kind : TransitionKind) : Type 0 where
 pub record SecondEndsFirst : Type 0 where
   pub device : Device
   pub reached : IsReachableByRun device
-  pub safe : CommandsAreSafe device
+  pub safe : CommandBytesAreGuarded device
   pub first_command : FetchedCommand
   pub second_command : FetchedCommand
   pub both_are_queued : (is_queued first_command.meaning.operation ≡ true)
@@ -131,7 +132,7 @@ pub record SecondEndsFirst : Type 0 where
 pub record FirstHasFailed : Type 0 where
   pub device : Device
   pub reached : IsReachableByRun device
-  pub safe : CommandsAreSafe device
+  pub safe : CommandBytesAreGuarded device
   pub one : FetchedCommand
   pub other : FetchedCommand
   pub both_are_queued : (is_queued one.meaning.operation ≡ true) × (is_queued other.meaning.operation ≡ true)
@@ -142,10 +143,10 @@ pub record FirstHasFailed : Type 0 where
   pub fault_is_on_tape : (before : List Entry) × (device.tape ≡ before ++ fault_entry 0 0 0x40 0 ∷ [])
 
 -- A reset of the adapter is pending, and two ports have commands in use.
-pub record IsBeingReset : Type 0 where
+pub record ResetIsPendingWithTwoUsedPorts : Type 0 where
   pub device : Device
   pub reached : IsReachableByRun device
-  pub safe : CommandsAreSafe device
+  pub safe : CommandBytesAreGuarded device
   pub reset_is_pending : device.hr ≡ true
   pub first_used : InUse (device.port 0) 0
   pub second_used : InUse (device.port 1) 0

@@ -1,7 +1,7 @@
 // Laws on runs: the clause is the theorem. Nothing that runs calls these functions.
 ghost use Rattle.std.specs.Prelude.{◌≡◌, ◌≢◌, ◌⊎◌, ◌<◌, Bool, false, List, Some, ℕ};
 ghost use Rattle.adapter.specs.{Device.{Device, IsValidSector}, Steps.{Can}, Steps.DeviceTransition.{FetchFault as SenselessFetch, Plug}};
-ghost use Rattle.witnesses.specs.{AdapterRuns.{StepCanCome, ComesSafely, FirstHasFailed, IsBeingReset, CommandsAreSafe, TransitionKind, SecondEndsFirst}, AdapterRuns.TransitionKind.{FetchFault}};
+ghost use Rattle.witnesses.specs.{AdapterRuns.{StepCanCome, CanComeWithGuardedCommands, FirstHasFailed, ResetIsPendingWithTwoUsedPorts, CommandBytesAreGuarded, TransitionKind, SecondEndsFirst}, AdapterRuns.TransitionKind.{FetchFault}};
 
 use adapter::laws::{law_decoding_is_unique, law_kept_bytes_stay};
 
@@ -9,7 +9,7 @@ use adapter::laws::{law_decoding_is_unique, law_kept_bytes_stay};
 /// rules allow in the state in which it is made: and where its commands stand on bytes that no step changes, but for
 /// the one on bytes that mean no command.
 pub fn law_each_step_can_come()
-    ensures safely { (kind : TransitionKind) → kind ≢ FetchFault → ComesSafely kind }
+    ensures safely { (kind : TransitionKind) → kind ≢ FetchFault → CanComeWithGuardedCommands kind }
     ensures senseless { StepCanCome FetchFault }
 {
     law_kept_bytes_stay();
@@ -17,8 +17,8 @@ pub fn law_each_step_can_come()
 }
 
 /// Where the commands stand on bytes that no step changes, none is taken for no command.
-pub fn law_safe_commands_make_sense()
-    ensures { (d : Device) (port slot kept_bits : ℕ) (queued : Bool) → CommandsAreSafe d
+pub fn law_guarded_commands_cannot_fail_fetch()
+    ensures { (d : Device) (port slot kept_bits : ℕ) (queued : Bool) → CommandBytesAreGuarded d
         → Can (SenselessFetch port slot queued kept_bits) d → ⊥ }
 {}
 
@@ -38,7 +38,7 @@ pub fn law_a_command_fails_beside_another()
 
 /// A reset of the adapter may be pending while two of its ports are in use.
 pub fn law_two_used_ports_are_reset()
-    ensures { IsBeingReset }
+    ensures { ResetIsPendingWithTwoUsedPorts }
 {}
 
 /// A disk that was taken out may come back with each sector as it was when it last ended a flush, or else when it was

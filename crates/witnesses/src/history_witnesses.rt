@@ -26,7 +26,7 @@ pub fn law_a_stuck_reset_is_a_history()
 
 /// There is a history with two queued reads of one port, of which the second ends first, and is answered first: all
 /// that is asked of its calls is met.
-pub fn law_queued_requests_end_out_of_order()
+pub fn law_queued_reads_may_end_out_of_order()
     ensures { QueuedReadsEndOutOfOrder }
 {}
 

@@ -1,5 +1,5 @@
 // The calls by which a client's own bytes are stored and loaded.
-ghost use Rattle.std.specs.Prelude.{◌≡◌, ◌+◌, ◌*◌, IfErr, IfOk, length};
+ghost use Rattle.std.specs.Prelude.{◌≡◌, ◌+◌, ◌*◌, ℕ, Err, IfErr, IfOk, List, length};
 
 use super::Server;
 use adapter::Adapter;
@@ -7,37 +7,49 @@ use ata_types::{ClientId, FRAME_BYTES, Frame, MemFault};
 use server_history::laws::{
     law_client_bytes_extend_history, law_open_frames_are_accessible, law_refusals_extend_history,
 };
-use server_history::stuck_server::law_server_invariant_holds;
+use server_history::stuck_server::law_in_call_gives_server_invariant;
 
 impl<A: Adapter> Server<A> {
-    ghost use Rattle.adapter.specs.AccessBounds.{MakesAtMost};
+    ghost use Rattle.adapter.specs.{AccessBounds.{MakesAtMost}, Rules.{IsStable, IsUnowned}};
     ghost use Rattle.block_machine.specs.{Events.{LoadAt, StoreAt}, Refusals.{IsFirstMemFault, MayAccessFrame}};
     ghost use Rattle.block_server.specs.{Calls.{LoadsFrame, StoresFrame}, ServerView.{server_of}};
     ghost use Rattle.dma_frames.specs.FrameTables.{lent_to, owner_of};
     ghost use Rattle.server_history.specs.Histories.{ExtendsHistory, load_result, store_result};
 
-    /// Where in memory so many bytes of a client's own frame begin, from an offset in bytes on. The first that applies
-    /// of `FrameForeign`, `FrameLent` and `OutsideFrame` is told.
+    /// Where in memory so many bytes of a client's own frame begin, from an offset in bytes on: they may be stored and
+    /// loaded there. The first that applies of `FrameForeign`, `FrameLent` and `OutsideFrame` is told; a store or load
+    /// that is refused so adds its event to the history.
     fn open_frame_address(
         &self,
         client: ClientId,
         frame: Frame,
         offset: u32,
-        length: usize,
+        count: usize,
     ) -> Result<u32, MemFault>
         ensures ok { IfOk result (λ address. MayAccessFrame (owner_of self.now.table)
             (lent_to self.now.table) client frame
-            offset length × (address ≡ FRAME_BYTES * frame.0 + offset)) }
+            offset count × (address ≡ FRAME_BYTES * frame.0 + offset)) }
+        ensures accessible { IfOk result (λ address. IsStable (IsUnowned address count)
+            (A.device self.now.adapter)) }
         ensures err { IfErr result (IsFirstMemFault (owner_of self.now.table) (lent_to self.now.table) client frame
-            offset length) }
+            offset count) }
+        ensures refused_store { IfErr result (λ fault. (bytes : List ℕ) → length bytes ≡ count
+            → ExtendsHistory (server_of A.device self.now) (server_of A.device self.now)
+            (StoreAt client frame offset bytes) (store_result (Err fault))) }
+        ensures refused_load { IfErr result (λ fault. (out : List ℕ)
+            → ExtendsHistory (server_of A.device self.now) (server_of A.device self.now)
+            (LoadAt client frame offset count) (load_result (Err fault) out)) }
     {
+        law_refusals_extend_history();
+        law_in_call_gives_server_invariant();
+        law_open_frames_are_accessible();
         if self.shared.table.owner(frame) != Some(client) {
             return Err(MemFault::FrameForeign);
         }
         if self.shared.table.lent_to(frame).is_some() {
             return Err(MemFault::FrameLent);
         }
-        if offset as u128 + length as u128 > FRAME_BYTES as u128 {
+        if offset as u128 + count as u128 > FRAME_BYTES as u128 {
             return Err(MemFault::OutsideFrame);
         }
         Ok(FRAME_BYTES * frame.0 as u32 + offset)
@@ -59,9 +71,6 @@ impl<A: Adapter> Server<A> {
             (StoreAt client frame offset bytes.now) (store_result result) }
         ensures cost { MakesAtMost 1 (A.access_count self.old.adapter) (A.access_count self.new.adapter) }
     {
-        law_refusals_extend_history();
-        law_server_invariant_holds();
-        law_open_frames_are_accessible();
         law_client_bytes_extend_history();
         let address = self.open_frame_address(client, frame, offset, bytes.len())?;
         self.adapter.store(address, bytes);
@@ -81,9 +90,6 @@ impl<A: Adapter> Server<A> {
             (LoadAt client frame offset (length out.old)) (load_result result out.new) }
         ensures cost { MakesAtMost 1 (A.access_count self.old.adapter) (A.access_count self.new.adapter) }
     {
-        law_refusals_extend_history();
-        law_server_invariant_holds();
-        law_open_frames_are_accessible();
         law_client_bytes_extend_history();
         let address = self.open_frame_address(client, frame, offset, out.len())?;
         self.adapter.load(address, out);

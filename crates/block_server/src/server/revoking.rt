@@ -8,7 +8,9 @@ use request_queue::laws::{law_book_stays_well_formed, law_well_formed_entries_st
 use server_history::laws::{
     law_refusals_extend_history, law_requests_preserve_invariant, law_revocations_extend_history,
 };
-use server_history::stuck_server::{law_server_invariant_holds, law_stuck_calls_extend_history};
+use server_history::stuck_server::{
+    law_in_call_gives_server_invariant, law_stuck_calls_extend_history,
+};
 
 impl<A: Adapter> Server<A> {
     ghost use Rattle.block_machine.specs.Events.{RevokeOf, WasRevoked};
@@ -62,7 +64,7 @@ impl<A: Adapter> Server<A> {
     {
         law_well_formed_entries_stay();
         law_book_stays_well_formed();
-        law_server_invariant_holds();
+        law_in_call_gives_server_invariant();
         law_requests_preserve_invariant();
         law_revocations_extend_history();
         law_stuck_calls_extend_history();
@@ -72,7 +74,8 @@ impl<A: Adapter> Server<A> {
             return Err(NoSuchGrant);
         };
         self.shared.book.mark_revoked(client, number);
-        self.shared.cancel_under_grant(client, number, replies);
+        self.shared
+            .cancel_waiting_under_grant(client, number, replies);
         if self.stuck {
             // No port is ready.
             return Ok(());

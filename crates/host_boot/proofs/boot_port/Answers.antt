@@ -3,7 +3,7 @@ use Rattle.ata_types.specs.declared.Port.{Port}
 use Rattle.ata_types.specs.declared.PortState.TheVariants.{Dead}
 use Rattle.hba_regs.specs.Bits.{bit}
 use Rattle.identify.specs.declared.wanted.Wanted.TheVariants.{Nothing}
-use Rattle.port_boot.specs.States.{IsBootable, IsBootAccess}
+use Rattle.port_boot.specs.States.{IsOnWithPortMemoryAndFreeSlots, IsBootAccess}
 use Rattle.host_boot.specs.Reboots.{BootsStopped}
 use Rattle.host_boot.proofs.Booting.{found_boots, found_halts, found_reset, found_stands, found_way}
 use Rattle.host_boot.proofs.Stopping.{bootable, still_there, stuck_boots}
@@ -18,7 +18,7 @@ returns-in_default-clause-finds g c =
     let wants : c.args.wanted.now ≢ Nothing = search (c.eq.ensures, c.if-eq.false, rules) in
     record {
       result_is_backed = ((wants, (still_there c.args.port _ _ (boots_same c.law_prerequisites.ensures c.args.port _ _ (Unready Dead) (inl (stuck_boots c.law_prerequisites.ensures c.args.port _ _ c.in_default.ensures.fails.1.is_simulated))) (c.requires.may.port_in_range, there)).1), (c.stop.ensures.st_is_cleared.st_is_clear, c.in_default.ensures.fails.1.stuck_is_backed));
-      sctl_was_written = tt;
+      sctl_was_written_unless_unserved_or_dead = tt;
       halt_is_of_taken = λ info is. let z : Unready Dead ≡ Ready info = is in absurd cc;
       boots = inl (stuck_boots c.law_prerequisites.ensures c.args.port _ _ c.in_default.ensures.fails.1.is_simulated);
       stops_and_boots = (
@@ -34,7 +34,7 @@ returns-in_default-clause-finds g c =
 pub boot_stopped-requires-clause-bootable : goal.boot_stopped-requires-clause-bootable
 boot_stopped-requires-clause-bootable g c =
     let there : bit (g.A.Adapter.device c.args.adapter.now).pi c.args.port.0 ≡ true = search (c.if-not-is_set.ensures, c.from.ensures, c.requires.may.implemented_is_pi, rules) in
-    let P : Port → Type 0 = λ p. IsBootable p (g.A.Adapter.device c.stop.new.adapter) in
+    let P : Port → Type 0 = λ p. IsOnWithPortMemoryAndFreeSlots p (g.A.Adapter.device c.stop.new.adapter) in
     subst P (sym c.in-Ok.ensures.token_is_of_port) (bootable c.law_prerequisites.ensures c.args.port _ _ c.in-Ok.ensures.stops.is_simulated (c.requires.may.port_in_range, there) c.requires.may.driver_memory_fits c.requires.may.machine_is_related c.stop.ensures.adapter_is_on)
 
 pub returns-clause-finds : goal.returns-clause-finds
@@ -44,7 +44,7 @@ returns-clause-finds g c =
     let B : Port → Type 0 = λ p. BootsStopped c.args.wanted.now p c.boot_stopped.result (g.A.Adapter.device c.stop.new.adapter) (g.A.Adapter.device c.boot_stopped.new.adapter) in
     record {
       result_is_backed = found_stands c.law_prerequisites.ensures c.args.port _ _ c.in-Ok.ensures.stops.is_simulated _ _ c.boot_stopped.result (subst B c.in-Ok.ensures.token_is_of_port c.boot_stopped.ensures.boots) wants (c.requires.may.port_in_range, there);
-      sctl_was_written = found_reset c.law_prerequisites.ensures c.args.port _ _ c.in-Ok.ensures.stops.is_simulated _ _ c.boot_stopped.result (subst B c.in-Ok.ensures.token_is_of_port c.boot_stopped.ensures.boots);
+      sctl_was_written_unless_unserved_or_dead = found_reset c.law_prerequisites.ensures c.args.port _ _ c.in-Ok.ensures.stops.is_simulated _ _ c.boot_stopped.result (subst B c.in-Ok.ensures.token_is_of_port c.boot_stopped.ensures.boots);
       halt_is_of_taken = found_halts c.args.wanted.now c.args.port _ _ c.boot_stopped.result (subst B c.in-Ok.ensures.token_is_of_port c.boot_stopped.ensures.boots);
       boots = found_boots c.law_prerequisites.ensures c.args.port _ _ c.in-Ok.ensures.stops.is_simulated _ _ c.boot_stopped.result (subst B c.in-Ok.ensures.token_is_of_port c.boot_stopped.ensures.boots);
       stops_and_boots = found_way c.law_prerequisites.ensures c.args.port _ _ c.in-Ok.ensures.stops.is_simulated _ _ c.boot_stopped.result (subst B c.in-Ok.ensures.token_is_of_port c.boot_stopped.ensures.boots);

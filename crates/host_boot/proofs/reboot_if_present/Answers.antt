@@ -3,7 +3,7 @@ use Rattle.ata_types.specs.declared.Port.{Port}
 use Rattle.ata_types.specs.declared.limits.TheConstants.{MOST_READINGS}
 use Rattle.adapter.specs.Device.{Notes}
 use Rattle.refinement.specs.Fragments.{AnySlotStates, ReadsPortOrWrites, IsSimulated}
-use Rattle.port_control.specs.Ports.{IsSerrOrIs, IsStopped, IsOnAndAgrees, BacksFault}
+use Rattle.port_control.specs.Ports.{IsSerrOrIs, IsStopped, IsOnWithPortAndAgrees, BacksFault}
 use Rattle.port_control.specs.declared.PortFault.TheVariants.{NoDevice}
 use Rattle.host_boot.specs.Reboots.{BootsStopped}
 use Rattle.host_boot.specs.declared.ProbeResult.{ProbeResult}
@@ -15,7 +15,7 @@ use Rattle.host_boot.proofs.reboot_if_present.Goals.{then-clear_serr_and_detect,
 pub clear_serr_and_detect-requires : goal.clear_serr_and_detect-requires
 clear_serr_and_detect-requires g c =
     let b = asked_bootable c.law_prerequisites.ensures _ _ _ c.read.ensures.does c.args.stopped.port c.requires.bootable in
-    let U : Port → Type 0 = λ p. IsOnAndAgrees AnySlotStates p (g.A.Adapter.device c.read.new.self) in
+    let U : Port → Type 0 = λ p. IsOnWithPortAndAgrees AnySlotStates p (g.A.Adapter.device c.read.new.self) in
     record { on_and_agrees = subst U (sym c.port.ensures) (record { adapter_is_on = b.adapter_is_on; has_port = b.has_port; machine_is_related = (b.machine_is_related.0, tt, b.machine_is_related.2) }) }
 
 pub boot_stopped-found-requires-clause-bootable : goal.boot_stopped-found-requires-clause-bootable

@@ -31,6 +31,6 @@ returns-in_err-running-clause-unready g c =
       state_is_backed = e.state_is_backed c.args.wanted.now;
       sctl_written_in_boot = e.sctl_written_in_boot;
       boots = e.boots;
-      ends_before_start = early_alone c.args.stopped.port state _ _ e.dead_or_before_start;
-      ends_after_start = early_is_not_late c.args.stopped.port state _ _ e.dead_or_before_start;
+      unstarted_state_ends_before_start = early_alone c.args.stopped.port state _ _ e.dead_or_before_start;
+      stopped_state_ends_after_start = early_is_not_late c.args.stopped.port state _ _ e.dead_or_before_start;
     })

@@ -2,7 +2,7 @@ use Rattle.std.proofs.Common.{inl, inr, refl, sym, ◌∙◌, subst}
 use Rattle.ata_types.specs.declared.Port.{Port}
 use Rattle.refinement.specs.Fragments.{AnySlotStates, ReadsPortOrWrites, IsSimulated}
 use Rattle.refinement.specs.Driver.{AllFree}
-use Rattle.port_control.specs.Calls.{ResetsAndFindsDisk, ResetsAndFindsFault, MayBeStarted, MayResetLink, StaysReceiving, Starts}
+use Rattle.port_control.specs.Calls.{ResetsAndFindsDisk, ResetsAndFindsFault, MayBeStarted, MayResetLink, StaysReceivingWithLinkUpIfShown, Starts}
 use Rattle.port_control.specs.Ports.{IsCommandRegister, IsResetRegister}
 use Rattle.port_boot.proofs.Bringing.{fault_ends, placed_bootable, reset_bootable, reset_boots, reset_since, ends_early, up_boots, brought_up}
 use Rattle.port_boot.proofs.Identifying.{faulty_boots, stuck_boots}
@@ -30,7 +30,7 @@ pub returns-in-Err-clause-fails : goal.returns-in-Err-clause-fails
 returns-in-Err-clause-fails g c =
     let P : Port → Type 0 = λ p. IsSimulated (ReadsPortOrWrites IsResetRegister p) AnySlotStates (g.A.Adapter.device c.receive.new.adapter) (g.A.Adapter.device c.comreset.new.adapter) in
     let second = subst P c.in-Ok.ensures.token_is_of_port c.comreset.ensures.followed in
-    let F : Port → Type 0 = λ p. StaysReceiving p (g.A.Adapter.device c.receive.new.adapter) (g.A.Adapter.device c.comreset.new.adapter) × ResetsAndFindsFault p c.in-Err.fault (g.A.Adapter.device c.receive.new.adapter) (g.A.Adapter.device c.comreset.new.adapter) in
+    let F : Port → Type 0 = λ p. StaysReceivingWithLinkUpIfShown p (g.A.Adapter.device c.receive.new.adapter) (g.A.Adapter.device c.comreset.new.adapter) × ResetsAndFindsFault p c.in-Err.fault (g.A.Adapter.device c.receive.new.adapter) (g.A.Adapter.device c.comreset.new.adapter) in
     let f = subst F c.in-Ok.ensures.token_is_of_port (c.comreset.ensures.stays_receiving, c.in-Err.ensures.fault.1) in
     let told = c.state_of.ensures in
     record {
@@ -47,7 +47,7 @@ start-requires g c =
     let P : Port → Type 0 = λ p. IsSimulated (ReadsPortOrWrites IsResetRegister p) AnySlotStates (g.A.Adapter.device c.receive.new.adapter) (g.A.Adapter.device c.comreset.new.adapter) in
     let second = subst P at c.comreset.ensures.followed in
     let found = c.in-Ok-comreset.ensures.finds in
-    let F : Port → Type 0 = λ p. StaysReceiving p (g.A.Adapter.device c.receive.new.adapter) (g.A.Adapter.device c.comreset.new.adapter) × ResetsAndFindsDisk p (g.A.Adapter.device c.receive.new.adapter) (g.A.Adapter.device c.comreset.new.adapter) in
+    let F : Port → Type 0 = λ p. StaysReceivingWithLinkUpIfShown p (g.A.Adapter.device c.receive.new.adapter) (g.A.Adapter.device c.comreset.new.adapter) × ResetsAndFindsDisk p (g.A.Adapter.device c.receive.new.adapter) (g.A.Adapter.device c.comreset.new.adapter) in
     let f = subst F at (c.comreset.ensures.stays_receiving, found.1) in
     let b = reset_bootable c.law_prerequisites.ensures c.args.stopped.port _ _ _ c.requires.bootable c.in-Ok.ensures.receives.is_simulated second in
     let M : Port → Type 0 = λ p. MayBeStarted p (g.A.Adapter.device c.comreset.new.adapter) in

@@ -22,4 +22,4 @@ returns-clause-adapter_is_on g c =
 pub returns-clause-forgets : goal.returns-clause-forgets
 returns-clause-forgets g c =
     forgets c.law_prerequisites.ensures c.args.port _ _ _ _ (record { adapter_is_on = c.requires.may.adapter_is_on; has_port = c.requires.may.has_port; machine_is_related = c.requires.may.machine_is_related }) c.requires.may.receives c.requires.may.no_link_is_due c.requires.may.no_comreset c.clear_errors.ensures.followed c.clear_errors.ensures.clears.clears c.read.ensures.does
-    c.clear_errors.ensures.clears.no_cause_is_set (c.clear_errors.ensures.clears.errors_are_clear c.requires.may.no_link_is_due)
+    c.clear_errors.ensures.clears.no_cause_is_set (c.clear_errors.ensures.clears.serr_shows_only_new_plugs c.requires.may.no_link_is_due)

@@ -17,5 +17,5 @@ pub returns-clause-clears : goal.returns-clause-clears
 returns-clause-clears g c = record {
   clears = cleared_by c.law_prerequisites.ensures _ _ _ _ c.requires.usable c.write.ensures.does c.write-2.ensures.does;
   no_cause_is_set = cleared_calm c.law_prerequisites.ensures _ _ _ _ c.requires.usable c.write.ensures.does c.write-2.ensures.does;
-  errors_are_clear = cleared_clear c.law_prerequisites.ensures _ _ _ _ c.requires.usable c.write.ensures.does c.write-2.ensures.does;
+  serr_shows_only_new_plugs = cleared_clear c.law_prerequisites.ensures _ _ _ _ c.requires.usable c.write.ensures.does c.write-2.ensures.does;
 }

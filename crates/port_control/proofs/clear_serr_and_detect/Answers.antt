@@ -21,7 +21,7 @@ returns-clause-followed g c = seen_followed c.law_prerequisites.ensures c.args.p
 pub returns-clause-detects : goal.returns-clause-detects
 returns-clause-detects g c = record {
   stopped = seen_stopped c.law_prerequisites.ensures c.args.port _ _ _ _ c.requires.on_and_agrees c.write.ensures.does c.read.ensures.does;
-  errors_are_clear = seen_clear c.law_prerequisites.ensures c.args.port _ _ _ _ c.requires.on_and_agrees c.write.ensures.does c.read.ensures.does;
+  serr_shows_only_new_plugs = seen_clear c.law_prerequisites.ensures c.args.port _ _ _ _ c.requires.on_and_agrees c.write.ensures.does c.read.ensures.does;
   device_is_shown = λ is. let device = eqb-true _ _ is in let shown = c.detection.ensures in seen_there c.law_prerequisites.ensures c.args.port _ _ _ _ c.requires.on_and_agrees c.write.ensures.does c.read.ensures.does (omega (arith, device, shown));
   no_device_is_backed = λ is. let shown = c.detection.ensures in seen_none c.law_prerequisites.ensures c.args.port _ _ _ _ c.requires.on_and_agrees c.write.ensures.does c.read.ensures.does (λ three. absurd (true≢false (sym (eq-eqb _ 3 (omega (arith, three, shown))) ∙ is)));
 }

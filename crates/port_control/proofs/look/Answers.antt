@@ -73,7 +73,7 @@ returns-then-not-wait_until_idle-clause-fault g c =
     record {
       sees_reset_fault = finds_busy c.args.port link busy.1;
       fault_is_backed = (busy.0, λ (e : Busy ≡ EngineStuck). absurd (cc));
-      device_is_found = λ _. has_device c.law_prerequisites.ensures c.args.port _ _ _ _ c.requires.receives seen cleared waited found.link_is_up errors.no_cause_is_set errors.errors_are_clear awaits.is_clean_to_start;
+      device_is_found = λ _. has_device c.law_prerequisites.ensures c.args.port _ _ _ _ c.requires.receives seen cleared waited found.link_is_up errors.no_cause_is_set errors.serr_shows_only_new_plugs awaits.is_clean_to_start;
       signature_is_shown = λ signature (e : Busy ≡ NotAta signature). absurd (cc);
     }
 
@@ -92,14 +92,14 @@ returns-then-signature-ne-ATA_SIGNATURE-clause-fault g c =
     let errors = c.clear_errors.ensures.clears in
     let awaits = c.wait_until_idle.ensures.awaits in
     let link = finds_link c.args.port found.reads_until_link errors.clears in
-    let idle = awaits.disk_is_idle c.if-not-wait_until_idle.false in
+    let idle = awaits.found_disk_is_idle c.if-not-wait_until_idle.false in
     record {
       sees_reset_fault = finds_signature c.args.port _ link idle.1 c.read-signature.ensures.does;
       fault_is_backed = (
         (sig_saw c.law_prerequisites.ensures c.args.port _ _ _ third c.read-signature.ensures.does awaits.device_was_seen, sig_idle c.law_prerequisites.ensures c.args.port _ _ _ third c.read-signature.ensures.does idle.0, sig_last c.law_prerequisites.ensures c.args.port _ _ _ third c.read-signature.ensures.does, λ ata. absurd (omega arith)),
         λ (e : NotAta c.read-signature.result ≡ EngineStuck). absurd (cc),
       );
-      device_is_found = λ _. has_device c.law_prerequisites.ensures c.args.port _ _ _ _ c.requires.receives seen cleared signed found.link_is_up errors.no_cause_is_set errors.errors_are_clear (λ awaited unflagged. sig_quiet c.law_prerequisites.ensures c.args.port _ _ _ third c.read-signature.ensures.does (awaits.is_clean_to_start awaited unflagged));
+      device_is_found = λ _. has_device c.law_prerequisites.ensures c.args.port _ _ _ _ c.requires.receives seen cleared signed found.link_is_up errors.no_cause_is_set errors.serr_shows_only_new_plugs (λ awaited unflagged. sig_quiet c.law_prerequisites.ensures c.args.port _ _ _ third c.read-signature.ensures.does (awaits.is_clean_to_start awaited unflagged));
       signature_is_shown = λ signature is. sig_shown c.law_prerequisites.ensures c.args.port _ _ _ third c.read-signature.ensures.does;
     }
 
@@ -118,12 +118,12 @@ returns-clause-sees g c =
     let errors = c.clear_errors.ensures.clears in
     let awaits = c.wait_until_idle.ensures.awaits in
     let link = finds_link c.args.port found.reads_until_link errors.clears in
-    let idle = awaits.disk_is_idle c.if-not-wait_until_idle.false in
+    let idle = awaits.found_disk_is_idle c.if-not-wait_until_idle.false in
     let ata : c.read-signature.result ≡ 0x101 = omega arith in
     let F : ℕ → Type 0 = λ n. FindsSignature c.args.port n (g.A.Adapter.device c.args.adapter.now) (g.A.Adapter.device c.read-signature.new.self) in
     record {
       finds_signature = subst F ata (finds_signature c.args.port _ link idle.1 c.read-signature.ensures.does);
       disk_is_seen = (sig_saw c.law_prerequisites.ensures c.args.port _ _ _ third c.read-signature.ensures.does awaits.device_was_seen, sig_idle c.law_prerequisites.ensures c.args.port _ _ _ third c.read-signature.ensures.does idle.0, sig_last c.law_prerequisites.ensures c.args.port _ _ _ third c.read-signature.ensures.does ∙ ata);
-      device_is_found = has_device c.law_prerequisites.ensures c.args.port _ _ _ _ c.requires.receives seen cleared signed found.link_is_up errors.no_cause_is_set errors.errors_are_clear (λ awaited unflagged. sig_quiet c.law_prerequisites.ensures c.args.port _ _ _ third c.read-signature.ensures.does (awaits.is_clean_to_start awaited unflagged));
+      device_is_found = has_device c.law_prerequisites.ensures c.args.port _ _ _ _ c.requires.receives seen cleared signed found.link_is_up errors.no_cause_is_set errors.serr_shows_only_new_plugs (λ awaited unflagged. sig_quiet c.law_prerequisites.ensures c.args.port _ _ _ third c.read-signature.ensures.does (awaits.is_clean_to_start awaited unflagged));
       signature_is_shown = sig_shown c.law_prerequisites.ensures c.args.port _ _ _ third c.read-signature.ensures.does;
     }

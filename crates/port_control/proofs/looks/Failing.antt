@@ -44,8 +44,8 @@ module _ (laws : Laws) (port : Port) where
   }
 
   -- what another reading leaves of what PxSSTS showed
-  pub law_link_stays : (r : PortReg) (v : ℕ) (old new : Device) → r ≢ Ssts → Reads (Px port r) v old new → (new.port port.0).notes.last_ssts ≡ (old.port port.0).notes.last_ssts
-  law_link_stays r v old new other reads = ((laws.access_notes port (Reading (Px port r) v) old new reads).link (λ e. other (let z : Px port r ≡ Px port Ssts = e in cc))).0
+  pub law_link_is_same_or_comes_up_without_plugs : (r : PortReg) (v : ℕ) (old new : Device) → r ≢ Ssts → Reads (Px port r) v old new → (new.port port.0).notes.last_ssts ≡ (old.port port.0).notes.last_ssts
+  law_link_is_same_or_comes_up_without_plugs r v old new other reads = ((laws.access_notes port (Reading (Px port r) v) old new reads).link (λ e. other (let z : Px port r ≡ Px port Ssts = e in cc))).0
 
   module _ (old new : Device) (on : IsOn old) (l : TakesEvent port look.TaskFileError old new) (st : (old.port port.0).st ≡ true) (recorded : RecordsFaultsIfSt old.tape (old.port port.0) port.0) where
     seen_on : IsOn l.after_is_read
@@ -61,7 +61,7 @@ module _ (laws : Laws) (port : Port) where
     seen = record {
       st = runs_on (Reading (Px port Is) l.causes) old l.after_is_read on tt l.reads st;
       recorded = laws.access_keeps_fault_record port (Reading (Px port Is) l.causes) old l.after_is_read tt tt l.reads recorded;
-      halted = laws.fault_told port l.causes old l.after_is_read on.no_reset st recorded l.reads (answered_failed l.causes l.status (sym l.result_is)).0;
+      halted = laws.tfes_read_means_faulted port l.causes old l.after_is_read on.no_reset st recorded l.reads (answered_failed l.causes l.status (sym l.result_is)).0;
     }
 
     pub finds_fault : StandsFaulted port new

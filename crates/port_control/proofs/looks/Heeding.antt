@@ -90,8 +90,8 @@ module _ (laws : Laws) where
       let spares = spares_port port Sctl (λ e. cc) (λ e. cc) (λ e. cc) access is in (
         laws.tape.access_grows access old new does,
         λ none undue det. (
-          laws.tape.access_makes_no_link_due port access old new on.no_reset undue spares does,
-          shows_still (old.port port.0) (new.port port.0) (laws.access_leaves_link port access old new on.no_reset spares does none) det,
+          laws.tape.access_but_sctl_write_makes_no_link_due port access old new on.no_reset undue spares does,
+          shows_still (old.port port.0) (new.port port.0) (laws.link_stays_or_comes_up port access old new on.no_reset spares does none) det,
         ),
       )
 

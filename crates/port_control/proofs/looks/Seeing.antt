@@ -12,7 +12,7 @@ use Rattle.adapter.specs.Device.{DevicePort, Device}
 use Rattle.adapter.specs.Rules.{IsOn}
 use Rattle.adapter.specs.RegisterEffects.{PortRegisterWritten}
 use Rattle.refinement.specs.Fragments.{TapeGrows, IsDrivenBy}
-use Rattle.refinement.specs.Errors.{KeepsErrors, NoDiskComes}
+use Rattle.refinement.specs.Errors.{KeepsSetBitsOfPxisAndSerrNX, NoDiskComes}
 use Rattle.refinement.specs.PortFacts.{RunsWell, ShowsNoTrouble, Undisturbed}
 use Rattle.port_control.specs.EventLaws.{Laws}
 use Rattle.port_control.specs.PortEvents.{IsEventAccess, TakesEvent}
@@ -75,8 +75,8 @@ module _ (laws : Laws) where
   service_unlinks port access old new on is does = (
     laws.tape.access_grows access old new does,
     λ undue. (
-      laws.tape.access_makes_no_link_due port access old new on.no_reset undue (spares_port port Sctl (λ e. cc) (λ e. cc) (λ e. cc) access is) does,
-      λ none up. ((laws.tape.access_raises_by_disks port access old new on.no_reset undue does).det_3_was_3_if_none_comes none up).0,
+      laws.tape.access_but_sctl_write_makes_no_link_due port access old new on.no_reset undue (spares_port port Sctl (λ e. cc) (λ e. cc) (λ e. cc) access is) does,
+      λ none up. ((laws.tape.access_raises_link_errors_by_disks port access old new on.no_reset undue does).det_3_was_3_and_none_went_if_none_comes none up).0,
     ),
   )
 
@@ -143,7 +143,7 @@ module _ (laws : Laws) where
 
     -- ---- what it leaves told
 
-    later : KeepsErrors (l.cleared.port port.0) (new.port port.0)
+    later : KeepsSetBitsOfPxisAndSerrNX (l.cleared.port port.0) (new.port port.0)
     later = errors_stay laws port l.cleared new cleared_on (rest port result old new l)
 
     pub looking_changes : SerrNXStaySet (old.port port.0) (new.port port.0)
@@ -154,4 +154,4 @@ module _ (laws : Laws) where
 
     -- a cause that wasn't read stays told
     pub looking_causes : (place : ℕ) → (l.clears.at_access.port port.0).is place ≡ true → bit l.causes place ≡ false → (new.port port.0).is place ≡ true
-    looking_causes place set unread = later.pxis_is_kept place (left_set port l.causes place l.after_is_read l.cleared seen_on.no_reset l.clears set unread)
+    looking_causes place set unread = later.set_pxis_bits_stay_set place (left_set port l.causes place l.after_is_read l.cleared seen_on.no_reset l.clears set unread)

@@ -12,9 +12,9 @@ use Rattle.adapter.specs.Device.{DevicePort, Device}
 use Rattle.adapter.specs.Rules.{IsOn}
 use Rattle.refinement.specs.Relation.{port_at}
 use Rattle.refinement.specs.Fragments.{AnyAccess, TapeGrows, SameSlotStates, SomeMachineAgrees, IsDrivenBy, IsSimulated}
-use Rattle.refinement.specs.Errors.{KeepsErrors}
+use Rattle.refinement.specs.Errors.{KeepsSetBitsOfPxisAndSerrNX}
 use Rattle.refinement.specs.PortFacts.{RunsWell, Undisturbed}
-use Rattle.refinement.specs.PreservedParts.{DoesNotWrite, SameAdapter, LeavesControls}
+use Rattle.refinement.specs.PreservedParts.{DoesNotWrite, SameAdapter, ControlsChangeOnlyByTheirWrites}
 use Rattle.refinement.specs.Slots.{SlotStates}
 use Rattle.port_control.specs.EventLaws.{Laws}
 use Rattle.port_control.specs.EventLaws.AccessPurpose.{Serving}
@@ -88,7 +88,7 @@ module _ (laws : Laws) where
   services_port port old new on a =
       (services_keep (λ x y. LeavesStarted (x.port port.0) (y.port port.0)) (λ d. (refl, refl)) (λ x y z p q. (q.0 ∙ p.0, q.1 ∙ p.1))
       (λ access x y ready is does.
-      let left : LeavesControls access port (x.port port.0) (y.port port.0) = laws.access_controls port access x y ready.no_reset does in
+      let left : ControlsChangeOnlyByTheirWrites access port (x.port port.0) (y.port port.0) = laws.access_controls port access x y ready.no_reset does in
       ((left.command (spares_port port Cmd (λ e. cc) (λ e. cc) (λ e. cc) access is)).0, (left.list (spares_port port Clb (λ e. cc) (λ e. cc) (λ e. cc) access is)).0))
       old new on a).0
 
@@ -97,7 +97,7 @@ module _ (laws : Laws) where
       (services_keep (λ x y. LeavesNoted (x.port port) (y.port port)) (λ d. (refl, refl, refl, refl))
       (λ x y z p q. (q.0 ∙ p.0, q.1 ∙ p.1, q.2 ∙ p.2, q.3 ∙ p.3))
       (λ access x y ready is does.
-      let left : LeavesControls access (port_at port) (x.port port) (y.port port) = laws.access_controls (port_at port) access x y ready.no_reset does in
+      let left : ControlsChangeOnlyByTheirWrites access (port_at port) (x.port port) (y.port port) = laws.access_controls (port_at port) access x y ready.no_reset does in
       let control = left.control (spares_port (port_at port) Sctl (λ e. cc) (λ e. cc) (λ e. cc) access is) in
       (control.0, left.interrupt_enable (spares_port (port_at port) Ie (λ e. cc) (λ e. cc) (λ e. cc) access is), control.1, (left.command (spares_port (port_at port) Cmd (λ e. cc) (λ e. cc) (λ e. cc) access is)).2))
       old new on a).0
@@ -125,7 +125,7 @@ module _ (laws : Laws) where
       laws.started_quiet_port_runs_well (new.port port.0)
       (laws.access_keeps_started port access old new on.no_reset (λ v e. absurd (subst (DoesNotWrite (Px port Cmd)) e (spares_port port Cmd (λ e. cc) (λ e. cc) (λ e. cc) access is) refl))
       (spares_port port Sctl (λ e. cc) (λ e. cc) (λ e. cc) access is) calm does (laws.runs_well_is_started (old.port port.0) well))
-      (laws.stays_clear_shows_no_trouble (old.port port.0) (new.port port.0) (laws.access_stays_clear port access old new on.no_reset well.no_link_is_due calm does) well.shows_no_trouble)
+      (laws.stays_clear_shows_no_trouble (old.port port.0) (new.port port.0) (laws.access_keeps_error_bits_clear port access old new on.no_reset well.no_link_is_due calm does) well.shows_no_trouble)
 
   pub services_well : (port : Port) (old new : Device) → IsOn old → IsDrivenBy IsServiceAccess old new → Undisturbed port.0 old new → RunsWell (old.port port.0) → RunsWell (new.port port.0)
   services_well port old new on a =
@@ -141,12 +141,12 @@ module _ (laws : Laws) where
 
   -- ---- what tells of trouble
 
-  pub errors_stay : (port : Port) (old new : Device) → IsOn old → IsDrivenBy (IsServiceButPxIs port) old new → KeepsErrors (old.port port.0) (new.port port.0)
+  pub errors_stay : (port : Port) (old new : Device) → IsOn old → IsDrivenBy (IsServiceButPxIs port) old new → KeepsSetBitsOfPxisAndSerrNX (old.port port.0) (new.port port.0)
   errors_stay port old new on a =
-      (kept_on laws (λ x y. KeepsErrors (x.port port.0) (y.port port.0)) (λ d. record { pxis_is_kept = λ place h. h; serr_n_is_kept = λ h. h; serr_x_is_kept = λ h. h })
-      (λ x y z p q. record { pxis_is_kept = λ place h. q.pxis_is_kept place (p.pxis_is_kept place h); serr_n_is_kept = λ h. q.serr_n_is_kept (p.serr_n_is_kept h); serr_x_is_kept = λ h. q.serr_x_is_kept (p.serr_x_is_kept h) })
+      (kept_on laws (λ x y. KeepsSetBitsOfPxisAndSerrNX (x.port port.0) (y.port port.0)) (λ d. record { set_pxis_bits_stay_set = λ place h. h; serr_n_is_kept = λ h. h; serr_x_is_kept = λ h. h })
+      (λ x y z p q. record { set_pxis_bits_stay_set = λ place h. q.set_pxis_bits_stay_set place (p.set_pxis_bits_stay_set place h); serr_n_is_kept = λ h. q.serr_n_is_kept (p.serr_n_is_kept h); serr_x_is_kept = λ h. q.serr_x_is_kept (p.serr_x_is_kept h) })
       (IsServiceButPxIs port) (λ access is. spares_ghc access is.0)
       (λ access x y ready is does.
       let news = laws.access_keeps_serr_changes port access x y ready.no_reset (spares_port port Serr (λ e. cc) (λ e. cc) (λ e. cc) access is.0) does in
-      record { pxis_is_kept = laws.access_keeps_causes port access x y ready.no_reset is.1 does; serr_n_is_kept = news.0; serr_x_is_kept = news.1 })
+      record { set_pxis_bits_stay_set = laws.access_keeps_causes port access x y ready.no_reset is.1 does; serr_n_is_kept = news.0; serr_x_is_kept = news.1 })
       old new on a).0

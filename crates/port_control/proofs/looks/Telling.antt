@@ -94,10 +94,10 @@ module _ (causes status : ℕ) where
   pub answered_undisturbed : port_event_of causes status ≡ NoEvent → PxisValueTellsNoTrouble causes × (status % 16 ≡ 3)
   answered_undisturbed h =
       let x = calm (bit causes 6) (bit causes 22) (status % 16 == 3) (bit causes 28) (bit causes 29) (bit causes 27) (bit causes 30) h in
-      (record { pcs_is_clear = x.0.0; prcs_is_clear = x.0.1; no_error_bit_is_set = four_places (λ place. bit causes place ≡ false) x.1.2 x.1.0 x.1.1 x.1.3 }, eqb-true (status % 16) 3 x.2)
+      (record { pcs_is_clear = x.0.0; prcs_is_clear = x.0.1; bits_27_to_30_are_clear = four_places (λ place. bit causes place ≡ false) x.1.2 x.1.0 x.1.1 x.1.3 }, eqb-true (status % 16) 3 x.2)
 
   pub told_undisturbed : PxisValueTellsNoTrouble causes → status % 16 ≡ 3 → port_event_of causes status ≡ NoEvent
-  told_undisturbed t three = rw (t.pcs_is_clear, t.prcs_is_clear, eq-eqb (status % 16) 3 three, t.no_error_bit_is_set 28 (omega arith) (omega arith), t.no_error_bit_is_set 29 (omega arith) (omega arith), t.no_error_bit_is_set 27 (omega arith) (omega arith), t.no_error_bit_is_set 30 (omega arith) (omega arith)) refl
+  told_undisturbed t three = rw (t.pcs_is_clear, t.prcs_is_clear, eq-eqb (status % 16) 3 three, t.bits_27_to_30_are_clear 28 (omega arith) (omega arith), t.bits_27_to_30_are_clear 29 (omega arith) (omega arith), t.bits_27_to_30_are_clear 27 (omega arith) (omega arith), t.bits_27_to_30_are_clear 30 (omega arith) (omega arith)) refl
 
   -- each of the three comes first
   pub told_lost : (bit causes 6 ≡ true) ⊎ (bit causes 22 ≡ true) ⊎ (status % 16 ≢ 3) → port_event_of causes status ≡ LinkChanged

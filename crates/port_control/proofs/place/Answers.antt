@@ -48,5 +48,5 @@ returns-clause-places g c =
     record {
       is_quiescent = f.quiet;
       areas_are_in_place = f.bases ∙ programmed_by c.args.port.0 _ ((g.A.Adapter.device c.args.adapter.now).port c.args.port.0).bases (ap (λ n. DRIVER_BYTES_PER_PORT * n) c.from-list.ensures);
-      sctl_and_notes_are_kept = f.same;
+      sctl_and_notes_but_cmd_are_kept = f.same;
     }

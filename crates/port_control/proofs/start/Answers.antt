@@ -14,10 +14,10 @@ pub returns-clause-starts : goal.returns-clause-starts
 returns-clause-starts g c = record {
   runs = start_runs c.law_prerequisites.ensures c.args.receiving.port _ _ _ _ (record { adapter_is_on = c.requires.may.adapter_is_on; has_port = c.requires.may.has_port; machine_is_related = c.requires.may.machine_is_related }) c.read.ensures.does c.requires.may.receives c.requires.may.link_was_seen c.requires.may.disk_was_idle c.with_start.ensures.set c.with_start.ensures.others_are_kept _ c.write.ensures.does;
   other_notes_are_kept = start_same c.law_prerequisites.ensures c.args.receiving.port _ _ _ _ (record { adapter_is_on = c.requires.may.adapter_is_on; has_port = c.requires.may.has_port; machine_is_related = c.requires.may.machine_is_related }) c.read.ensures.does c.requires.may.receives c.requires.may.link_was_seen c.requires.may.disk_was_idle c.with_start.ensures.set c.with_start.ensures.others_are_kept _ c.write.ensures.does;
-  st_set_is_last = start_set_at c.law_prerequisites.ensures c.args.receiving.port _ _ _ _ (record { adapter_is_on = c.requires.may.adapter_is_on; has_port = c.requires.may.has_port; machine_is_related = c.requires.may.machine_is_related }) c.read.ensures.does c.requires.may.receives c.requires.may.link_was_seen c.requires.may.disk_was_idle c.with_start.ensures.set c.with_start.ensures.others_are_kept _ c.write.ensures.does;
+  tape_is_as_at_st_set = start_set_at c.law_prerequisites.ensures c.args.receiving.port _ _ _ _ (record { adapter_is_on = c.requires.may.adapter_is_on; has_port = c.requires.may.has_port; machine_is_related = c.requires.may.machine_is_related }) c.read.ensures.does c.requires.may.receives c.requires.may.link_was_seen c.requires.may.disk_was_idle c.with_start.ensures.set c.with_start.ensures.others_are_kept _ c.write.ensures.does;
   sctl_time_in_tape = start_marked c.law_prerequisites.ensures c.args.receiving.port _ _ _ _ (record { adapter_is_on = c.requires.may.adapter_is_on; has_port = c.requires.may.has_port; machine_is_related = c.requires.may.machine_is_related }) c.read.ensures.does c.requires.may.receives c.requires.may.link_was_seen c.requires.may.disk_was_idle c.with_start.ensures.set c.with_start.ensures.others_are_kept _ c.write.ensures.does;
   port_is_started = start_well c.law_prerequisites.ensures c.args.receiving.port _ _ _ _ (record { adapter_is_on = c.requires.may.adapter_is_on; has_port = c.requires.may.has_port; machine_is_related = c.requires.may.machine_is_related }) c.read.ensures.does c.requires.may.receives c.requires.may.link_was_seen c.requires.may.disk_was_idle c.with_start.ensures.set c.with_start.ensures.others_are_kept _ c.write.ensures.does;
-  link_stays_up = start_linked c.law_prerequisites.ensures c.args.receiving.port _ _ _ _ (record { adapter_is_on = c.requires.may.adapter_is_on; has_port = c.requires.may.has_port; machine_is_related = c.requires.may.machine_is_related }) c.read.ensures.does c.requires.may.receives c.requires.may.link_was_seen c.requires.may.disk_was_idle c.with_start.ensures.set c.with_start.ensures.others_are_kept _ c.write.ensures.does;
+  link_stays_up_without_plug_events = start_linked c.law_prerequisites.ensures c.args.receiving.port _ _ _ _ (record { adapter_is_on = c.requires.may.adapter_is_on; has_port = c.requires.may.has_port; machine_is_related = c.requires.may.machine_is_related }) c.read.ensures.does c.requires.may.receives c.requires.may.link_was_seen c.requires.may.disk_was_idle c.with_start.ensures.set c.with_start.ensures.others_are_kept _ c.write.ensures.does;
   faults_are_on_record = start_recorded c.law_prerequisites.ensures c.args.receiving.port _ _ _ _ (record { adapter_is_on = c.requires.may.adapter_is_on; has_port = c.requires.may.has_port; machine_is_related = c.requires.may.machine_is_related }) c.read.ensures.does c.requires.may.receives c.requires.may.link_was_seen c.requires.may.disk_was_idle c.with_start.ensures.set c.with_start.ensures.others_are_kept _ c.write.ensures.does;
   no_cause_rises = start_calm c.law_prerequisites.ensures c.args.receiving.port _ _ _ _ (record { adapter_is_on = c.requires.may.adapter_is_on; has_port = c.requires.may.has_port; machine_is_related = c.requires.may.machine_is_related }) c.read.ensures.does c.requires.may.receives c.requires.may.link_was_seen c.requires.may.disk_was_idle c.with_start.ensures.set c.with_start.ensures.others_are_kept _ c.write.ensures.does;
   no_link_gets_due = start_undue c.law_prerequisites.ensures c.args.receiving.port _ _ _ _ (record { adapter_is_on = c.requires.may.adapter_is_on; has_port = c.requires.may.has_port; machine_is_related = c.requires.may.machine_is_related }) c.read.ensures.does c.requires.may.receives c.requires.may.link_was_seen c.requires.may.disk_was_idle c.with_start.ensures.set c.with_start.ensures.others_are_kept _ c.write.ensures.does;

@@ -32,7 +32,7 @@ returns-then-not-is_receive_running-clause-stops g c = λ _. empties_told c.law_
 pub returns-then-not-is_receive_running-clause-clears : goal.returns-then-not-is_receive_running-clause-clears
 returns-then-not-is_receive_running-clause-clears g c =
     let has = empties c.law_prerequisites.ensures _ _ _ _ _ _ c.loop-reading.invariant.known c.read-in-loop-reading.ensures.does in
-    record { stopped = has.stopped; fre_is_clear = has.fre; bases_are_kept = has.bases; sctl_and_notes_are_kept = has.same }
+    record { stopped = has.stopped; fre_is_clear = has.fre; bases_are_kept = has.bases; sctl_and_notes_but_cmd_are_kept = has.same }
 
 pub returns-then-not-is_receive_running-clause-fallen : goal.returns-then-not-is_receive_running-clause-fallen
 returns-then-not-is_receive_running-clause-fallen g c = λ _. emptied c.law_prerequisites.ensures _ _ _ _ _ _ c.loop-reading.invariant.known c.read-in-loop-reading.ensures.does (sym c.is_receive_running.ensures ∙ c.if-not-is_receive_running.true)
@@ -51,4 +51,4 @@ returns-clause-sticks g c = λ _.
 pub returns-clause-clears : goal.returns-clause-clears
 returns-clause-clears g c =
     let has = c.loop-reading.invariant.known.has in
-    record { stopped = has.stopped; fre_is_clear = has.fre; bases_are_kept = has.bases; sctl_and_notes_are_kept = has.same }
+    record { stopped = has.stopped; fre_is_clear = has.fre; bases_are_kept = has.bases; sctl_and_notes_but_cmd_are_kept = has.same }

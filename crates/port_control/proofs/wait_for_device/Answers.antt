@@ -10,7 +10,7 @@ use Rattle.port_control.specs.Laws.AccessPurpose.{Controlling}
 pub loop-reading-init : goal.loop-reading-init
 loop-reading-init g c = record {
   known = record {
-    followed = (c.law_prerequisites.ensures.fragments.no_access_is_simulated (Controlling Clearing c.args.port) _).is_simulated;
+    followed = (c.law_prerequisites.ensures.fragments.empty_fragment_is_simulated (Controlling Clearing c.args.port) _).is_simulated;
     usable = c.requires.usable;
     on = c.requires.usable;
     det = c.requires.det;

@@ -10,7 +10,7 @@ use Rattle.port_control.specs.Laws.AccessPurpose.{Controlling}
 pub loop-reading-init : goal.loop-reading-init
 loop-reading-init g c = record {
   known = record {
-    followed = (c.law_prerequisites.ensures.fragments.no_access_is_simulated (Controlling Clearing c.args.port) _).is_simulated;
+    followed = (c.law_prerequisites.ensures.fragments.empty_fragment_is_simulated (Controlling Clearing c.args.port) _).is_simulated;
     usable = c.requires.usable;
     det = c.requires.det;
     saw = c.requires.saw;
@@ -32,7 +32,7 @@ returns-then-not-is_bsy_or_drq-clause-awaits g c =
     let clear = sym c.is_bsy_or_drq.ensures ∙ c.if-not-is_bsy_or_drq.true in
     record {
       device_was_seen = busy_saw c.law_prerequisites.ensures _ _ _ _ _ _ known c.read.ensures.does;
-      disk_is_idle = λ _. (
+      found_disk_is_idle = λ _. (
         idle_seen c.law_prerequisites.ensures _ _ _ _ _ _ known c.read.ensures.does clear,
         busy_waits c.law_prerequisites.ensures _ _ _ _ _ _ known c.read.ensures.does (omega arith) clear,
       );
@@ -51,7 +51,7 @@ returns-clause-awaits g c =
     let all : c.loop-reading._reading ≡ MOST_READINGS = omega arith in
     record {
       device_was_seen = c.loop-reading.invariant.known.saw;
-      disk_is_idle = λ is. absurd (cc);
+      found_disk_is_idle = λ is. absurd (cc);
       busy_is_backed = λ _. (
         search rules,
         subst (λ (n : ℕ). ReadsInVain c.args.port Tfd ShowsIdle n (g.A.Adapter.device c.args.adapter.now) (g.A.Adapter.device c.loop-reading.adapter)) all c.loop-reading.invariant.known.stays,

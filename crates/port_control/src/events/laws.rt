@@ -3,7 +3,7 @@ ghost use Rattle.std.specs.Prelude.{ℕ, true, false, ◌≡◌, ◌≢◌, ◌�
 ghost use Rattle.ata_types.specs.declared.Port.{Port};
 ghost use Rattle.hba_regs.specs.{Bits.{bit}, declared.reg.PortReg.{PortReg}, declared.reg.PortReg.TheVariants.{Ci, Is, Sact, Ssts}, declared.reg.Reg.TheVariants.{Ghc, Px}};
 ghost use Rattle.adapter.specs.{Access.{Access, Reads}, Device.{Device}, Rules.{IsOn}};
-ghost use Rattle.refinement.specs.{Fragments.{SameSlotStates, SomeMachineAgrees, IsDrivenBy, IsSimulated, SparesOtherPorts}, Errors.{KeepsErrors, NoDiskComes}, PortFacts.{IsFaulted, RecordsFaultsIfSt, RunsWell, ShowsNoTrouble, PxisValueTellsNoTrouble, Undisturbed}, PreservedParts.{SameAdapter, DoesNotWrite}, Slots.{SlotStates}};
+ghost use Rattle.refinement.specs.{Fragments.{SameSlotStates, SomeMachineAgrees, IsDrivenBy, IsSimulated, SparesOtherPorts}, Errors.{KeepsSetBitsOfPxisAndSerrNX, NoDiskComes}, PortFacts.{IsFaulted, RecordsFaultsIfSt, RunsWell, ShowsNoTrouble, PxisValueTellsNoTrouble, Undisturbed}, PreservedParts.{SameAdapter, DoesNotWrite}, Slots.{SlotStates}};
 ghost use Rattle.port_control.specs.{PortEvents.{port_event_of, IsEventAccess, TakesEvent}, ServiceAccesses.{LinkChangedOrMissing, IsServiceAccess, IsServiceButPxIs, SerrNXStaySet, HidesNoPlugEvent, HidesNoFatal, HidesNoFault}, declared.events.PortEvent.{PortEvent}};
 ghost use Rattle.port_control.specs.declared.events.PortEvent.TheVariants as look;
 
@@ -102,7 +102,7 @@ pub fn law_errors_are_seen()
 pub fn law_errors_stay_told()
     ensures services_keep_errors { (port : Port) (old new : Device) → IsOn old
         → IsDrivenBy (IsServiceButPxIs port) old new
-        → KeepsErrors (old.port port.0) (new.port port.0) }
+        → KeepsSetBitsOfPxisAndSerrNX (old.port port.0) (new.port port.0) }
     ensures look_keeps_serr_changes { (port : Port) (result : PortEvent) (old new : Device) → IsOn old
         → TakesEvent port result old new
         → SerrNXStaySet (old.port port.0) (new.port port.0) }
@@ -133,7 +133,7 @@ pub fn law_failures_are_found()
 /// Trouble is heeded. What isn't shown after a look, of errors that the look hasn't read, wasn't shown before it and
 /// hasn't come: a fault, a fatal error, and a disk that went or came. So it is over ordinary accesses. And a look tells
 /// a loss only where the port had one to tell, or a disk went or came, if no link was due.
-pub fn law_errors_are_heeded()
+pub fn law_looks_and_services_hide_no_error()
     ensures look_hides_no_fault { (port : Port) (result : PortEvent) (old new : Device) → IsOn old
         → (l : TakesEvent port result old new)
         → bit l.causes 30 ≡ false → HidesNoFault port.0 old new }

@@ -9,13 +9,14 @@ use refinement::access_kinds::law_fragment_prerequisites;
 use refinement::disks::law_looks_tell_trouble;
 use refinement::fragments::{law_other_ports_are_untouched, law_tape_prerequisites};
 use refinement::laws::{
-    law_acknowledging_is_permitted, law_clear_sact_bits_stay, law_writing_stays_permitted,
+    law_acknowledging_is_permitted, law_clear_sact_bits_stay, law_writes_but_ci_stay_permitted,
 };
 use refinement::port_facts::{
-    law_adapter_stays, law_cleared_stays, law_controls_stay, law_errors_are_kept,
-    law_errors_are_shown, law_fault_is_found, law_faults_are_recorded, law_link_stays,
-    law_loads_and_stores_leave_ports, law_notes_are_set, law_notes_stay, law_plug_events_are_found,
-    law_running_well_is_found, law_running_well_stays, law_trouble_is_shown,
+    law_adapter_stays, law_clear_error_bits_stay_clear, law_controls_stay, law_errors_are_kept,
+    law_errors_are_shown, law_fault_is_found, law_faults_are_recorded,
+    law_link_is_same_or_comes_up_without_plugs, law_loads_and_stores_change_ports_by_steps,
+    law_notes_are_set, law_notes_stay, law_plug_events_are_found, law_running_well_is_found,
+    law_running_well_stays_if_undisturbed, law_trouble_is_shown,
 };
 use std::marker::Brand;
 
@@ -28,15 +29,15 @@ pub fn law_prerequisites()
     law_step_lists_keep_what_steps_keep();
     law_looks_tell_trouble();
     law_adapter_stays();
-    law_cleared_stays();
+    law_clear_error_bits_stay_clear();
     law_controls_stay();
     law_errors_are_kept();
     law_errors_are_shown();
     law_fault_is_found();
     law_faults_are_recorded();
-    law_running_well_stays();
-    law_link_stays();
-    law_loads_and_stores_leave_ports();
+    law_running_well_stays_if_undisturbed();
+    law_link_is_same_or_comes_up_without_plugs();
+    law_loads_and_stores_change_ports_by_steps();
     law_notes_are_set();
     law_notes_stay();
     law_plug_events_are_found();
@@ -45,7 +46,7 @@ pub fn law_prerequisites()
     law_fragment_prerequisites::<Brand>();
     law_acknowledging_is_permitted();
     law_clear_sact_bits_stay();
-    law_writing_stays_permitted();
+    law_writes_but_ci_stay_permitted();
     law_other_ports_are_untouched();
     law_tape_prerequisites();
 }

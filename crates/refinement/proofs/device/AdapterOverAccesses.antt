@@ -83,8 +83,8 @@ access_on (Storing at bytes) old new on keeps x = let s = steps_on old x.at_acce
 
 -- ---- what a store leaves
 
-pub store_leaves : (at : ℕ) (bytes : List ℕ) (old new : Device) → Stores at bytes old new → (mid : Device) × Steps old mid × ((port : ℕ) → new.port port ≡ mid.port port) × (new.tape ≡ mid.tape) × (new.hr ≡ mid.hr)
-store_leaves at bytes old new x = (
+pub store_after_steps_leaves_ports_tape_hr : (at : ℕ) (bytes : List ℕ) (old new : Device) → Stores at bytes old new → (mid : Device) × Steps old mid × ((port : ℕ) → new.port port ≡ mid.port port) × (new.tape ≡ mid.tape) × (new.hr ≡ mid.hr)
+store_after_steps_leaves_ports_tape_hr at bytes old new x = (
   x.at_access,
   x.steps,
   λ port. ap (λ (d : Device). d.port port) x.effect,

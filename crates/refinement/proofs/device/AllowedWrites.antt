@@ -16,7 +16,7 @@ use Rattle.adapter.specs.Rules.{IsOn, HasPort, MayStart, MaySetFre, MayStopRecei
 use Rattle.adapter.proofs.Calls.{PortRegisterWritten, put, on_after, on_stays}
 use Rattle.adapter.proofs.KeptLemmas.{law_step_lists_keep_what_steps_keep}
 use Rattle.refinement.specs.Driver.{KeepsSlotStates, AllFree, KeepsOtherCmdBits}
-use Rattle.refinement.specs.PortFacts.{KeepsFaultRecord, IsCleanToStart}
+use Rattle.refinement.specs.PortFacts.{StartsCleanAndWritesSctlStopped, IsCleanToStart}
 use Rattle.refinement.specs.MemoryLayout.{command_list_address, received_fis_address}
 use Rattle.refinement.specs.Slots.{SlotStates}
 use Rattle.refinement.proofs.device.StartConditions.{steps_quiet}
@@ -38,7 +38,7 @@ module _ (p q : DevicePort) (k : PortBitsOnlyFall p q) (c : KeepsControlsFlagsRi
       fbu_is_written = same_base (λ b. b.fbu_set) ∙ x.programmed.fbu_is_written;
     };
     link_was_seen = ap (λ (n : Notes). n.last_ssts % 16) notes ∙ x.link_was_seen;
-    not_busy = ap (λ (n : Notes). bit n.last_tfd 7 || bit n.last_tfd 3) notes ∙ x.not_busy;
+    last_tfd_was_idle = ap (λ (n : Notes). bit n.last_tfd 7 || bit n.last_tfd 3) notes ∙ x.last_tfd_was_idle;
   }
 
   receive_stays : MaySetFre p → MaySetFre q
@@ -91,7 +91,7 @@ write_stays (Px port r) v d other x mid s =
     let c : KeepsOutsideReset d mid = k.keeps_outside_reset x.0.no_reset in (
       on_after x.0 c,
       (x.1.0, ap (λ (n : ℕ). bit n port.0) k.pi_is_kept ∙ x.1.1),
-      port_stays (d.port port.0) (mid.port port.0) (k.ports_are_kept port.0) (c.controls_are_kept port.0) (k.notes_are_kept port.0) r v d mid k.memory_size_is_kept (λ e. other port (ap (Px port) e)) x.2,
+      port_stays (d.port port.0) (mid.port port.0) (k.port_bits_only_fall port.0) (c.controls_are_kept port.0) (k.notes_are_kept port.0) r v d mid k.memory_size_is_kept (λ e. other port (ap (Px port) e)) x.2,
     )
 write_stays Cap v d other x mid s = x
 write_stays Pi v d other x mid s = x
@@ -107,7 +107,7 @@ uses_stay uses (Px port Cmd) v d off x mid s =
     let c : KeepsOutsideReset d mid = k.keeps_outside_reset off in
     record {
       start = λ b. ⊎_elim (λ (on : (d.port port.0).st ≡ true). inl ((c.controls_are_kept port.0).st_is_kept ∙ on)) (λ (free : AllFree uses port.0). inr free) (x.start b);
-      receive = λ b. let y = x.receive b in (y.0, ap (λ (z : Bases). z.fb) (k.ports_are_kept port.0).bases_are_kept ∙ y.1);
+      receive = λ b. let y = x.receive b in (y.0, ap (λ (z : Bases). z.fb) (k.port_bits_only_fall port.0).bases_are_kept ∙ y.1);
     }
 uses_stay uses (Px port Clb) v d off x mid s = x
 uses_stay uses (Px port Sact) v d off x mid s = x
@@ -130,11 +130,11 @@ uses_stay uses Vs v d off x mid s = x
 uses_stay uses Cap2 v d off x mid s = x
 uses_stay uses Bohc v d off x mid s = x
 
-pub record_stays : (r : Reg) (v : ℕ) (d : Device) → d.hr ≡ false → KeepsFaultRecord r v d → IsStable (KeepsFaultRecord r v) d
+pub record_stays : (r : Reg) (v : ℕ) (d : Device) → d.hr ≡ false → StartsCleanAndWritesSctlStopped r v d → IsStable (StartsCleanAndWritesSctlStopped r v) d
 record_stays (Px port Cmd) v d off x mid s =
     let c : KeepsOutsideReset d mid = (law_step_lists_keep_what_steps_keep s).keeps_outside_reset off in
     λ b. ⊎_elim (λ (on : (d.port port.0).st ≡ true). inl ((c.controls_are_kept port.0).st_is_kept ∙ on)) (λ (quiet : IsCleanToStart (d.port port.0)). inr (steps_quiet port.0 d mid s quiet)) (x b)
-record_stays (Px port Sctl) v d off x mid s = ((law_step_lists_keep_what_steps_keep s).ports_are_kept port.0).cr_stays_clear x
+record_stays (Px port Sctl) v d off x mid s = ((law_step_lists_keep_what_steps_keep s).port_bits_only_fall port.0).cr_stays_clear x
 record_stays (Px port Clb) v d off x mid s = x
 record_stays (Px port Clbu) v d off x mid s = x
 record_stays (Px port Fb) v d off x mid s = x

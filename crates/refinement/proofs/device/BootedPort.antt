@@ -28,12 +28,12 @@ started_now v tape p on off u =
     (record { st_is_set = refl; cr_is_set = refl; det_is_3 = u.det_is_3; present = u.present; fresh = u.fresh; no_link_is_due = u.no_link_is_due; is_not_halted = u.start_ends_halt; is_not_broken = refl }))
 
 module _ (laws : StepLaws) (port : Port) (v : ℕ) (old new : Device) (off : old.hr ≡ false) (stopped : (old.port port.0).st ≡ false) (stands : (old.port port.0).cr ≡ false) (on : bit v 0 ≡ true) (call : Writes (Px port Cmd) v old new) (up : IsUpForStart (old.port port.0)) where
-  pub start_is_made : NoPlugEvents port.0 old new → IsStarted (new.port port.0)
-  start_is_made none =
+  pub start_of_up_port_is_started : NoPlugEvents port.0 old new → IsStarted (new.port port.0)
+  start_of_up_port_is_started none =
       let k : KeepsOverSteps old call.at_access = laws.steps_keep _ _ call.steps in
       let before : NoPlugEvents port.0 old call.at_access = plugs_before port.0 old call.at_access new (ap (λ (d : Device). d.tape) call.effect ∙ written_tape (Px port Cmd) v call.at_access) none in
       subst IsStarted (sym (ap (λ (d : Device). d.port port.0) call.effect ∙ changed_same call.at_access.port port.0 _))
-      (started_now v (length call.at_access.tape) (call.at_access.port port.0) on ((k.ports_are_kept port.0).st_stays_clear stopped) (steps_up laws port.0 old call.at_access off stands before call.steps up))
+      (started_now v (length call.at_access.tape) (call.at_access.port port.0) on ((k.port_bits_only_fall port.0).st_stays_clear stopped) (steps_up laws port.0 old call.at_access off stands before call.steps up))
 
 -- PxIS tells of no trouble on a port that was started
 pub well_is_told : StepLaws → (port : Port) (v : ℕ) (old new : Device) → old.hr ≡ false → Reads (Px port Is) v old new → PxisValueTellsNoTrouble v → IsStarted (old.port port.0) → RunsWell (new.port port.0)
@@ -57,4 +57,4 @@ well_is_found laws port v causes old mid new off stopped stands on up start call
     let late = reads_show laws port.0 (Px port Is) causes mid new off_mid call (told_calm laws port causes mid new off_mid call calm) in
     let early = writes_show laws port (Px port Cmd) v old mid off (command_clears port v) start late.0 in
     (well_is_told laws) port causes mid new off_mid call calm
-    (start_is_made laws port v old mid off stopped stands on start up (undisturbed_plugs port.0 old mid early.1))
+    (start_of_up_port_is_started laws port v old mid off stopped stands on start up (undisturbed_plugs port.0 old mid early.1))

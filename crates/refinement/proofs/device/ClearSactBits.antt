@@ -23,7 +23,7 @@ abbrev IsClearBit : ℕ → DevicePort → Type 0
 IsClearBit slot p = p.sact slot ≡ false
 
 pub steps_clear : StepLaws → (port slot : ℕ) (old new : Device) → Steps old new → (old.port port).sact slot ≡ false → (new.port port).sact slot ≡ false
-steps_clear laws port slot old new s u = ((laws.steps_keep _ _ s).ports_are_kept port).sact_stays_clear slot u
+steps_clear laws port slot old new s u = ((laws.steps_keep _ _ s).port_bits_only_fall port).sact_stays_clear slot u
 
 -- a slot in use whose command is over has no bit
 pub over_unarmed : (uses : SlotStates) (m : Machine) (d : Device) (port slot : ℕ) → StateRelation uses m d → (uses port slot ≡ Armed → ⊥) → IsOver (d.port port) slot → (d.port port).sact slot ≡ false

@@ -35,8 +35,8 @@ st_set true tape p = by p.st refl
 pub command_set : (port : Port) (v : ℕ) (old new : Device) → Writes (Px port Cmd) v old new → ((new.port port.0).st ≡ bit v 0) × ((new.port port.0).fre ≡ bit v 4)
 command_set port v old new x = seen (λ (p : DevicePort). (p.st ≡ bit v 0) × (p.fre ≡ bit v 4)) port Cmd v old new x (st_set (bit v 0) (length x.at_access.tape) (x.at_access.port port.0), refl)
 
-pub start_set : StepLaws → (port : Port) (v : ℕ) (old new : Device) → (old.port port.0).st ≡ false → bit v 0 ≡ true → Writes (Px port Cmd) v old new → ((new.port port.0).cr ≡ true) × ((new.port port.0).notes.st_set_at ≡ length new.tape)
-start_set laws port v old new off on x = seen (λ (p : DevicePort). (p.cr ≡ true) × (p.notes.st_set_at ≡ length new.tape)) port Cmd v old new x
+pub start_sets_cr_and_time : StepLaws → (port : Port) (v : ℕ) (old new : Device) → (old.port port.0).st ≡ false → bit v 0 ≡ true → Writes (Px port Cmd) v old new → ((new.port port.0).cr ≡ true) × ((new.port port.0).notes.st_set_at ≡ length new.tape)
+start_sets_cr_and_time laws port v old new off on x = seen (λ (p : DevicePort). (p.cr ≡ true) × (p.notes.st_set_at ≡ length new.tape)) port Cmd v old new x
     (subst (λ (b : Bool). ((port_after_fre_write (bit v 4) (port_after_st_write b (length x.at_access.tape) p)).cr ≡ true) × ((port_after_fre_write (bit v 4) (port_after_st_write b (length x.at_access.tape) p)).notes.st_set_at ≡ length new.tape)) (sym on)
     (subst (λ (y : DevicePort). ((port_after_fre_write (bit v 4) y).cr ≡ true) × ((port_after_fre_write (bit v 4) y).notes.st_set_at ≡ length new.tape)) (sym (cond-false p.st p started still)) (refl, tape_is port Cmd v old new x)))
   where
@@ -44,7 +44,7 @@ start_set laws port v old new off on x = seen (λ (p : DevicePort). (p.cr ≡ tr
     p = x.at_access.port port.0
 
     still : (x.at_access.port port.0).st ≡ false
-    still = ((laws.steps_keep _ _ x.steps).ports_are_kept port.0).st_stays_clear off
+    still = ((laws.steps_keep _ _ x.steps).port_bits_only_fall port.0).st_stays_clear off
 
     started : DevicePort
     started = record (x.at_access.port port.0) {

@@ -19,7 +19,7 @@ use Rattle.adapter.specs.declared.tape.Entry.TheVariants as entry
 use Rattle.adapter.proofs.Changed.{changed_same, changed_other}
 use Rattle.refinement.specs.StepLaws.{StepLaws}
 use Rattle.refinement.specs.Fragments.{TapeGrows}
-use Rattle.refinement.specs.Errors.{KeepsErrors, IsDiskComing, NoDiskComes, LinkErrorsRiseByDisks}
+use Rattle.refinement.specs.Errors.{KeepsSetBitsOfPxisAndSerrNX, IsDiskComing, NoDiskComes, LinkErrorsRiseByDisks}
 use Rattle.refinement.specs.PreservedParts.{DoesNotWrite, IsPlugEvent, NoPlugEvents}
 use Rattle.refinement.proofs.device.FactsOverAccesses.{access_steps, effect_keeps}
 use Rattle.refinement.proofs.device.TapeGains.{gains_nothing, gains_more, gains_parts, gained_none, none_narrower}
@@ -56,16 +56,16 @@ plugs_come port old new p = record { new_entries = p.new_entries; tape_is = p.ta
 -- ---- what changes by disks
 
 pub change_none : (port : ℕ) (d : Device) → LinkErrorsRiseByDisks port d d
-change_none port d = record { serr_n_rises_by_plug_events = λ none h. h; serr_x_rises_by_disk_coming = λ none h. h; det_3_was_3_if_none_comes = λ none up. (up, plugs_nothing port d) }
+change_none port d = record { serr_n_rises_by_plug_events = λ none h. h; serr_x_rises_by_disk_coming = λ none h. h; det_3_was_3_and_none_went_if_none_comes = λ none up. (up, plugs_nothing port d) }
 
 pub change_more : (port : ℕ) (old mid new : Device) → TapeGrows old mid → TapeGrows mid new → LinkErrorsRiseByDisks port old mid → LinkErrorsRiseByDisks port mid new → LinkErrorsRiseByDisks port old new
 change_more port old mid new early late a b = record {
   serr_n_rises_by_plug_events = λ none h. let parts = plugs_parts port old mid new early.0 late.0 early.1 late.1 none in b.serr_n_rises_by_plug_events parts.1 (a.serr_n_rises_by_plug_events parts.0 h);
   serr_x_rises_by_disk_coming = λ none h. let parts = comes_parts port old mid new early.0 late.0 early.1 late.1 none in b.serr_x_rises_by_disk_coming parts.1 (a.serr_x_rises_by_disk_coming parts.0 h);
-  det_3_was_3_if_none_comes = λ none up.
+  det_3_was_3_and_none_went_if_none_comes = λ none up.
       let parts = comes_parts port old mid new early.0 late.0 early.1 late.1 none in
-      let last = b.det_3_was_3_if_none_comes parts.1 up in
-      let first = a.det_3_was_3_if_none_comes parts.0 last.0 in
+      let last = b.det_3_was_3_and_none_went_if_none_comes parts.1 up in
+      let first = a.det_3_was_3_and_none_went_if_none_comes parts.0 last.0 in
       (first.0, plugs_more port old mid new first.1 last.1);
 }
 
@@ -97,7 +97,7 @@ module _ (port : ℕ) (d : Device) (off : d.hr ≡ false) (undue : (d.port port)
   calm : (new : Device) → News (new.port port) → NoPlugEvents port d new → Turns port d new
   calm new same none = (
     same.0 ∙ undue,
-    record { serr_n_rises_by_plug_events = λ _ h. same.1 ∙ h; serr_x_rises_by_disk_coming = λ _ h. same.2 ∙ h; det_3_was_3_if_none_comes = λ _ up. (sym same.3 ∙ up, none) },
+    record { serr_n_rises_by_plug_events = λ _ h. same.1 ∙ h; serr_x_rises_by_disk_coming = λ _ h. same.2 ∙ h; det_3_was_3_and_none_went_if_none_comes = λ _ up. (sym same.3 ∙ up, none) },
   )
 
   -- a disk of another port goes or comes
@@ -123,7 +123,7 @@ module _ (port : ℕ) (d : Device) (off : d.hr ≡ false) (undue : (d.port port)
         record {
           serr_n_rises_by_plug_events = λ none h. absurd (gained_none (IsPlugEvent port) d.tape _ none.new_entries none.tape_is none.no_such_entry e);
           serr_x_rises_by_disk_coming = λ none h. at_port News (λ (q : DevicePort). q.serr_x ≡ false) d p port _ (refl, refl, refl, refl) (λ _ x. x.2 ∙ h) (λ _ x. h);
-          det_3_was_3_if_none_comes = λ none up. absurd (lost p e up);
+          det_3_was_3_and_none_went_if_none_comes = λ none up. absurd (lost p e up);
         },
       ))
       (λ (ne : p ≡ port → ⊥). elsewhere p _ _ refl (one_plugs port d _ _ ne refl) ne)
@@ -139,7 +139,7 @@ module _ (port : ℕ) (d : Device) (off : d.hr ≡ false) (undue : (d.port port)
         record {
           serr_n_rises_by_plug_events = λ none h. absurd (gained_none (IsPlugEvent port) d.tape _ none.new_entries none.tape_is none.no_such_entry e);
           serr_x_rises_by_disk_coming = λ none h. absurd (gained_none (IsDiskComing port) d.tape _ none.new_entries none.tape_is none.no_such_entry e);
-          det_3_was_3_if_none_comes = λ none up. absurd (gained_none (IsDiskComing port) d.tape _ none.new_entries none.tape_is none.no_such_entry e);
+          det_3_was_3_and_none_went_if_none_comes = λ none up. absurd (gained_none (IsDiskComing port) d.tape _ none.new_entries none.tape_is none.no_such_entry e);
         },
       ))
       (λ (ne : p ≡ port → ⊥). elsewhere p _ _ refl (one_plugs port d _ _ ne refl) ne)
@@ -160,10 +160,10 @@ leads_turn laws port (step ∷ steps) old new off undue (can, lead) =
 
 -- ---- steps
 
-pub steps_errors : StepLaws → (port : ℕ) (old new : Device) → old.hr ≡ false → Steps old new → KeepsErrors (old.port port) (new.port port)
+pub steps_errors : StepLaws → (port : ℕ) (old new : Device) → old.hr ≡ false → Steps old new → KeepsSetBitsOfPxisAndSerrNX (old.port port) (new.port port)
 steps_errors laws port old new off s =
     let c : KeepsControlsFlagsRise (old.port port) (new.port port) = ((laws.steps_keep _ _ s).keeps_outside_reset off).controls_are_kept port in
-    record { pxis_is_kept = c.causes_stay_set; serr_n_is_kept = c.serr_n_stays_set; serr_x_is_kept = c.serr_x_stays_set }
+    record { set_pxis_bits_stay_set = c.causes_stay_set; serr_n_is_kept = c.serr_n_stays_set; serr_x_is_kept = c.serr_x_stays_set }
 
 pub steps_change : StepLaws → (port : ℕ) (old new : Device) → old.hr ≡ false → (old.port port).link_due ≡ false → Steps old new → LinkErrorsRiseByDisks port old new
 steps_change laws port old new off undue s = (leads_turn laws port s.steps old new off undue s.lead).1
@@ -211,8 +211,8 @@ access_change laws port access old new off undue x =
     record {
       serr_n_rises_by_plug_events = λ none h. u.0 (c.serr_n_rises_by_plug_events (plugs_before port.0 old s.0 new s.2 none) h);
       serr_x_rises_by_disk_coming = λ none h. u.1 (c.serr_x_rises_by_disk_coming (comes_before port.0 old s.0 new s.2 none) h);
-      det_3_was_3_if_none_comes = λ none up.
-          let y = c.det_3_was_3_if_none_comes (comes_before port.0 old s.0 new s.2 none) (u.2 up) in
+      det_3_was_3_and_none_went_if_none_comes = λ none up.
+          let y = c.det_3_was_3_and_none_went_if_none_comes (comes_before port.0 old s.0 new s.2 none) (u.2 up) in
           (y.0, record { new_entries = y.1.new_entries; tape_is = s.2 ∙ y.1.tape_is; no_such_entry = y.1.no_such_entry });
     }
 
@@ -245,7 +245,7 @@ pub access_news : StepLaws → (port : Port) (access : Access) (old new : Device
     ((old.port port.0).serr_n ≡ true → (new.port port.0).serr_n ≡ true) × ((old.port port.0).serr_x ≡ true → (new.port port.0).serr_x ≡ true)
 access_news laws port access old new off spares x =
     let s = access_steps access old new x in
-    let e : KeepsErrors (old.port port.0) (s.0.port port.0) = steps_errors laws port.0 old s.0 off s.1 in
+    let e : KeepsSetBitsOfPxisAndSerrNX (old.port port.0) (s.0.port port.0) = steps_errors laws port.0 old s.0 off s.1 in
     effect_keeps (KeepsNews (old.port port.0)) port (λ p r v h. h) (λ p h. h) access old new x
     (λ r v mid is steps h. written_news (old.port port.0) r v (length mid.tape) (mid.port port.0) (spared port r Serr access v spares is) h)
     (e.serr_n_is_kept, e.serr_x_is_kept)
@@ -264,4 +264,4 @@ access_causes laws port access old new off spares x =
     let s = access_steps access old new x in
     effect_keeps (KeepsCauses (old.port port.0)) port (λ p r v h. h) (λ p h. h) access old new x
     (λ r v mid is steps h. written_causes (old.port port.0) r v (length mid.tape) (mid.port port.0) (spared port r Is access v spares is) h)
-    (steps_errors laws port.0 old s.0 off s.1).pxis_is_kept
+    (steps_errors laws port.0 old s.0 off s.1).set_pxis_bits_stay_set

@@ -140,4 +140,4 @@ fault_is_read laws port v old new off st h faulted call =
 pub fault_has_a_use : (uses : SlotStates) (m : Machine) (d : Device) (port : ℕ) (entries : List Entry) → StateRelation uses m d → (s : ShowsFault entries (d.port port) port) → uses port s.fault.slot.0 ≢ Free
 fault_has_a_use uses m d port entries a s u =
     let h : IsEmptySlot (d.port port) s.fault.slot.0 = subst (λ (w : SlotState). RelatesSlot m d.memory d.tape (d.port port) port s.fault.slot.0 w) u (a.relates_slots port s.fault.slot.0) in
-    over_unused (d.port port) s.fault.slot.0 (record { is_not_issued = h.is_not_issued; is_not_taken = h.is_not_taken }) s.slot_is_in_use
+    over_unused (d.port port) s.fault.slot.0 (record { is_not_issued = h.is_not_issued; is_not_taken = h.is_not_taken }) s.slot_is_issued_or_taken

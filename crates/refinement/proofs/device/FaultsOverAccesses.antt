@@ -14,7 +14,7 @@ use Rattle.adapter.specs.Memory.{changed}
 use Rattle.adapter.specs.Rules.{MayWrite, IsStable}
 use Rattle.adapter.specs.Steps.{halt_after_start}
 use Rattle.adapter.specs.declared.tape.Entry.{Entry}
-use Rattle.refinement.specs.PortFacts.{RecordsFaultsIfSt, IsCleanToStart, KeepsFaultRecord}
+use Rattle.refinement.specs.PortFacts.{RecordsFaultsIfSt, IsCleanToStart, StartsCleanAndWritesSctlStopped}
 use Rattle.refinement.proofs.steps.AdapterCalls.{noted_tape, note_times}
 use Rattle.refinement.proofs.device.HealthyPort.{at_port}
 use Rattle.refinement.proofs.device.RecordedFaults.{SameRecord, same_with, recorded_on, restarted_faulted, steps_recorded, stopped_recorded}
@@ -86,7 +86,7 @@ module _ (port : ℕ) (d : Device) (h : RecordsFaultsIfSt d.tape (d.port port) p
     used = λ slot u. ⊎_elim (λ (set : (d.port p.0).ci slot ≡ true). inl (or_left _ _ set)) (λ t. inr t) u;
   })
 
-  written_recorded : (r : Reg) (v : ℕ) → MayWrite r v d → KeepsFaultRecord r v d → RecordsFaultsIfSt (device_after_write r v d).tape ((device_after_write r v d).port port) port
+  written_recorded : (r : Reg) (v : ℕ) → MayWrite r v d → StartsCleanAndWritesSctlStopped r v d → RecordsFaultsIfSt (device_after_write r v d).tape ((device_after_write r v d).port port) port
   written_recorded Ghc v may x = h
   written_recorded adapter.Is v may x = acknowledged_recorded d.tape (d.port port) port v h
   written_recorded (Px p Clb) v may x = same_recorded p.0 _ (same_with (d.port p.0) _ _ _ _ _ _ _ _ _ _ _ _ _ _ _)
@@ -109,7 +109,7 @@ module _ (port : ℕ) (d : Device) (h : RecordsFaultsIfSt d.tape (d.port port) p
   written_recorded Cap2 v may x = absurd may
   written_recorded Bohc v may x = absurd may
 
-pub writes_recorded : (port : ℕ) (r : Reg) (v : ℕ) (old new : Device) → IsStable (MayWrite r v) old → IsStable (KeepsFaultRecord r v) old → Writes r v old new →
+pub writes_recorded : (port : ℕ) (r : Reg) (v : ℕ) (old new : Device) → IsStable (MayWrite r v) old → IsStable (StartsCleanAndWritesSctlStopped r v) old → Writes r v old new →
     RecordsFaultsIfSt old.tape (old.port port) port → RecordsFaultsIfSt new.tape (new.port port) port
 writes_recorded port r v old new may keeps call h =
     subst (λ (d : Device). RecordsFaultsIfSt d.tape (d.port port) port) (sym call.effect)

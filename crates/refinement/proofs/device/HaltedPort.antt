@@ -31,16 +31,16 @@ use Rattle.refinement.proofs.device.ClearSactBits.{if_false}
 -- ---- it stays so
 
 pub halted_on : {old new : DevicePort} → PortBitsOnlyFall old new → IsEngineStopped old → IsEngineStopped new
-halted_on k h = record { st_is_clear = k.st_stays_clear h.st_is_clear; cr_is_clear = k.cr_stays_clear h.cr_is_clear; no_command_is_issued = λ s. k.ci_stays_clear s (h.no_command_is_issued s); no_command_is_taken = k.stays_without_commands h.cr_is_clear h.no_command_is_taken }
+halted_on k h = record { st_is_clear = k.st_stays_clear h.st_is_clear; cr_is_clear = k.cr_stays_clear h.cr_is_clear; no_command_is_issued = λ s. k.ci_stays_clear s (h.no_command_is_issued s); no_command_is_taken = k.none_stays_taken_while_cr_is_clear h.cr_is_clear h.no_command_is_taken }
 
 pub reset_on : {old new : DevicePort} → PortBitsOnlyFall old new → IsQuiescentPort old → IsQuiescentPort new
 reset_on k h = record { engine_is_stopped = halted_on k h.engine_is_stopped; sact_is_clear = λ s. k.sact_stays_clear s (h.sact_is_clear s); fre_is_clear = k.fre_stays_clear h.fre_is_clear; fr_is_clear = k.fr_stays_clear h.fr_is_clear }
 
 pub law_stopped_engine_stays : StepLaws → (port : ℕ) (old new : Device) → Steps old new → IsEngineStopped (old.port port) → IsEngineStopped (new.port port)
-law_stopped_engine_stays laws port old new s h = halted_on ((laws.steps_keep _ _ s).ports_are_kept port) h
+law_stopped_engine_stays laws port old new s h = halted_on ((laws.steps_keep _ _ s).port_bits_only_fall port) h
 
 pub reset_stays : StepLaws → (port : ℕ) (old new : Device) → Steps old new → IsQuiescentPort (old.port port) → IsQuiescentPort (new.port port)
-reset_stays laws port old new s h = reset_on ((laws.steps_keep _ _ s).ports_are_kept port) h
+reset_stays laws port old new s h = reset_on ((laws.steps_keep _ _ s).port_bits_only_fall port) h
 
 pub idle_halted : (p : DevicePort) → IsIdlePort p → IsEngineStopped p
 idle_halted p i = record { st_is_clear = i.st_is_clear; cr_is_clear = i.cr_is_clear; no_command_is_issued = i.ci_is_clear; no_command_is_taken = i.none_is_taken }
@@ -175,7 +175,7 @@ pub law_stopped_engine_is_read : StepLaws → (uses : SlotStates) (m : Machine) 
     (old.port port.0).st ≡ false → Reads (Px port Cmd) v old new → bit v 15 ≡ false → IsEngineStopped (new.port port.0)
 law_stopped_engine_is_read laws uses m port v old new reached a st call clear =
     let f : SimulatesSteps uses m old call.at_access = steps_follow uses m old call.at_access reached a call.steps in
-    let k : PortBitsOnlyFall (old.port port.0) (call.at_access.port port.0) = (laws.steps_keep _ _ call.steps).ports_are_kept port.0 in
+    let k : PortBitsOnlyFall (old.port port.0) (call.at_access.port port.0) = (laws.steps_keep _ _ call.steps).port_bits_only_fall port.0 in
     let h : IsEngineStopped (call.at_access.port port.0) = stopped_halts uses (left.after m f.steps) call.at_access port.0 f.state_relation (k.st_stays_clear st) (sym call.shows.3 ∙ clear) in
     let is : new.port port.0 ≡ record (call.at_access.port port.0) { notes = notes_after_reading Cmd v (call.at_access.port port.0) } = ap (λ (d : Device). d.port port.0) call.effect ∙ changed_same call.at_access.port port.0 _ in
     subst IsEngineStopped (sym is) (record { st_is_clear = h.st_is_clear; cr_is_clear = h.cr_is_clear; no_command_is_issued = h.no_command_is_issued; no_command_is_taken = h.no_command_is_taken })

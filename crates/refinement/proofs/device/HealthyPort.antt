@@ -62,5 +62,5 @@ first_healthy = subst RunsWell (sym (changed_same (λ _. empty_port) 0 reading_p
   no_link_is_due = refl;
   is_not_halted = refl;
   is_not_broken = refl;
-  shows_no_trouble = record { serr_n_is_clear = refl; serr_x_is_clear = refl; no_error_bit_is_set = λ place low up. refl };
+  shows_no_trouble = record { serr_n_is_clear = refl; serr_x_is_clear = refl; bits_27_to_30_are_clear = λ place low up. refl };
 })

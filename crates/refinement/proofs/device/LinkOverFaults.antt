@@ -135,7 +135,7 @@ start_runs laws port v old new off stopped stands on none call h =
     let k : KeepsOverSteps old call.at_access = laws.steps_keep _ _ call.steps in
     let before : NoPlugEvents port.0 old call.at_access = plugs_before port.0 old call.at_access new (ap (λ (d : Device). d.tape) call.effect ∙ written_tape (Px port Cmd) v call.at_access) none in
     subst RunsLinked (sym (ap (λ (d : Device). d.port port.0) call.effect ∙ changed_same call.at_access.port port.0 _))
-    (running_now v (length call.at_access.tape) (call.at_access.port port.0) on ((k.ports_are_kept port.0).st_stays_clear stopped) (steps_linked laws port.0 old call.at_access off before call.steps h))
+    (running_now v (length call.at_access.tape) (call.at_access.port port.0) on ((k.port_bits_only_fall port.0).st_stays_clear stopped) (steps_linked laws port.0 old call.at_access off before call.steps h))
 
 pub running_started : (p : DevicePort) → RunsLinked p → p.halt ≡ NotHalted → IsStarted p
 running_started p h ends = record { st_is_set = h.st_is_set; cr_is_set = h.cr_is_set; det_is_3 = h.det_is_3; present = h.present; fresh = h.fresh; no_link_is_due = h.no_link_is_due; is_not_halted = ends; is_not_broken = h.is_not_broken }

@@ -51,8 +51,8 @@ module _ (laws : StepLaws) (port : Port) (v : ℕ) (old new : Device) (off : old
             (λ (t : bit v 6 ≡ true). absurd (both_ways _ (seen_is.shows 6 refl ∙ change.serr_x_rises_by_disk_coming (plugs_come port.0 old new none) x) t))
             told
 
-    pub fault_told : bit v 30 ≡ true → ((old.port port.0).is 30 ≡ true) ⊎ (NoFaults port.0 old new → ⊥)
-    fault_told told = ⊎_elim
+    pub tfes_read_means_faulted : bit v 30 ≡ true → ((old.port port.0).is 30 ≡ true) ⊎ (NoFaults port.0 old new → ⊥)
+    tfes_read_means_faulted told = ⊎_elim
         (λ (t : (old.port port.0).is 30 ≡ true). inl t)
         (λ (f : (old.port port.0).is 30 ≡ false). inr (λ none. absurd (both_ways _ (seen_is.shows 30 refl ∙ (access_raises laws port (Reading (Px port Is) v) old new call).fault none f) told)))
         (cases_Bool ((old.port port.0).is 30))

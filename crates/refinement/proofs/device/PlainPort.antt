@@ -34,17 +34,17 @@ use Rattle.refinement.proofs.device.HealthyPort.{at_port}
 use Rattle.refinement.proofs.device.PortControls.{spared}
 use Rattle.refinement.proofs.steps.TakenCommand.{own_plain, never_refused}
 use Rattle.refinement.proofs.device.ClearSactBits.{if_false}
-use Rattle.refinement.specs.HaltRecovery.{IsLinked, WorksPlainly}
+use Rattle.refinement.specs.HaltRecovery.{IsLinked, WorksOnUnqueuedCommandsOnly}
 
 -- as facts of a port's fields
 abbrev Plain : DevicePort → Type 0
 Plain p = (halt_after_start p.halt ≡ NotHalted) × ((slot : ℕ) → p.sact slot ≡ false) × ((slot : ℕ) (t : FetchedCommand) → p.taken slot ≡ Some t → is_queued t.meaning.operation ≡ false)
 
-plain_of : (p : DevicePort) → WorksPlainly p → Plain p
+plain_of : (p : DevicePort) → WorksOnUnqueuedCommandsOnly p → Plain p
 plain_of p h = (h.start_ends_halt, h.unarmed, h.taken_are_plain)
 
-works_plainly : (p : DevicePort) → Plain p → WorksPlainly p
-works_plainly p h = record { start_ends_halt = h.0; unarmed = h.1; taken_are_plain = h.2 }
+plain_port_stays_plain : (p : DevicePort) → Plain p → WorksOnUnqueuedCommandsOnly p
+plain_port_stays_plain p h = record { start_ends_halt = h.0; unarmed = h.1; taken_are_plain = h.2 }
 
 -- ---- what a slot says
 
@@ -159,8 +159,8 @@ leads_plain laws uses m port (step ∷ steps) old new r a (can, lead) h =
     let f : SimulatesSteps uses m old (device_after step old) = step_follows uses m old step r a can in
     leads_plain laws uses (left.after m f.steps) port steps (device_after step old) new (laws.reachable_goes_on m f.steps r f.steps_are_enabled) f.state_relation lead (step_plain uses m old a port h step can)
 
-pub steps_plain : StepLaws → (uses : SlotStates) (m : Machine) (port : ℕ) (old new : Device) → IsReachable m → StateRelation uses m old → Steps old new → WorksPlainly (old.port port) → WorksPlainly (new.port port)
-steps_plain laws uses m port old new r a s h = works_plainly (new.port port) (leads_plain laws uses m port s.steps old new r a s.lead (plain_of (old.port port) h))
+pub steps_plain : StepLaws → (uses : SlotStates) (m : Machine) (port : ℕ) (old new : Device) → IsReachable m → StateRelation uses m old → Steps old new → WorksOnUnqueuedCommandsOnly (old.port port) → WorksOnUnqueuedCommandsOnly (new.port port)
+steps_plain laws uses m port old new r a s h = plain_port_stays_plain (new.port port) (leads_plain laws uses m port s.steps old new r a s.lead (plain_of (old.port port) h))
 
 -- ---- an access
 
@@ -178,23 +178,23 @@ written_plain Sact v tape p other h = absurd (other refl)
 written_plain _ v tape p other h = h
 
 pub access_plain : StepLaws → (uses : SlotStates) (m : Machine) (port : Port) (access : Access) (old new : Device) → IsReachable m → StateRelation uses m old → DoesNotWrite (Px port Sact) access → Does access old new →
-    WorksPlainly (old.port port.0) → WorksPlainly (new.port port.0)
+    WorksOnUnqueuedCommandsOnly (old.port port.0) → WorksOnUnqueuedCommandsOnly (new.port port.0)
 access_plain laws uses m port access old new r a spares x h =
     let s = access_steps access old new x in
-    works_plainly (new.port port.0)
+    plain_port_stays_plain (new.port port.0)
     (effect_keeps Plain port (λ p q v y. y) (λ p y. y) access old new x
     (λ q v mid is steps y. written_plain q v (length mid.tape) (mid.port port.0) (spared port q Sact access v spares is) y)
     (leads_plain laws uses m port.0 s.1.steps old s.0 r a s.1.lead (plain_of (old.port port.0) h)))
 
 -- ---- where it begins, and what it gives
 
-pub running_plainly : (uses : SlotStates) (m : Machine) (port : ℕ) (d : Device) → StateRelation uses m d → (d.port port).st ≡ true → (d.port port).halt ≡ NotHalted → ((slot : ℕ) → (d.port port).sact slot ≡ false) → WorksPlainly (d.port port)
+pub running_plainly : (uses : SlotStates) (m : Machine) (port : ℕ) (d : Device) → StateRelation uses m d → (d.port port).st ≡ true → (d.port port).halt ≡ NotHalted → ((slot : ℕ) → (d.port port).sact slot ≡ false) → WorksOnUnqueuedCommandsOnly (d.port port)
 running_plainly uses m port d a st runs clear = record { start_ends_halt = ap halt_after_start runs; unarmed = clear; taken_are_plain = λ slot t is. taken_plain uses m d port slot t a st (clear slot) is }
 
-pub plainly_up : (p : DevicePort) → IsLinked p → WorksPlainly p → IsUpForStart p
+pub plainly_up : (p : DevicePort) → IsLinked p → WorksOnUnqueuedCommandsOnly p → IsUpForStart p
 plainly_up p l w = record { det_is_3 = l.det_is_3; present = l.present; fresh = l.fresh; no_link_is_due = l.no_link_is_due; comreset_is_over = l.comreset_is_over; start_ends_halt = w.start_ends_halt }
 
-pub plainly_well : StepLaws → (port : Port) (v causes : ℕ) (old mid new : Device) → old.hr ≡ false → (old.port port.0).st ≡ false → (old.port port.0).cr ≡ false → bit v 0 ≡ true → IsLinked (old.port port.0) → WorksPlainly (old.port port.0) →
+pub plainly_well : StepLaws → (port : Port) (v causes : ℕ) (old mid new : Device) → old.hr ≡ false → (old.port port.0).st ≡ false → (old.port port.0).cr ≡ false → bit v 0 ≡ true → IsLinked (old.port port.0) → WorksOnUnqueuedCommandsOnly (old.port port.0) →
     Writes (Px port Cmd) v old mid → Reads (Px port Is) causes mid new → PxisValueTellsNoTrouble causes → RunsWell (new.port port.0)
 plainly_well laws port v causes old mid new off stopped stands on l w start call calm =
     (well_is_found laws) port v causes old mid new off stopped stands on (plainly_up (old.port port.0) l w) start call calm

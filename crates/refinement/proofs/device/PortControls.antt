@@ -19,7 +19,7 @@ use Rattle.adapter.specs.declared.tape.Entry.TheVariants as entry
 use Rattle.refinement.specs.StepLaws.{StepLaws}
 use Rattle.refinement.specs.Relation.{port_at}
 use Rattle.refinement.specs.PortFacts.{IsDisturbance, Undisturbed}
-use Rattle.refinement.specs.PreservedParts.{DoesNotWrite, LeavesControls, IsPlugEvent, NoPlugEvents, KeepsDisk, SameLink, ComesUp, LinkIsSameOrComesUp}
+use Rattle.refinement.specs.PreservedParts.{DoesNotWrite, ControlsChangeOnlyByTheirWrites, IsPlugEvent, NoPlugEvents, KeepsDisk, SameLink, ComesUp, LinkIsSameOrComesUp}
 use Rattle.refinement.proofs.steps.AdapterCalls.{note_times}
 use Rattle.refinement.proofs.device.FactsOverAccesses.{access_steps, effect_keeps}
 use Rattle.refinement.proofs.device.TapeGains.{NoneOf, gains_nothing, gains_more, gains_parts, gained_none, none_narrower}
@@ -223,7 +223,7 @@ SameRest p new = (new.sctl_det ≡ p.sctl_det) × (new.notes.sctl_written_at ≡
 
 module _ (access : Access) (port : Port) (first : DevicePort) where
   abbrev Controls : DevicePort → Type 0
-  Controls p = LeavesControls access port first p
+  Controls p = ControlsChangeOnlyByTheirWrites access port first p
 
   controls_on : (p new : DevicePort) → new.st ≡ p.st → new.fre ≡ p.fre → new.notes.st_set_at ≡ p.notes.st_set_at → new.cr ≡ p.cr → new.sctl_det ≡ p.sctl_det → new.notes.sctl_written_at ≡ p.notes.sctl_written_at → new.bases ≡ p.bases → new.ie ≡ p.ie →
       Controls p → Controls new
@@ -274,19 +274,19 @@ module _ (access : Access) (port : Port) (first : DevicePort) where
   written_controls Ci v tape p here h = controls_on p _ refl refl refl refl refl refl refl refl h
   written_controls _ v tape p here h = h
 
-pub access_controls : StepLaws → (port : Port) (access : Access) (old new : Device) → old.hr ≡ false → Does access old new → LeavesControls access port (old.port port.0) (new.port port.0)
+pub access_controls : StepLaws → (port : Port) (access : Access) (old new : Device) → old.hr ≡ false → Does access old new → ControlsChangeOnlyByTheirWrites access port (old.port port.0) (new.port port.0)
 access_controls laws port access old new off x =
     let s = access_steps access old new x in
     let k : KeepsOverSteps old s.0 = laws.steps_keep _ _ s.1 in
     let c : KeepsControlsFlagsRise (old.port port.0) (s.0.port port.0) = (k.keeps_outside_reset off).controls_are_kept port.0 in
-    effect_keeps (LeavesControls access port (old.port port.0)) port (noted_controls access port (old.port port.0)) (λ p h. controls_on access port (old.port port.0) p _ refl refl refl refl refl refl refl refl h) access old new x
+    effect_keeps (ControlsChangeOnlyByTheirWrites access port (old.port port.0)) port (noted_controls access port (old.port port.0)) (λ p h. controls_on access port (old.port port.0) p _ refl refl refl refl refl refl refl refl h) access old new x
     (λ r v mid is steps h. written_controls access port (old.port port.0) r v (length mid.tape) (mid.port port.0) (λ spares. spared port r r access v spares is refl) h)
     (record {
       command = λ s. (c.st_is_kept, c.fre_is_kept, ap (λ (n : Notes). n.st_set_at) (k.notes_are_kept port.0), c.engine_stays_running);
       control = λ s. (c.sctl_det_is_kept, ap (λ (n : Notes). n.sctl_written_at) (k.notes_are_kept port.0));
       interrupt_enable = λ s. c.ie_is_kept;
-      list = λ s. (ap (λ (b : Bases). b.clb) (k.ports_are_kept port.0).bases_are_kept, ap (λ (b : Bases). b.clb_set) (k.ports_are_kept port.0).bases_are_kept);
-      list_upper = λ s. ap (λ (b : Bases). b.clbu_set) (k.ports_are_kept port.0).bases_are_kept;
-      received = λ s. (ap (λ (b : Bases). b.fb) (k.ports_are_kept port.0).bases_are_kept, ap (λ (b : Bases). b.fb_set) (k.ports_are_kept port.0).bases_are_kept);
-      received_upper = λ s. ap (λ (b : Bases). b.fbu_set) (k.ports_are_kept port.0).bases_are_kept;
+      list = λ s. (ap (λ (b : Bases). b.clb) (k.port_bits_only_fall port.0).bases_are_kept, ap (λ (b : Bases). b.clb_set) (k.port_bits_only_fall port.0).bases_are_kept);
+      list_upper = λ s. ap (λ (b : Bases). b.clbu_set) (k.port_bits_only_fall port.0).bases_are_kept;
+      received = λ s. (ap (λ (b : Bases). b.fb) (k.port_bits_only_fall port.0).bases_are_kept, ap (λ (b : Bases). b.fb_set) (k.port_bits_only_fall port.0).bases_are_kept);
+      received_upper = λ s. ap (λ (b : Bases). b.fbu_set) (k.port_bits_only_fall port.0).bases_are_kept;
     })

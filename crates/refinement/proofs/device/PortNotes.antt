@@ -18,7 +18,7 @@ use Rattle.adapter.proofs.Changed.{changed_same}
 use Rattle.refinement.specs.StepLaws.{StepLaws}
 use Rattle.refinement.specs.Relation.{port_at}
 use Rattle.refinement.specs.PreservedParts.{DoesNotWrite}
-use Rattle.refinement.specs.PortNotes.{DoesNotRead, LeavesNotes}
+use Rattle.refinement.specs.PortNotes.{DoesNotRead, ReadingNotesChangeByReadOrSctlWriteOnly}
 use Rattle.refinement.proofs.device.HealthyPort.{at_port}
 
 -- ---- what is noted
@@ -70,10 +70,10 @@ pub law_notes_stay : StepLaws → (port : ℕ) (old new : Device) → Steps old 
 law_notes_stay laws port old new s = (laws.steps_keep _ _ s).notes_are_kept port
 
 module _ (access : Access) (port : Port) (first : Notes) where
-  -- the fields of `LeavesNotes`
+  -- the fields of `ReadingNotesChangeByReadOrSctlWriteOnly`
   abbrev Leaves : DevicePort → Type 0
   Leaves p =
-      (DoesNotRead (Px port Cmd) access → (p.notes.last_cmd ≡ first.last_cmd) × (p.notes.engine_count ≡ first.engine_count))
+      (DoesNotRead (Px port Cmd) access → (p.notes.last_cmd ≡ first.last_cmd) × (p.notes.engine_wait_count ≡ first.engine_wait_count))
       × (DoesNotRead (Px port Ssts) access → (p.notes.last_ssts ≡ first.last_ssts) × (DoesNotWrite (Px port Sctl) access → p.notes.link_wait_count ≡ first.link_wait_count))
       × (DoesNotRead (Px port Tfd) access → (p.notes.last_tfd ≡ first.last_tfd) × (DoesNotWrite (Px port Sctl) access → p.notes.busy_count ≡ first.busy_count))
       × (DoesNotRead (Px port Ci) access → (p.notes.last_ci ≡ first.last_ci) × (DoesNotWrite (Px port Sctl) access → p.notes.slot0_issued_count ≡ first.slot0_issued_count))
@@ -111,7 +111,7 @@ module _ (access : Access) (port : Port) (first : Notes) where
 
   left_notes : (p : DevicePort) → p.notes ≡ first → Leaves p
   left_notes p is = (
-    λ s. (ap (λ (n : Notes). n.last_cmd) is, ap (λ (n : Notes). n.engine_count) is),
+    λ s. (ap (λ (n : Notes). n.last_cmd) is, ap (λ (n : Notes). n.engine_wait_count) is),
     λ s. (ap (λ (n : Notes). n.last_ssts) is, λ c. ap (λ (n : Notes). n.link_wait_count) is),
     λ s. (ap (λ (n : Notes). n.last_tfd) is, λ c. ap (λ (n : Notes). n.busy_count) is),
     λ s. (ap (λ (n : Notes). n.last_ci) is, λ c. ap (λ (n : Notes). n.slot0_issued_count) is),
@@ -157,7 +157,7 @@ access_leaves laws port (Loading at bytes) old new x = left_notes (Loading at by
 access_leaves laws port (Storing at bytes) old new x = left_notes (Storing at bytes) port (old.port port.0).notes (new.port port.0)
     (ap (λ (d : Device). (d.port port.0).notes) x.effect ∙ law_notes_stay laws port.0 old x.at_access x.steps)
 
-pub access_notes : StepLaws → (port : Port) (access : Access) (old new : Device) → Does access old new → LeavesNotes access port (old.port port.0).notes (new.port port.0).notes
+pub access_notes : StepLaws → (port : Port) (access : Access) (old new : Device) → Does access old new → ReadingNotesChangeByReadOrSctlWriteOnly access port (old.port port.0).notes (new.port port.0).notes
 access_notes laws port access old new x =
     let h : Leaves access port (old.port port.0).notes (new.port port.0) = access_leaves laws port access old new x in
     record { command = h.0; link = h.1; task_file = h.2; issued = h.3; active = h.4; signature = h.5 }

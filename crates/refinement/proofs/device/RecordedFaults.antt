@@ -89,7 +89,7 @@ shows_on entries p new port same s = record {
   no_later_fault = s.no_later_fault;
   bytes_fit = s.bytes_fit;
   tfd_is = same.tfd ∙ s.tfd_is;
-  slot_is_in_use = same.used s.fault.slot.0 s.slot_is_in_use;
+  slot_is_issued_or_taken = same.used s.fault.slot.0 s.slot_is_issued_or_taken;
 }
 
 pub recorded_on : (tape : List Entry) (p new : DevicePort) (port : ℕ) → SameRecord p new → RecordsFaultsIfSt tape p port → RecordsFaultsIfSt tape new port
@@ -114,7 +114,7 @@ shows_more entries e p port none s = record {
   no_later_fault = All-push (λ x. IsFaultOf port x → ⊥) s.later e s.no_later_fault none;
   bytes_fit = s.bytes_fit;
   tfd_is = s.tfd_is;
-  slot_is_in_use = s.slot_is_in_use;
+  slot_is_issued_or_taken = s.slot_is_issued_or_taken;
 }
 
 longer : (tape : List Entry) (e : Entry) (n : ℕ) → n ≤ length tape → n ≤ length (tape ++ e ∷ [])
@@ -174,7 +174,7 @@ recorded_fault tape p new port q slot error kept_bits queued here st set_at link
         no_later_fault = All-nil (λ e. IsFaultOf port e → ⊥);
         bytes_fit = fits;
         tfd_is = tfd;
-        slot_is_in_use = used;
+        slot_is_issued_or_taken = used;
       });
     }
 

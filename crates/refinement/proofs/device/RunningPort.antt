@@ -133,7 +133,7 @@ access_quiets laws port access old new u x = λ place low up clear. access_unset
 clear_of : (port : ℕ) (old new : Device) → Undisturbed port old new → LinkErrorsRiseByDisks port old new → Quiets (old.port port) (new.port port) → ErrorBitsStayClear (old.port port) (new.port port)
 clear_of port old new u c quiets =
     let none = undisturbed_plugs port old new u in
-    record { serr_n_stays_clear = c.serr_n_rises_by_plug_events none; serr_x_stays_clear = c.serr_x_rises_by_disk_coming (plugs_come port old new none); pxis_stays_clear = quiets }
+    record { serr_n_stays_clear = c.serr_n_rises_by_plug_events none; serr_x_stays_clear = c.serr_x_rises_by_disk_coming (plugs_come port old new none); pxis_bits_27_to_30_stay_clear = quiets }
 
 pub steps_clear : StepLaws → (port : ℕ) (old new : Device) → old.hr ≡ false → (old.port port).link_due ≡ false → Undisturbed port old new → Steps old new → ErrorBitsStayClear (old.port port) (new.port port)
 steps_clear laws port old new off undue u s = clear_of port old new u (steps_change laws port old new off undue s) (on_quiets laws port old new u s)
@@ -160,10 +160,10 @@ pub started_well : (p : DevicePort) → RunsWell p → IsStarted p
 started_well p h = record { st_is_set = h.st_is_set; cr_is_set = h.cr_is_set; det_is_3 = h.det_is_3; present = h.present; fresh = h.fresh; no_link_is_due = h.no_link_is_due; is_not_halted = h.is_not_halted; is_not_broken = h.is_not_broken }
 
 pub shows_still : (p new : DevicePort) → ErrorBitsStayClear p new → ShowsNoTrouble p → ShowsNoTrouble new
-shows_still p new c h = record { serr_n_is_clear = c.serr_n_stays_clear h.serr_n_is_clear; serr_x_is_clear = c.serr_x_stays_clear h.serr_x_is_clear; no_error_bit_is_set = λ place low up. c.pxis_stays_clear place low up (h.no_error_bit_is_set place low up) }
+shows_still p new c h = record { serr_n_is_clear = c.serr_n_stays_clear h.serr_n_is_clear; serr_x_is_clear = c.serr_x_stays_clear h.serr_x_is_clear; bits_27_to_30_are_clear = λ place low up. c.pxis_bits_27_to_30_stay_clear place low up (h.bits_27_to_30_are_clear place low up) }
 
-pub law_running_well_stays : StepLaws → (port : ℕ) (old new : Device) → old.hr ≡ false → Steps old new → Undisturbed port old new → RunsWell (old.port port) → RunsWell (new.port port)
-law_running_well_stays laws port old new off s u h =
+pub law_running_well_stays_if_undisturbed : StepLaws → (port : ℕ) (old new : Device) → old.hr ≡ false → Steps old new → Undisturbed port old new → RunsWell (old.port port) → RunsWell (new.port port)
+law_running_well_stays_if_undisturbed laws port old new off s u h =
     well_of (new.port port) (steps_started laws port old new off u s (started_well (old.port port) h))
     (shows_still (old.port port) (new.port port) (steps_clear laws port old new off h.no_link_is_due u s) h.shows_no_trouble)
 

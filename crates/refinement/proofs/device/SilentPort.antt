@@ -52,7 +52,7 @@ leads_silent : StepLaws → (port : ℕ) (steps : List DeviceTransition) (old ne
 leads_silent laws port [] old new cr e = subst (GainsNone (IsEngineWork port) old) (sym e) (gains_nothing (IsEngineWork port) old)
 leads_silent laws port (step ∷ steps) old new cr (can, lead) =
     let k : KeepsOverSteps old (device_after step old) = laws.one_step_keeps step _ can in
-    gains_more (IsEngineWork port) old (device_after step old) new (step_silent port old cr step can) (leads_silent laws port steps (device_after step old) new ((k.ports_are_kept port).cr_stays_clear cr) lead)
+    gains_more (IsEngineWork port) old (device_after step old) new (step_silent port old cr step can) (leads_silent laws port steps (device_after step old) new ((k.port_bits_only_fall port).cr_stays_clear cr) lead)
 
 pub steps_silent : StepLaws → (port : ℕ) (old new : Device) (gained : List Entry) → (old.port port).cr ≡ false → Steps old new → new.tape ≡ old.tape ++ gained → NoneOf (IsEngineWork port) gained
 steps_silent laws port old new gained cr s is =

@@ -18,7 +18,7 @@ use Rattle.adapter.specs.Steps.DeviceTransition.{Fetch, FetchFault, Move, Clear,
 use Rattle.adapter.proofs.Changed.{changed_same}
 use Rattle.refinement.specs.StepLaws.{StepLaws}
 use Rattle.refinement.specs.Relation.{port_at}
-use Rattle.refinement.specs.PortFacts.{StoppedWithDrqTillLink, StoppedTfesClear, IsCleanToStart}
+use Rattle.refinement.specs.PortFacts.{IsStoppedWithDrqWhileLinkAwaited, CrAndTfesAreClear, IsCleanToStart}
 use Rattle.refinement.proofs.device.FactsOverAccesses.{noted_on, written_on}
 use Rattle.refinement.proofs.device.AwaitedLink.{leads_keep, steps_awaited, steps_unflagged}
 use Rattle.refinement.proofs.device.HealthyPort.{at_port}
@@ -61,21 +61,21 @@ steps_quiet port old new s q =
 
 -- ---- TFES over readings and writes
 
-pub reads_unflagged : (port : ℕ) (r : Reg) (v : ℕ) (old new : Device) → Reads r v old new → StoppedTfesClear (old.port port) → StoppedTfesClear (new.port port)
+pub reads_unflagged : (port : ℕ) (r : Reg) (v : ℕ) (old new : Device) → Reads r v old new → CrAndTfesAreClear (old.port port) → CrAndTfesAreClear (new.port port)
 reads_unflagged port r v old new x h =
-    subst (λ (d : Device). StoppedTfesClear (d.port port)) (sym x.effect) (noted_on StoppedTfesClear (port_at port) (λ p q w y. y) r v x.at_access (steps_unflagged port old x.at_access x.steps h))
+    subst (λ (d : Device). CrAndTfesAreClear (d.port port)) (sym x.effect) (noted_on CrAndTfesAreClear (port_at port) (λ p q w y. y) r v x.at_access (steps_unflagged port old x.at_access x.steps h))
 
 -- PxIS is written with bit 30
-pub clearing_unflags : StepLaws → (port : Port) (v : ℕ) (old new : Device) → (old.port port.0).cr ≡ false → bit v 30 ≡ true → Writes (Px port Is) v old new → StoppedTfesClear (new.port port.0)
+pub clearing_unflags : StepLaws → (port : Port) (v : ℕ) (old new : Device) → (old.port port.0).cr ≡ false → bit v 30 ≡ true → Writes (Px port Is) v old new → CrAndTfesAreClear (new.port port.0)
 clearing_unflags laws port v old new cr set call =
-    let k : PortBitsOnlyFall (old.port port.0) (call.at_access.port port.0) = (laws.steps_keep _ _ call.steps).ports_are_kept port.0 in
-    subst StoppedTfesClear (sym (ap (λ (d : Device). d.port port.0) call.effect ∙ changed_same call.at_access.port port.0 _))
+    let k : PortBitsOnlyFall (old.port port.0) (call.at_access.port port.0) = (laws.steps_keep _ _ call.steps).port_bits_only_fall port.0 in
+    subst CrAndTfesAreClear (sym (ap (λ (d : Device). d.port port.0) call.effect ∙ changed_same call.at_access.port port.0 _))
     (k.cr_stays_clear cr, and_right ((call.at_access.port port.0).is 30) (not (bit v 30)) (ap not set))
 
-stopped_unflagged : (p : DevicePort) (v tape : ℕ) → bit v 0 ≡ false → StoppedTfesClear p → StoppedTfesClear (port_after_write Cmd v tape p)
-stopped_unflagged p v tape off h = subst (λ (b : Bool). StoppedTfesClear (port_after_fre_write (bit v 4) (port_after_st_write b tape p))) (sym off) h
+stopped_unflagged : (p : DevicePort) (v tape : ℕ) → bit v 0 ≡ false → CrAndTfesAreClear p → CrAndTfesAreClear (port_after_write Cmd v tape p)
+stopped_unflagged p v tape off h = subst (λ (b : Bool). CrAndTfesAreClear (port_after_fre_write (bit v 4) (port_after_st_write b tape p))) (sym off) h
 
-port_unflagged : (r : PortReg) (v tape : ℕ) (p : DevicePort) → (r ≡ Cmd → bit v 0 ≡ false) → StoppedTfesClear p → StoppedTfesClear (port_after_write r v tape p)
+port_unflagged : (r : PortReg) (v tape : ℕ) (p : DevicePort) → (r ≡ Cmd → bit v 0 ≡ false) → CrAndTfesAreClear p → CrAndTfesAreClear (port_after_write r v tape p)
 port_unflagged Cmd v tape p off h = stopped_unflagged p v tape (off refl) h
 port_unflagged Is v tape p off h = (h.0, and_left (p.is 30) (not (bit v 30)) h.1)
 port_unflagged Clb v tape p off h = h
@@ -91,16 +91,16 @@ port_unflagged Serr v tape p off h = h
 port_unflagged Sact v tape p off h = h
 port_unflagged Ci v tape p off h = h
 
-pub writes_unflagged : (port : Port) (r : Reg) (v : ℕ) (old new : Device) → (r ≡ Px port Cmd → bit v 0 ≡ false) → Writes r v old new → StoppedTfesClear (old.port port.0) → StoppedTfesClear (new.port port.0)
+pub writes_unflagged : (port : Port) (r : Reg) (v : ℕ) (old new : Device) → (r ≡ Px port Cmd → bit v 0 ≡ false) → Writes r v old new → CrAndTfesAreClear (old.port port.0) → CrAndTfesAreClear (new.port port.0)
 writes_unflagged port r v old new off x h =
-    subst (λ (d : Device). StoppedTfesClear (d.port port.0)) (sym x.effect)
-    (written_on StoppedTfesClear port (λ p q w y. y) (λ p y. y) r v x.at_access
+    subst (λ (d : Device). CrAndTfesAreClear (d.port port.0)) (sym x.effect)
+    (written_on CrAndTfesAreClear port (λ p q w y. y) (λ p y. y) r v x.at_access
     (λ q is. port_unflagged q v (length x.at_access.tape) (x.at_access.port port.0) (λ c. off (is ∙ ap (Px port) c)))
     (steps_unflagged port.0 old x.at_access x.steps h))
 
 -- ---- no link is due, over readings and writes
 
-linked_quiet : (p : DevicePort) → StoppedTfesClear p → IsLinked p → IsCleanToStart p
+linked_quiet : (p : DevicePort) → CrAndTfesAreClear p → IsLinked p → IsCleanToStart p
 linked_quiet p u l = record { is_stopped_tfes_clear = u; no_link_is_due = l.0; no_comreset = l.1 }
 
 stopped_linked : (p : DevicePort) (v tape : ℕ) → bit v 0 ≡ false → IsLinked p → IsLinked (port_after_write Cmd v tape p)
@@ -145,10 +145,10 @@ drq_read v tfd e = ap (λ (n : ℕ). n == 1) (ap (λ (n : ℕ). bit_at n 3) (sym
     low = omega arith
 
 -- without DRQ the link isn't awaited
-pub law_clean_to_start_is_found : (port : Port) (v : ℕ) (old new : Device) → StoppedWithDrqTillLink (old.port port.0) → StoppedTfesClear (old.port port.0) → Reads (Px port Tfd) v old new → bit v 3 ≡ false → IsCleanToStart (new.port port.0)
+pub law_clean_to_start_is_found : (port : Port) (v : ℕ) (old new : Device) → IsStoppedWithDrqWhileLinkAwaited (old.port port.0) → CrAndTfesAreClear (old.port port.0) → Reads (Px port Tfd) v old new → bit v 3 ≡ false → IsCleanToStart (new.port port.0)
 law_clean_to_start_is_found port v old new awaited unflagged call clear =
-    let u : StoppedTfesClear (call.at_access.port port.0) = steps_unflagged port.0 old call.at_access call.steps unflagged in
-    let w : StoppedWithDrqTillLink (call.at_access.port port.0) = steps_awaited port.0 old call.at_access call.steps awaited in
+    let u : CrAndTfesAreClear (call.at_access.port port.0) = steps_unflagged port.0 old call.at_access call.steps unflagged in
+    let w : IsStoppedWithDrqWhileLinkAwaited (call.at_access.port port.0) = steps_awaited port.0 old call.at_access call.steps awaited in
     let none : ((call.at_access.port port.0).link_due ≡ true) ⊎ ((call.at_access.port port.0).sctl_det ≡ 1) → ⊥ = λ due. absurd (both_ways _ clear (sym (drq_read v (call.at_access.port port.0).tfd call.shows) ∙ (w due).1)) in
     let q : IsCleanToStart (call.at_access.port port.0) = record {
       is_stopped_tfes_clear = u;

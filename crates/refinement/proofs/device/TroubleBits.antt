@@ -38,7 +38,7 @@ shows_alike : (p q : DevicePort) → p.serr_n ≡ q.serr_n → p.serr_x ≡ q.se
 shows_alike p q n x is h = record {
   serr_n_is_clear = n ∙ h.serr_n_is_clear;
   serr_x_is_clear = x ∙ h.serr_x_is_clear;
-  no_error_bit_is_set = λ place low up. is place ∙ h.no_error_bit_is_set place low up;
+  bits_27_to_30_are_clear = λ place low up. is place ∙ h.bits_27_to_30_are_clear place low up;
 }
 
 -- what isn't set now wasn't before
@@ -46,7 +46,7 @@ shown_before : (p q : DevicePort) → KeepsControlsFlagsRise p q → ShowsNoTrou
 shown_before p q k h = record {
   serr_n_is_clear = was_false p.serr_n q.serr_n k.serr_n_stays_set h.serr_n_is_clear;
   serr_x_is_clear = was_false p.serr_x q.serr_x k.serr_x_stays_set h.serr_x_is_clear;
-  no_error_bit_is_set = λ place low up. was_false (p.is place) (q.is place) (k.causes_stay_set place) (h.no_error_bit_is_set place low up);
+  bits_27_to_30_are_clear = λ place low up. was_false (p.is place) (q.is place) (k.causes_stay_set place) (h.bits_27_to_30_are_clear place low up);
 }
 
 -- one port changed: what its new bits tell of the old
@@ -77,17 +77,17 @@ module _ (port : ℕ) (d : Device) where
   step_calm (FetchFault p slot queued kept_bits) off can h = record {
     new_entries = _;
     tape_is = refl;
-    no_disturbance = one_calm port _ (at_port p _ h (λ x. absurd (both_ways _ (x.no_error_bit_is_set 30 (omega arith) (omega arith)) (changed_same (d.port p).is 30 true))));
+    no_disturbance = one_calm port _ (at_port p _ h (λ x. absurd (both_ways _ (x.bits_27_to_30_are_clear 30 (omega arith) (omega arith)) (changed_same (d.port p).is 30 true))));
   }
   step_calm (Fault p slot error kept_bits t) off can h = record {
     new_entries = _;
     tape_is = refl;
-    no_disturbance = one_calm port _ (at_port p _ h (λ x. absurd (both_ways _ (x.no_error_bit_is_set 30 (omega arith) (omega arith)) (changed_same (d.port p).is 30 true))));
+    no_disturbance = one_calm port _ (at_port p _ h (λ x. absurd (both_ways _ (x.bits_27_to_30_are_clear 30 (omega arith) (omega arith)) (changed_same (d.port p).is 30 true))));
   }
   step_calm (Fatal p place) off can h = record {
     new_entries = _;
     tape_is = refl;
-    no_disturbance = one_calm port _ (at_port p _ h (λ x. absurd (both_ways _ (x.no_error_bit_is_set place (low can.1) (high can.1)) (changed_same (d.port p).is place true))));
+    no_disturbance = one_calm port _ (at_port p _ h (λ x. absurd (both_ways _ (x.bits_27_to_30_are_clear place (low can.1) (high can.1)) (changed_same (d.port p).is place true))));
   }
     where
       low : (place ≡ 27) ⊎ (place ≡ 29) → 27 ≤ place
@@ -166,12 +166,12 @@ port_before port Cmd v tape p keep h =
 port_before port Serr v tape p keep h = record {
   serr_n_is_clear = kept_bit p.serr_n (bit v 16) (keep.serr_trouble_is_kept refl).0 h.serr_n_is_clear;
   serr_x_is_clear = kept_bit p.serr_x (bit v 26) (keep.serr_trouble_is_kept refl).1 h.serr_x_is_clear;
-  no_error_bit_is_set = h.no_error_bit_is_set;
+  bits_27_to_30_are_clear = h.bits_27_to_30_are_clear;
 }
 port_before port Is v tape p keep h = record {
   serr_n_is_clear = h.serr_n_is_clear;
   serr_x_is_clear = h.serr_x_is_clear;
-  no_error_bit_is_set = λ place low up. kept_bit (p.is place) (bit v place) (keep.pxis_trouble_is_kept refl place low up) (h.no_error_bit_is_set place low up);
+  bits_27_to_30_are_clear = λ place low up. kept_bit (p.is place) (bit v place) (keep.pxis_trouble_is_kept refl place low up) (h.bits_27_to_30_are_clear place low up);
 }
 port_before port Sctl v tape p keep h = shows_alike p _ refl refl (λ place. refl) h
 port_before port Clb v tape p keep h = shows_alike p _ refl refl (λ place. refl) h
@@ -228,14 +228,14 @@ module _ (laws : StepLaws) (port : Port) (v : ℕ) (old new : Device) (off : old
   told_calm h = record {
     serr_n_is_clear = sym (here.shows 22 refl) ∙ h.prcs_is_clear;
     serr_x_is_clear = sym (here.shows 6 refl) ∙ h.pcs_is_clear;
-    no_error_bit_is_set = λ place low up. sym (shown_place v (new.port port.0) here.shows place low up) ∙ h.no_error_bit_is_set place low up;
+    bits_27_to_30_are_clear = λ place low up. sym (shown_place v (new.port port.0) here.shows place low up) ∙ h.bits_27_to_30_are_clear place low up;
   }
 
   pub calm_told : ShowsNoTrouble (new.port port.0) → PxisValueTellsNoTrouble v
   calm_told h = record {
     pcs_is_clear = here.shows 6 refl ∙ h.serr_x_is_clear;
     prcs_is_clear = here.shows 22 refl ∙ h.serr_n_is_clear;
-    no_error_bit_is_set = λ place low up. shown_place v (new.port port.0) here.shows place low up ∙ h.no_error_bit_is_set place low up;
+    bits_27_to_30_are_clear = λ place low up. shown_place v (new.port port.0) here.shows place low up ∙ h.bits_27_to_30_are_clear place low up;
   }
 
   pub calm_is_found : PxisValueTellsNoTrouble v → RunsWell (old.port port.0) → Undisturbed port.0 old new × RunsWell (new.port port.0)
@@ -245,7 +245,7 @@ module _ (laws : StepLaws) (port : Port) (v : ℕ) (old new : Device) (off : old
 
 -- so it may be written back
 pub back_clears : (port : Port) (v : ℕ) → PxisValueTellsNoTrouble v → ClearsNoTrouble port (Px port Is) v
-back_clears port v h = record { pxis_trouble_is_kept = λ _. h.no_error_bit_is_set; serr_trouble_is_kept = λ e. absurd (let z : Px port Is ≡ Px port Serr = e in cc) }
+back_clears port v h = record { pxis_trouble_is_kept = λ _. h.bits_27_to_30_are_clear; serr_trouble_is_kept = λ e. absurd (let z : Px port Is ≡ Px port Serr = e in cc) }
 
 pub healthy_shows : (p : DevicePort) → RunsWell p → ShowsNoTrouble p
 healthy_shows p h = h.shows_no_trouble
@@ -260,7 +260,7 @@ pair_is_found laws port v errors old mid new off one two quiet n x healthy =
     let shows : ShowsNoTrouble (mid.port port.0) = record {
       serr_n_is_clear = was_false (mid.port port.0).serr_n (new.port port.0).serr_n c.serr_n_stays_set (sym b.shows.0 ∙ n);
       serr_x_is_clear = was_false (mid.port port.0).serr_x (new.port port.0).serr_x c.serr_x_stays_set (sym b.shows.1 ∙ x);
-      no_error_bit_is_set = λ place low up. sym (shown_place v (mid.port port.0) a.shows place low up) ∙ quiet place low up;
+      bits_27_to_30_are_clear = λ place low up. sym (shown_place v (mid.port port.0) a.shows place low up) ∙ quiet place low up;
     } in
     let calm = reads_show laws port.0 (Px port Is) v old mid off one shows in
     (calm.1, healthy_reads laws port.0 (Px port Is) v old mid off one calm.1 healthy)

@@ -18,7 +18,7 @@ use Rattle.refinement.specs.Acts.{Act, AccessLeads, IsActDone, AreActsDone, prep
 use Rattle.refinement.specs.Fragments.{GainsNoMove}
 use Rattle.refinement.specs.Driver.{DriverState, DriverRelation, DriverAdvances}
 use Rattle.refinement.specs.PreservedParts.{DoesNotWrite}
-use Rattle.refinement.specs.HaltRecovery.{WorksPlainly}
+use Rattle.refinement.specs.HaltRecovery.{WorksOnUnqueuedCommandsOnly}
 use Rattle.refinement.specs.Slots.{SlotState, Own, IsMove, client_operation_of}
 use Rattle.refinement.proofs.driver.ComposedMoves.{goes_none, goes_more, going_reaches}
 use Rattle.refinement.proofs.device.TapeGains.{gains_nothing, gains_more}
@@ -115,11 +115,11 @@ module _ (laws : StepLaws) (port : ℕ) (o : Operation) (own : client_operation_
 
 -- a port that works on plain commands alone goes on so, where none of the accesses writes its PxSACT
 pub done_plain : StepLaws → (acts : List Act) (k later : DriverState) (m : Machine) (port : Port) → IsReachable m → DriverRelation m k → All (DoesNotWrite (Px port Sact)) (accesses_of acts) → AreActsDone acts k m later →
-    WorksPlainly (k.device.port port.0) → WorksPlainly (later.device.port port.0)
-done_plain laws acts k later m port reached x all done = done_keeps (λ (z : DriverState). WorksPlainly (z.device.port port.0)) (λ act. IsOfKind (DoesNotWrite (Px port Sact)) act.access)
+    WorksOnUnqueuedCommandsOnly (k.device.port port.0) → WorksOnUnqueuedCommandsOnly (later.device.port port.0)
+done_plain laws acts k later m port reached x all done = done_keeps (λ (z : DriverState). WorksOnUnqueuedCommandsOnly (z.device.port port.0)) (λ act. IsOfKind (DoesNotWrite (Px port Sact)) act.access)
     (λ z n act r knows is spares. over z n act r knows act.access is.access_leads spares) acts k later m reached x (acts_of_kind (DoesNotWrite (Px port Sact)) acts all) done
   where
     over : (z : DriverState) (n : Machine) (act : Act) → IsReachable n → DriverRelation n z → (access : Option Access) → AccessLeads access z.device act.state_after.device → IsOfKind (DoesNotWrite (Px port Sact)) access →
-        WorksPlainly (z.device.port port.0) → WorksPlainly (act.state_after.device.port port.0)
-    over z n act r knows None same spares here = subst (λ (d : Device). WorksPlainly (d.port port.0)) (sym same) here
+        WorksOnUnqueuedCommandsOnly (z.device.port port.0) → WorksOnUnqueuedCommandsOnly (act.state_after.device.port port.0)
+    over z n act r knows None same spares here = subst (λ (d : Device). WorksOnUnqueuedCommandsOnly (d.port port.0)) (sym same) here
     over z n act r knows (Some access) does spares here = access_plain laws z.slot_states n port access z.device act.state_after.device r knows.state_relation spares does here

@@ -96,7 +96,7 @@ nothing_backed d m = record {
 pub knowing_goes_on : (k : DriverState) (m : Machine) (new : Device) → DriverRelation m k → (f : SimulatesSteps k.slot_states m k.device new) →
     DriverRelation (left.after m f.steps) (record k { device = new }) × IsBackedByDeviceAlone k.device new m f.steps
 knowing_goes_on k m new x f = (
-  record { state_relation = f.state_relation; have_slots = λ port. follows_have k.slot_states m k.device new f port (k.awaiting_disposition port) (x.have_slots port) },
+  record { state_relation = f.state_relation; have_slots_unless_parked = λ port. follows_have k.slot_states m k.device new f port (k.awaiting_disposition port) (x.have_slots_unless_parked port) },
   record { is_backed = backed k.slot_states m k.device new f; all_steps_are_devices = tells_device m f.new_entries f.steps f.tape_tells_steps },
 )
 
@@ -106,7 +106,7 @@ pub follows_adds : (k : DriverState) (new : Device) → ((m : Machine) → IsRea
 follows_adds k new f = record {
   simulates = λ m r x.
       let y = f m r x.state_relation in
-      (y.steps, y.steps_are_enabled, record { state_relation = y.state_relation; have_slots = λ port. follows_have k.slot_states m k.device new y port (k.awaiting_disposition port) (x.have_slots port) }, record { is_backed = backed k.slot_states m k.device new y; all_steps_are_devices = tells_device m y.new_entries y.steps y.tape_tells_steps });
+      (y.steps, y.steps_are_enabled, record { state_relation = y.state_relation; have_slots_unless_parked = λ port. follows_have k.slot_states m k.device new y port (k.awaiting_disposition port) (x.have_slots_unless_parked port) }, record { is_backed = backed k.slot_states m k.device new y; all_steps_are_devices = tells_device m y.new_entries y.steps y.tape_tells_steps });
 }
 
 pub device_adds : (k : DriverState) (new : Device) → Steps k.device new → IsSimulatedBySteps DriverRelation k (record k { device = new }) (IsBackedByDeviceAlone k.device new)

@@ -134,7 +134,7 @@ module _ (laws : StepLaws) (uses : SlotStates) (m : Machine) (d : Device) (a : S
   -- and it goes on having none
   step_spent : (uses port 0 ≡ Own o) → (step : steps.DeviceTransition) → Can step d → IsSpent (d.port port) → IsSpent ((device_after step d).port port)
   step_spent u step can (inl over) =
-      let k : PortBitsOnlyFall (d.port port) ((device_after step d).port port) = (laws.one_step_keeps step _ can).ports_are_kept port in
+      let k : PortBitsOnlyFall (d.port port) ((device_after step d).port port) = (laws.one_step_keeps step _ can).port_bits_only_fall port in
       inl (record { is_not_issued = k.ci_stays_clear 0 over.is_not_issued; is_not_taken = k.slots_stay_free 0 over.is_not_issued over.is_not_taken })
   step_spent u step can (inr (t, is, all)) = by step can
     where
@@ -179,7 +179,7 @@ module _ (laws : StepLaws) (uses : SlotStates) (m : Machine) (d : Device) (a : S
           (cases_eq slot 0)
       by (Done p slot flag z) can = ⊎_elim
           (λ (f : slot ≡ 0). at_port (λ x. x.taken 0 ≡ Some t) IsSpent d p port _ is
-          (λ e x. inl (subst (λ (s : ℕ). IsOver (steps.port_after_flush (steps.port_after_done (d.port p) s flag z.meaning.operation) z.meaning.operation (length d.tape)) 0) (sym f) (record {
+          (λ e x. inl (subst (λ (s : ℕ). IsOver (steps.port_with_lasting_after_operation (steps.port_after_done (d.port p) s flag z.meaning.operation) z.meaning.operation (length d.tape)) 0) (sym f) (record {
             is_not_issued = own_clear (is_queued z.meaning.operation) (d.port p).ci 0 (subst (λ (y : FetchedCommand). is_queued y.meaning.operation ≡ false) (at_slot p slot z e f can.works.taken) plain);
             is_not_taken = changed_same (d.port p).taken 0 None;
           })))

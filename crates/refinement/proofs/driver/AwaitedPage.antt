@@ -29,9 +29,9 @@ use Rattle.block_machine.specs.Expected as left
 use Rattle.block_machine.specs.State.{Machine}
 use Rattle.refinement.specs.StepLaws.{StepLaws}
 use Rattle.refinement.specs.Relation.{StateRelation}
-use Rattle.refinement.specs.AwaitedPage.{Slot0HasMovedNothing, PageHasCome, AwaitsOrHasPage}
+use Rattle.refinement.specs.AwaitedPage.{Slot0IsIssuedAndUnmoved, PageHasCome, AwaitsOrHasPage}
 use Rattle.refinement.specs.Driver.{IsOwnPrepared}
-use Rattle.refinement.specs.PortFacts.{FindsOwnPage}
+use Rattle.refinement.specs.PortFacts.{FollowsAndHasPageSinceStart}
 use Rattle.refinement.specs.Simulation.{SimulatesSteps}
 use Rattle.refinement.specs.MemoryLayout.{scratch_frame_address}
 use Rattle.refinement.specs.Slots.{SlotState, Own, SlotStates, set_slot_state, IsMove, IsOver, PageStandsInScratch, OwnAwaitsFetch, OwnIsTaken, OwnIsOver, ServesOwn, RelatesSlot, client_operation_of}
@@ -224,7 +224,7 @@ step_waits laws uses m port o since step d a can w =
       slot_0_has_own_command = w.slot_0_has_own_command;
       since_is_on_tape = longer d.tape k.new_entries (device_after step d).tape since k.tape_grows w.since_is_on_tape;
       page_is_awaited_or_came = ⊎_elim
-          (λ (x : Slot0HasMovedNothing (d.port port)). ⊎_elim
+          (λ (x : Slot0IsIssuedAndUnmoved (d.port port)). ⊎_elim
           (λ (y : Un ((device_after step d).port port)). inl (record { issued = y.0; unmoved = y.1 }))
           (λ (y : PageHasCome (device_after step d).tape port o (length d.tape)). inr (come_since (device_after step d).tape port o since (length d.tape) w.since_is_on_tape y))
           (step_awaits uses m d a port o w.slot_0_has_own_command w.hr_is_clear w.st_is_set (x.issued, x.unmoved) step can))
@@ -278,7 +278,7 @@ access_waits laws uses m port o since access old new r a keeps off x w =
       slot_0_has_own_command = w.slot_0_has_own_command;
       since_is_on_tape = subst (λ (t : List Entry). since ≤ length t) (sym s.2) y.since_is_on_tape;
       page_is_awaited_or_came = ⊎_elim
-          (λ (z : Slot0HasMovedNothing (s.0.port port.0)).
+          (λ (z : Slot0IsIssuedAndUnmoved (s.0.port port.0)).
           let n : Un (new.port port.0) = effect_keeps Un port (λ p q v h. h) (λ p h. h) access old new x
           (λ q v mid is steps h. written_un q v (length mid.tape) (mid.port port.0) (λ e. keeps v (is ∙ ap (λ (z : PortReg). Writing (Px port z) v) e)) h) (z.issued, z.unmoved) in
           inl (record { issued = n.0; unmoved = n.1 }))
@@ -308,12 +308,12 @@ page_is_issued laws uses m port o v old new r a off x call =
 
 -- the command isn't issued any more
 come_of : (uses : SlotStates) (port : ℕ) (o : Operation) (since : ℕ) (d : Device) → AwaitsOrHasPage uses port o since d → (d.port port).ci 0 ≡ false → PageHasCome d.tape port o since
-come_of uses port o since d w clear = ⊎_elim (λ (x : Slot0HasMovedNothing (d.port port)). absurd (both_ways _ clear x.issued)) (λ (x : PageHasCome d.tape port o since). x) w.page_is_awaited_or_came
+come_of uses port o since d w clear = ⊎_elim (λ (x : Slot0IsIssuedAndUnmoved (d.port port)). absurd (both_ways _ clear x.issued)) (λ (x : PageHasCome d.tape port o since). x) w.page_is_awaited_or_came
 
 pub law_page_is_awaited : StepLaws → (uses : SlotStates) (m : Machine) (port : Port) (o : Operation) (since v : ℕ) (old new : Device) → IsReachable m → StateRelation uses m old → AwaitsOrHasPage uses port.0 o since old → Reads (Px port Ci) v old new → bit v 0 ≡ false →
-    FindsOwnPage uses m port.0 o old new × PageStandsInScratch new.memory new.tape port.0 o since
+    FollowsAndHasPageSinceStart uses m port.0 o old new × PageStandsInScratch new.memory new.tape port.0 o since
 law_page_is_awaited laws uses m port o since v old new r a w call clear =
-    let page : FindsOwnPage uses m port.0 o old new = page_is_read laws uses m port o v old new r a w.hr_is_clear w.st_is_set w.slot_0_has_own_command call clear in
+    let page : FollowsAndHasPageSinceStart uses m port.0 o old new = page_is_read laws uses m port o v old new r a w.hr_is_clear w.st_is_set w.slot_0_has_own_command call clear in
     let y : AwaitsOrHasPage uses port.0 o since call.at_access = steps_wait laws uses m port.0 o since old call.at_access r a call.steps w in
     let come : PageHasCome call.at_access.tape port.0 o since = come_of uses port.0 o since call.at_access y (sym (call.shows 0 (omega arith)) ∙ clear) in
     let there : PageHasCome new.tape port.0 o since = subst (λ (t : List Entry). PageHasCome t port.0 o since) (sym (ap (λ (d : Device). d.tape) call.effect)) come in
@@ -324,6 +324,6 @@ pub awaited_is_loaded : StepLaws → (uses : SlotStates) (m : Machine) (port : �
 awaited_is_loaded laws uses m port o since bytes old new r a w over call size =
     let page = page_is_loaded laws uses m port o bytes old new r a w.hr_is_clear w.st_is_set w.slot_0_has_own_command over call size in
     let y : AwaitsOrHasPage uses port o since new = steps_wait laws uses m port o since old new r a call.steps w in
-    let come : PageHasCome new.tape port o since = come_of uses port o since new y (((laws.steps_keep _ _ call.steps).ports_are_kept port).ci_stays_clear 0 over.is_not_issued) in
+    let come : PageHasCome new.tape port o since = come_of uses port o since new y (((laws.steps_keep _ _ call.steps).port_bits_only_fall port).ci_stays_clear 0 over.is_not_issued) in
     let b = brought_since new.memory new.tape port o since (new.port port).notes.st_set_at come page.0.page_is_in_scratch in
     (b.0, page.1 ∙ ap (λ (x : tape_move.Move). x.bytes.value) (sym b.1))

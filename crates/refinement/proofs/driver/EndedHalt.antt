@@ -41,7 +41,7 @@ use Rattle.refinement.proofs.driver.PutSlot.{put_other}
 use Rattle.refinement.proofs.device.RunningPort.{reading_clears}
 use Rattle.refinement.proofs.device.TroubleBits.{told_calm, reads_show}
 use Rattle.refinement.proofs.steps.TakenCommand.{never_refused}
-use Rattle.refinement.specs.HaltRecovery.{RunsLinked, OwnCommandEndsHalt}
+use Rattle.refinement.specs.HaltRecovery.{RunsLinked, PlainSlot0IsIssuedOrNotHalted}
 use Rattle.refinement.proofs.device.LinkOverFaults.{access_runs, running_started}
 use Rattle.refinement.proofs.device.PlainPort.{fetched_plain}
 
@@ -68,7 +68,7 @@ taken_issued uses m d port slot t a st clear is = by (uses port slot) (a.relates
         of (inl w) = w.issued
         of (inr (inl x)) =
             let plain : is_queued h.command.operation ≡ false = ap (λ (b : Bool). b && is_queued h.command.operation) (sym st) ∙ (sym x.sact ∙ clear) in
-            x.ci_is_set_while_plain ∙ (ap (λ (b : Bool). b && not (is_queued h.command.operation)) st ∙ ap not plain)
+            x.ci_is_set_iff_st_and_plain ∙ (ap (λ (b : Bool). b && not (is_queued h.command.operation)) st ∙ ap not plain)
         of (inr (inr (inl x))) = absurd (none-some _ (sym x.is_not_taken ∙ is))
         of (inr (inr (inr x))) = absurd (none-some _ (sym x.is_not_taken ∙ is))
 
@@ -132,7 +132,7 @@ leads_end laws uses m port alone (step ∷ steps) old new r a off (can, lead) h 
     leads_end laws uses (left.after m f.steps) port alone steps (device_after step old) new (laws.reachable_goes_on m f.steps r f.steps_are_enabled) f.state_relation ((laws.one_step_keeps step _ can).keeps_outside_reset off).no_reset lead
     (step_ends uses m old a port alone off h step can)
 
-pub steps_end : StepLaws → (uses : SlotStates) (m : Machine) (port : ℕ) (old new : Device) → IsReachable m → StateRelation uses m old → Steps old new → OwnCommandEndsHalt uses port old → OwnCommandEndsHalt uses port new
+pub steps_end : StepLaws → (uses : SlotStates) (m : Machine) (port : ℕ) (old new : Device) → IsReachable m → StateRelation uses m old → Steps old new → PlainSlot0IsIssuedOrNotHalted uses port old → PlainSlot0IsIssuedOrNotHalted uses port new
 steps_end laws uses m port old new r a s h =
     let x = leads_end laws uses m port h.no_other_slot_is_used s.steps old new r a h.hr_is_clear s.lead (h.st_is_set, h.slot_0_is_plain, h.unfinished_or_not_halted) in
     record { hr_is_clear = x.0; st_is_set = x.1.0; slot_0_is_plain = x.1.1; no_other_slot_is_used = h.no_other_slot_is_used; unfinished_or_not_halted = x.1.2 }
@@ -152,7 +152,7 @@ written_ends Ci v tape p on other h = (h.0, h.1, ⊎_elim (λ (i : p.ci 0 ≡ tr
 written_ends _ v tape p on other h = h
 
 pub access_ends : StepLaws → (uses : SlotStates) (m : Machine) (port : Port) (access : Access) (old new : Device) → IsReachable m → StateRelation uses m old → ClearsNoStart port access → DoesNotWrite (Px port Sact) access → new.hr ≡ false → Does access old new →
-    OwnCommandEndsHalt uses port.0 old → OwnCommandEndsHalt uses port.0 new
+    PlainSlot0IsIssuedOrNotHalted uses port.0 old → PlainSlot0IsIssuedOrNotHalted uses port.0 new
 access_ends laws uses m port access old new r a keeps spares off x h =
     let s = access_steps access old new x in
     let c = leads_end laws uses m port.0 h.no_other_slot_is_used s.1.steps old s.0 r a h.hr_is_clear s.1.lead (h.st_is_set, h.slot_0_is_plain, h.unfinished_or_not_halted) in
@@ -169,7 +169,7 @@ or_set true c e = refl
 or_set false c e = e
 
 pub issued_ends : StepLaws → (uses : SlotStates) (m : Machine) (port : Port) (o : Operation) (v : ℕ) (old new : Device) → IsReachable m → StateRelation uses m old → old.hr ≡ false → ((slot : ℕ) → slot ≢ 0 → uses port.0 slot ≡ Free) →
-    IsOwnPrepared uses old port.0 o v → Writes (Px port Ci) v old new → OwnCommandEndsHalt (set_slot_state uses port.0 0 (Own o)) port.0 new
+    IsOwnPrepared uses old port.0 o v → Writes (Px port Ci) v old new → PlainSlot0IsIssuedOrNotHalted (set_slot_state uses port.0 0 (Own o)) port.0 new
 issued_ends laws uses m port o v old new r a off alone x call =
     let y : IsOwnPrepared uses call.at_access port.0 o v = own_prepared_stays uses m old call.at_access port.0 o v r a off call.steps x in
     let is : new.port port.0 ≡ port_after_write Ci v (length call.at_access.tape) (call.at_access.port port.0) = ap (λ (d : Device). d.port port.0) call.effect ∙ changed_same call.at_access.port port.0 _ in
@@ -183,17 +183,17 @@ issued_ends laws uses m port o v old new r a off alone x call =
 
 -- ---- PxCI is read
 
-reads_end : StepLaws → (uses : SlotStates) (m : Machine) (port : Port) (v : ℕ) (old new : Device) → IsReachable m → StateRelation uses m old → OwnCommandEndsHalt uses port.0 old → Reads (Px port Ci) v old new → OwnCommandEndsHalt uses port.0 new
+reads_end : StepLaws → (uses : SlotStates) (m : Machine) (port : Port) (v : ℕ) (old new : Device) → IsReachable m → StateRelation uses m old → PlainSlot0IsIssuedOrNotHalted uses port.0 old → Reads (Px port Ci) v old new → PlainSlot0IsIssuedOrNotHalted uses port.0 new
 reads_end laws uses m port v old new r a h call =
-    let mid : OwnCommandEndsHalt uses port.0 call.at_access = steps_end laws uses m port.0 old call.at_access r a call.steps h in
+    let mid : PlainSlot0IsIssuedOrNotHalted uses port.0 call.at_access = steps_end laws uses m port.0 old call.at_access r a call.steps h in
     (access_ends laws) uses m port (Reading (Px port Ci) v) old new r a (reading_clears port (Px port Ci) v) tt (ap (λ (d : Device). d.hr) call.effect ∙ mid.hr_is_clear) call h
 
-pub halt_ended : StepLaws → (uses : SlotStates) (m : Machine) (port : Port) (v : ℕ) (old new : Device) → IsReachable m → StateRelation uses m old → OwnCommandEndsHalt uses port.0 old → Reads (Px port Ci) v old new → bit v 0 ≡ false → (new.port port.0).halt ≡ NotHalted
+pub halt_ended : StepLaws → (uses : SlotStates) (m : Machine) (port : Port) (v : ℕ) (old new : Device) → IsReachable m → StateRelation uses m old → PlainSlot0IsIssuedOrNotHalted uses port.0 old → Reads (Px port Ci) v old new → bit v 0 ≡ false → (new.port port.0).halt ≡ NotHalted
 halt_ended laws uses m port v old new r a h call clear =
     let shown : (new.port port.0).ci 0 ≡ false = ap (λ (d : Device). (d.port port.0).ci 0) call.effect ∙ (ap (λ (p : DevicePort). p.ci 0) (changed_same call.at_access.port port.0 _) ∙ (sym (call.shows 0 (omega arith)) ∙ clear)) in
     ⊎_elim (λ (i : (new.port port.0).ci 0 ≡ true). absurd (both_ways _ shown i)) (λ (n : (new.port port.0).halt ≡ NotHalted). n) (reads_end laws uses m port v old new r a h call).unfinished_or_not_halted
 
-pub ended_well : StepLaws → (uses : SlotStates) (m : Machine) (port : Port) (v causes : ℕ) (old mid new : Device) → IsReachable m → StateRelation uses m old → OwnCommandEndsHalt uses port.0 old → RunsLinked (old.port port.0) → Reads (Px port Ci) v old mid → bit v 0 ≡ false →
+pub ended_well : StepLaws → (uses : SlotStates) (m : Machine) (port : Port) (v causes : ℕ) (old mid new : Device) → IsReachable m → StateRelation uses m old → PlainSlot0IsIssuedOrNotHalted uses port.0 old → RunsLinked (old.port port.0) → Reads (Px port Ci) v old mid → bit v 0 ≡ false →
     Reads (Px port Is) causes mid new → PxisValueTellsNoTrouble causes → RunsWell (new.port port.0)
 ended_well laws uses m port v causes old mid new r a h runs read clear call calm =
     let off : mid.hr ≡ false = (reads_end laws uses m port v old mid r a h read).hr_is_clear in

@@ -22,7 +22,7 @@ use Rattle.block_machine.proofs.Standing.{standing}
 use Rattle.block_machine.proofs.Trace.{living_one, runs_lives}
 use Rattle.refinement.specs.StepLaws.{StepLaws}
 use Rattle.refinement.specs.Relation.{StateRelation, port_at}
-use Rattle.refinement.specs.PortFacts.{EndedIn, IsSlotClear, FindsOwnPage}
+use Rattle.refinement.specs.PortFacts.{EndedIn, IsSlotClear, FollowsAndHasPageSinceStart}
 use Rattle.refinement.specs.Simulation.{SimulatesSteps}
 use Rattle.refinement.specs.MemoryLayout.{scratch_frame_address}
 use Rattle.refinement.specs.Slots.{SlotState, Own, Serves, SlotStates, IsEnded, IsInSomeStage, ServesRequest, PageStandsInScratch, OwnAwaitsFetch, OwnIsTaken, OwnIsOver, ServesOwn, IsOver, RelatesSlot}
@@ -33,9 +33,9 @@ both_clear true a b e f = absurd (both_ways _ f b)
 both_clear false a b e f = absurd (both_ways _ e a)
 
 -- a slot whose command has ended is clear, and its request has ended
-is_ended : (m : Machine) (d : Device) (port : Port) (slot : ℕ) (id : RequestId) (h : ServesRequest m d.memory (d.port port.0) port.0 slot id) → IsEnded (d.port port.0) slot h.pending →
+is_ended_at_age_two : (m : Machine) (d : Device) (port : Port) (slot : ℕ) (id : RequestId) (h : ServesRequest m d.memory (d.port port.0) port.0 slot id) → IsEnded (d.port port.0) slot h.pending →
     IsSlotClear (d.port port.0) slot × EndedIn m port id
-is_ended m d port slot id h x = (
+is_ended_at_age_two m d port slot id h x = (
   record { over = record { is_not_issued = x.is_not_issued; is_not_taken = x.is_not_taken }; sact_is_clear = x.sact_is_clear },
   record {
     pending = h.pending;
@@ -65,7 +65,7 @@ law_ended_is_clear uses m d port slot e reached a moves ended u = by (subst (λ 
         of : IsInSomeStage d.memory (d.port port.0) port.0 slot h.pending h.command h.places → IsSlotClear (d.port port.0) slot × EndedIn m port e.request.id
         of (inl w) = absurd (both_ways _ w.unended its)
         of (inr (inl t)) = absurd (both_ways _ t.unended its)
-        of (inr (inr (inl x))) = is_ended m d port slot e.request.id h x
+        of (inr (inr (inl x))) = is_ended_at_age_two m d port slot e.request.id h x
         of (inr (inr (inr x))) = absurd (both_ways _ x.unended its)
 
 -- on a running port a slot whose two bits are clear has ended its request
@@ -79,9 +79,9 @@ clear_is_ended uses m d port slot id a u st issued sact = by (subst (λ (v : Slo
         of : IsInSomeStage d.memory (d.port port.0) port.0 slot h.pending h.command h.places → IsSlotClear (d.port port.0) slot × EndedIn m port id
         of (inl w) = absurd (both_ways _ issued w.issued)
         of (inr (inl t)) = both_clear (is_queued h.command.operation)
-            (t.ci_is_set_while_plain ∙ ap (λ (b : Bool). b && not (is_queued h.command.operation)) st)
+            (t.ci_is_set_iff_st_and_plain ∙ ap (λ (b : Bool). b && not (is_queued h.command.operation)) st)
             (t.sact ∙ ap (λ (b : Bool). b && is_queued h.command.operation) st) issued sact
-        of (inr (inr (inl x))) = is_ended m d port slot id h x
+        of (inr (inr (inl x))) = is_ended_at_age_two m d port slot id h x
         of (inr (inr (inr x))) = absurd (both_ways _ x.st_is_clear st)
 
 -- ---- a page of the driver's own
@@ -108,7 +108,7 @@ module _ (uses : SlotStates) (m : Machine) (d : Device) (port : ℕ) (o : Operat
   own_clear = record { over = own_over.over; sact_is_clear = own.unqueued }
 
 pub page_is_read : StepLaws → (uses : SlotStates) (m : Machine) (port : Port) (o : Operation) (v : ℕ) (old new : Device) → IsReachable m → StateRelation uses m old → old.hr ≡ false → (old.port port.0).st ≡ true →
-    uses port.0 0 ≡ Own o → Reads (Px port Ci) v old new → bit v 0 ≡ false → FindsOwnPage uses m port.0 o old new
+    uses port.0 0 ≡ Own o → Reads (Px port Ci) v old new → bit v 0 ≡ false → FollowsAndHasPageSinceStart uses m port.0 o old new
 page_is_read laws uses m port o v old new reached a h st u call clear =
     let f : SimulatesSteps uses m old new = read_follows uses m (Px port Ci) v old new reached a call in
     let s : PortRegisterRead port.0 Ci v old new = laws.reading_shows_register port Ci v old new call h in
@@ -122,13 +122,13 @@ page_is_read laws uses m port o v old new reached a h st u call clear =
 
 pub page_is_loaded : StepLaws → (uses : SlotStates) (m : Machine) (port : ℕ) (o : Operation) (bytes : List ℕ) (old new : Device) → IsReachable m → StateRelation uses m old → old.hr ≡ false → (old.port port).st ≡ true →
     uses port 0 ≡ Own o → IsOver (old.port port) 0 → Loads (scratch_frame_address port) bytes old new → length bytes ≡ 512 →
-    (page : FindsOwnPage uses m port o old new) × (bytes ≡ page.page_is_in_scratch.move.bytes.value)
+    (page : FollowsAndHasPageSinceStart uses m port o old new) × (bytes ≡ page.page_is_in_scratch.move.bytes.value)
 page_is_loaded laws uses m port o bytes old new reached a h st u over call size =
     let f : SimulatesSteps uses m old new = load_follows uses m (scratch_frame_address port) bytes old new reached a call in
     let k : KeepsOverSteps old new = laws.steps_keep _ _ call.steps in
     let on : KeepsOutsideReset old new = k.keeps_outside_reset h in
     let now : (new.port port).st ≡ true = (on.controls_are_kept port).st_is_kept ∙ st in
-    let none : (new.port port).ci 0 ≡ false = (k.ports_are_kept port).ci_stays_clear 0 over.is_not_issued in
+    let none : (new.port port).ci 0 ≡ false = (k.port_bits_only_fall port).ci_stays_clear 0 over.is_not_issued in
     let b : PageStandsInScratch new.memory new.tape port o (new.port port).notes.st_set_at = own_brought uses (after m f.steps) new port o f.state_relation u now none in (
       record { simulates_steps = f; slot_is_clear = own_clear uses (after m f.steps) new port o f.state_relation u now none; page_is_in_scratch = b },
       call.shows ∙ ap (bytes_at new.memory (scratch_frame_address port)) size ∙ b.scratch_holds_page,

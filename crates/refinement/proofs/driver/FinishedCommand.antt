@@ -20,9 +20,9 @@ use Rattle.block_machine.specs.Steps.{Step, MayStillMove, NoneKept}
 use Rattle.refinement.specs.StepLaws.{StepLaws}
 use Rattle.refinement.specs.PortFacts.{EndedIn, IsSlotClear}
 use Rattle.refinement.specs.Slots.{IsOver}
-use Rattle.refinement.specs.SparedBook.{IsFurther, KeepsBookAndLoans}
+use Rattle.refinement.specs.SparedBook.{IsAsFarOrFurther, KeepsLoansAndBookOnlyAdvances}
 use Rattle.refinement.proofs.device.FactsOverAccesses.{access_steps, effect_keeps}
-use Rattle.refinement.proofs.steps.SparedBook.{steps_spare, found_later}
+use Rattle.refinement.proofs.steps.SparedBook.{steps_spare, entry_is_found_in_later_book}
 use Rattle.refinement.proofs.device.ClearSactBits.{if_false}
 use Rattle.refinement.proofs.steps.RegisterWrites.{or_false}
 
@@ -30,11 +30,11 @@ use Rattle.refinement.proofs.steps.RegisterWrites.{or_false}
 
 pub steps_over : StepLaws → (port slot : ℕ) (old new : Device) → Steps old new → IsOver (old.port port) slot → IsOver (new.port port) slot
 steps_over laws port slot old new s h =
-    let k : PortBitsOnlyFall (old.port port) (new.port port) = (laws.steps_keep _ _ s).ports_are_kept port in
+    let k : PortBitsOnlyFall (old.port port) (new.port port) = (laws.steps_keep _ _ s).port_bits_only_fall port in
     record { is_not_issued = k.ci_stays_clear slot h.is_not_issued; is_not_taken = k.slots_stay_free slot h.is_not_issued h.is_not_taken }
 
 pub steps_clear : StepLaws → (port slot : ℕ) (old new : Device) → Steps old new → IsSlotClear (old.port port) slot → IsSlotClear (new.port port) slot
-steps_clear laws port slot old new s h = record { over = steps_over laws port slot old new s h.over; sact_is_clear = ((laws.steps_keep _ _ s).ports_are_kept port).sact_stays_clear slot h.sact_is_clear }
+steps_clear laws port slot old new s h = record { over = steps_over laws port slot old new s h.over; sact_is_clear = ((laws.steps_keep _ _ s).port_bits_only_fall port).sact_stays_clear slot h.sact_is_clear }
 
 -- the slot's bits are clear
 abbrev IsUnset : Bool → DevicePort → ℕ → Type 0
@@ -97,10 +97,10 @@ access_clear laws port slot access old new ci sact x h =
 pub ended_stays : (m : Machine) (steps : List Step) (port : Port) (id : RequestId) → AllByDevice steps → EndedIn m port id → EndedIn (after m steps) port id
 ended_stays m steps port id is h = ⊎_elim booked kept h.may_still_move
   where
-    spares : KeepsBookAndLoans m (after m steps)
+    spares : KeepsLoansAndBookOnlyAdvances m (after m steps)
     spares = steps_spare m steps is
 
-    ended : (x : Pending) → IsFurther h.pending x → MayStillMove (after m steps) x → (NoneKept (after m steps) port → Contains (after m steps).book x) → EndedIn (after m steps) port id
+    ended : (x : Pending) → IsAsFarOrFurther h.pending x → MayStillMove (after m steps) x → (NoneKept (after m steps) port → Contains (after m steps).book x) → EndedIn (after m steps) port id
     ended x f moves booked = record {
       pending = x;
       may_still_move = moves;
@@ -113,10 +113,10 @@ ended_stays m steps port id is h = ⊎_elim booked kept h.may_still_move
 
     booked : Contains m.book h.pending × (h.pending.issued ≡ true) → EndedIn (after m steps) port id
     booked z =
-        let q = found_later m.book (after m steps).book h.pending spares.book z.0 in
+        let q = entry_is_found_in_later_book m.book (after m steps).book h.pending spares.book z.0 in
         ended q.0 q.2 (inl (q.1, q.2.issued ∙ z.1)) (λ none. q.1)
 
     kept : Contains m.kept h.pending → EndedIn (after m steps) port id
     kept z =
-        let q = found_later m.kept (after m steps).kept h.pending spares.kept z in
+        let q = entry_is_found_in_later_book m.kept (after m steps).kept h.pending spares.kept z in
         ended q.0 q.2 (inr q.1) (λ none. absurd (none q.0 q.1 (ap (λ (r : Accepted). r.port) q.2.request ∙ h.port_is)))

@@ -15,7 +15,7 @@ use Rattle.refinement.specs.Slots.{SlotState, Free, Armed, Own, Serves, SlotStat
 use Rattle.refinement.proofs.relation.OneSlot.{changed_at}
 use Rattle.refinement.proofs.driver.PutSlot.{serves_not_free, serves_same}
 use Rattle.refinement.proofs.device.ClearSactBits.{over_unarmed}
-use Rattle.refinement.specs.GivingUp.{AreSlotsOverAndUnarmed, prepend_slot_request, ids_in_slots, with_all_parked}
+use Rattle.refinement.specs.GivingUp.{AreSlotsOverAndUnarmedIfSt, prepend_slot_request, ids_in_slots, with_all_parked}
 
 -- ---- the requests that are served
 
@@ -100,7 +100,7 @@ module _ (k : DriverState) (port : ℕ) where
   pub parking_leaves_all : (id : RequestId) → HasNoSlot k.slot_states id → HasNoSlot (with_all_parked k port).slot_states id
   parking_leaves_all id none q s v = none q s (still q s id v).1
 
-  module _ (m : Machine) (over : AreSlotsOverAndUnarmed k.slot_states (k.device.port port) port) where
+  module _ (m : Machine) (over : AreSlotsOverAndUnarmedIfSt k.slot_states (k.device.port port) port) where
     is_free : StateRelation k.slot_states m k.device → (slot : ℕ) → IsEmptySlot (k.device.port port) slot
     is_free a slot = record { is_not_issued = (over slot).0.is_not_issued; is_not_taken = (over slot).0.is_not_taken; unarmed = by (k.slot_states port slot) refl (a.relates_slots port slot) }
       where
@@ -114,20 +114,20 @@ module _ (k : DriverState) (port : ℕ) where
     all_agrees a = record {
       relates_slots = changed_at k.slot_states port (λ slot. Free) (λ q f. (s : ℕ) → RelatesSlot m k.device.memory k.device.tape (k.device.port q) q s (f s)) (is_free a) (λ q ne. a.relates_slots q);
       serve_distinct_requests = λ p s p' s' id u v. a.serve_distinct_requests p s p' s' id (still p s id u).1 (still p' s' id v).1;
-      received_areas_are_placed = a.received_areas_are_placed;
+      received_areas_in_use_are_placed = a.received_areas_in_use_are_placed;
       disks_are_same = a.disks_are_same;
       client_frames_are_same = a.client_frames_are_same;
-      sectors_are_same = a.sectors_are_same;
-      holds_replug_candidates = a.holds_replug_candidates;
+      sectors_are_same_if_disks_tell = a.sectors_are_same_if_disks_tell;
+      holds_replug_candidates_if_disks_tell = a.holds_replug_candidates_if_disks_tell;
     }
 
     pub all_given_up : DriverRelation m k → DriverRelation m (with_all_parked k port)
     all_given_up x = record {
       state_relation = all_agrees x.state_relation;
-      have_slots = λ q y may here. ⊎_elim
+      have_slots_unless_parked = λ q y may here. ⊎_elim
           (λ (c : Contains (k.awaiting_disposition q) y.request.id). inl (more q y.request.id c))
           (λ (w : (slot : ℕ) × (k.slot_states q slot ≡ Serves y.request.id)). moved q y.request.id w.0 w.1)
-          (x.have_slots q y may here);
+          (x.have_slots_unless_parked q y may here);
     }
       where
         more : (q : ℕ) (i : RequestId) → Contains (k.awaiting_disposition q) i → Contains ((with_all_parked k port).awaiting_disposition q) i
@@ -140,7 +140,7 @@ module _ (k : DriverState) (port : ℕ) where
             (λ (ne : q ≡ port → ⊥). inr (slot, ap (λ (f : ℕ → SlotState). f slot) (changed_other k.slot_states port (λ s. Free) q ne) ∙ u))
             (cases_eq q port)
 
-pub given_up_over : (k : DriverState) (m : Machine) (port : ℕ) → DriverRelation m k → AreSlotsOverAndUnarmed k.slot_states (k.device.port port) port → DriverRelation m (with_all_parked k port)
+pub given_up_over : (k : DriverState) (m : Machine) (port : ℕ) → DriverRelation m k → AreSlotsOverAndUnarmedIfSt k.slot_states (k.device.port port) port → DriverRelation m (with_all_parked k port)
 given_up_over k m port x over = all_given_up k port m over x
 
 pub given_up_halted : (k : DriverState) (m : Machine) (port : ℕ) → DriverRelation m k → IsEngineStopped (k.device.port port) → DriverRelation m (with_all_parked k port)

@@ -25,7 +25,7 @@ use Rattle.refinement.specs.Driver.{DriverState, DriverRelation}
 use Rattle.refinement.specs.Simulation.{SimulatesSteps}
 use Rattle.refinement.specs.Halting.{HaltIsOfTaken, HaltOfTakenIfSt}
 use Rattle.refinement.specs.PreservedParts.{DoesNotWrite}
-use Rattle.refinement.specs.HaltRecovery.{WorksPlainly}
+use Rattle.refinement.specs.HaltRecovery.{WorksOnUnqueuedCommandsOnly}
 use Rattle.refinement.specs.Slots.{SlotStates}
 use Rattle.refinement.proofs.device.FactsOverAccesses.{access_steps, effect_keeps}
 use Rattle.refinement.proofs.steps.FollowedSteps.{step_follows}
@@ -66,7 +66,7 @@ calm_halts p is = record {
 }
 
 -- working on plain commands alone
-pub plain_halts : (p : DevicePort) → WorksPlainly p → HaltIsOfTaken p
+pub plain_halts : (p : DevicePort) → WorksOnUnqueuedCommandsOnly p → HaltIsOfTaken p
 plain_halts p w = record {
   is_not_log_only = λ log. let z : LogOnly ≡ NotHalted = sym (ap halt_after_start log) ∙ w.start_ends_halt in cc;
   queued_is_taken = λ queued. absurd (let z : LogOnly ≡ NotHalted = sym (ap halt_after_start queued) ∙ w.start_ends_halt in cc);

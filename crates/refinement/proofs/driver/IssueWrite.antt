@@ -24,7 +24,7 @@ use Rattle.refinement.specs.MemoryLayout.{scratch_frame_address}
 use Rattle.refinement.specs.Slots.{SlotState, Free, Own, Serves, SlotStates, set_slot_state, Armed}
 use Rattle.refinement.specs.Relation.{StateRelation}
 use Rattle.refinement.specs.Fragments.{IsSoleBit}
-use Rattle.refinement.specs.Driver.{DriverState, DriverRelation, TapeBacksSteps, IsBackedByDeviceAlone, DriverAdvances, IsPrepared, IsOwnPrepared, with_slot_serving, KeepsTablesAndScratch}
+use Rattle.refinement.specs.Driver.{DriverState, DriverRelation, TapeBacksSteps, IsBackedByDeviceAlone, DriverAdvances, IsPrepared, IsOwnPrepared, with_slot_serving, KeepsTablesAndScratchUnlessOwn}
 use Rattle.refinement.specs.Simulation.{SimulatesSteps}
 use Rattle.refinement.proofs.driver.AddedSteps.{backed, nothing_backed}
 use Rattle.refinement.proofs.steps.FollowedSteps.{steps_follow}
@@ -40,8 +40,8 @@ pub own_prepared_stays : (uses : SlotStates) (m : Machine) (old mid : Device) (p
 own_prepared_stays uses m old mid port o v r a calm s x =
     let k : KeepsOverSteps old mid = law_step_lists_keep_what_steps_keep s in
     let c : KeepsOutsideReset old mid = k.keeps_outside_reset calm in
-    let list : (mid.port port).bases.clb ≡ (old.port port).bases.clb = ap (λ (b : device.Bases). b.clb) (k.ports_are_kept port).bases_are_kept in
-    let l : KeepsTablesAndScratch uses old mid = steps_leave uses m old mid r a calm s in
+    let list : (mid.port port).bases.clb ≡ (old.port port).bases.clb = ap (λ (b : device.Bases). b.clb) (k.port_bits_only_fall port).bases_are_kept in
+    let l : KeepsTablesAndScratchUnlessOwn uses old mid = steps_leave uses m old mid r a calm s in
     record {
       operation_is_drivers_own = x.operation_is_drivers_own;
       free = x.free;
@@ -118,7 +118,7 @@ bit_arms k m port slot v knows free st sole = record {
   is_backed = backed_on k.device k.device m [] port.0 _ refl (nothing_backed k.device m);
   driver_relation = record {
     state_relation = arming_agrees k.slot_states m k.device knows.state_relation port.0 slot v free st sole.bit_is_set sole.no_other_bit_is_set;
-    have_slots = λ q. put_have k.slot_states m port.0 slot Armed q (k.awaiting_disposition q) (λ id u. absurd (let z : Free ≡ Serves id = sym free ∙ u in cc)) (knows.have_slots q);
+    have_slots_unless_parked = λ q. put_have k.slot_states m port.0 slot Armed q (k.awaiting_disposition q) (λ id u. absurd (let z : Free ≡ Serves id = sym free ∙ u in cc)) (knows.have_slots_unless_parked q);
   };
 }
 
@@ -130,7 +130,7 @@ bit_issues k m port slot mode e v reached knows x = record {
   is_backed = backed_on k.device k.device m (Issue mode e ∷ []) port.0 _ refl (own_backed k.device m (Issue mode e) (λ z. z));
   driver_relation = record {
     state_relation = issue_agrees k.slot_states m k.device reached knows.state_relation port.0 slot mode e v x;
-    have_slots = λ q. issue_have k.slot_states m k.device reached knows.state_relation port.0 slot mode e v x q (k.awaiting_disposition q) (knows.have_slots q);
+    have_slots_unless_parked = λ q. issue_have k.slot_states m k.device reached knows.state_relation port.0 slot mode e v x q (k.awaiting_disposition q) (knows.have_slots_unless_parked q);
   };
 }
 
@@ -148,7 +148,7 @@ own_adds k port o v new calm x call = record {
         g.steps_are_enabled,
         record {
           state_relation = g.state_relation;
-          have_slots = λ q. follows_have (set_slot_state k.slot_states port.0 0 (Own o)) m k.device new g q (k.awaiting_disposition q) (put_have k.slot_states m port.0 0 (Own o) q (k.awaiting_disposition q) (λ id u. free_serves x.free u) (knows.have_slots q));
+          have_slots_unless_parked = λ q. follows_have (set_slot_state k.slot_states port.0 0 (Own o)) m k.device new g q (k.awaiting_disposition q) (put_have k.slot_states m port.0 0 (Own o) q (k.awaiting_disposition q) (λ id u. free_serves x.free u) (knows.have_slots_unless_parked q));
         },
         record { is_backed = backed (set_slot_state k.slot_states port.0 0 (Own o)) m k.device new g; all_steps_are_devices = tells_device m g.new_entries g.steps g.tape_tells_steps },
       );

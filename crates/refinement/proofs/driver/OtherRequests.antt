@@ -8,13 +8,13 @@ use Rattle.block_machine.specs.State.{Pending, Machine}
 use Rattle.block_machine.specs.Steps.{Step, Accept, Issue, Touch, End, Age, WaitAgain, Answer, Release, NoneKept, after_step, newly_accepted, newly_issued, touch, mark_ended, aged_pending, requeued, is_kept_at_answer}
 use Rattle.block_machine.proofs.Members.{into_map, contains_there}
 use Rattle.refinement.specs.PortFacts.{EndedIn}
-use Rattle.refinement.specs.SparedBook.{IsOfAnother}
+use Rattle.refinement.specs.SparedBook.{IsNotStepOfPendingRequest}
 use Rattle.refinement.proofs.driver.OwnSteps.{older_is, without_into}
 use Rattle.refinement.proofs.relation.TouchesAndEnds.{into_other}
 
 -- ---- the book, and what is kept
 
-pub stays_booked : (m : Machine) (step : Step) (e : Pending) → IsOfAnother e.request.id step → ((ready : Port → Bool) → step ≢ Age ready) → Contains m.book e → Contains (after_step m step).book e
+pub stays_booked : (m : Machine) (step : Step) (e : Pending) → IsNotStepOfPendingRequest e.request.id step → ((ready : Port → Bool) → step ≢ Age ready) → Contains m.book e → Contains (after_step m step).book e
 stays_booked m (Accept r) e other tick here = Contains-append_left m.book (newly_accepted r ∷ []) e here
 stays_booked m (Issue mode x) e other tick here = into_other newly_issued x.request.id m.book e (λ same. other (sym same)) here
 stays_booked m (Touch x i block) e other tick here = into_other (touch i) x.request.id m.book e (λ same. other (sym same)) here
@@ -27,7 +27,7 @@ stays_booked m _ e other tick here = here
 pub ages : (m : Machine) (ready : Port → Bool) (e : Pending) → Contains m.book e → Contains (after_step m (Age ready)).book (aged_pending ready e)
 ages m ready e here = into_map (aged_pending ready) m.book e here
 
-pub stays_kept : (m : Machine) (step : Step) (e : Pending) → IsOfAnother e.request.id step → step ≢ Release → Contains m.kept e → Contains (after_step m step).kept e
+pub stays_kept : (m : Machine) (step : Step) (e : Pending) → IsNotStepOfPendingRequest e.request.id step → step ≢ Release → Contains m.kept e → Contains (after_step m step).kept e
 stays_kept m (Touch x i block) e other more here = into_other (touch i) x.request.id m.kept e (λ same. other (sym same)) here
 stays_kept m (End x) e other more here = into_other mark_ended x.request.id m.kept e (λ same. other (sym same)) here
 stays_kept m Release e other more here = absurd (more refl)
@@ -41,11 +41,11 @@ stays_kept m _ e other more here = here
 -- ---- requests that have ended
 
 -- perhaps a tick older
-stays_aged : (m : Machine) (step : Step) (e : Pending) → IsOfAnother e.request.id step → Contains m.book e → (age : ℕ) × Contains (after_step m step).book (record e { age = age })
+stays_aged : (m : Machine) (step : Step) (e : Pending) → IsNotStepOfPendingRequest e.request.id step → Contains m.book e → (age : ℕ) × Contains (after_step m step).book (record e { age = age })
 stays_aged m (Age ready) e other here = ((aged_pending ready e).age, subst (λ (y : Pending). Contains (map (aged_pending ready) m.book) y) (older_is ready e) (ages m ready e here))
 stays_aged m step e other here = (e.age, stays_booked m step e other (λ ready same. absurd cc) here)
 
-pub stays_ended : (m : Machine) (step : Step) (port : Port) (id : RequestId) → IsOfAnother id step → step ≢ Release → EndedIn m port id → EndedIn (after_step m step) port id
+pub stays_ended : (m : Machine) (step : Step) (port : Port) (id : RequestId) → IsNotStepOfPendingRequest id step → step ≢ Release → EndedIn m port id → EndedIn (after_step m step) port id
 stays_ended m step port id other more h = ⊎_elim
     (λ (z : Contains m.book h.pending × (h.pending.issued ≡ true)).
     let q = stays_aged m step h.pending its z.0 in
@@ -71,8 +71,8 @@ stays_ended m step port id other more h = ⊎_elim
     })
     h.may_still_move
   where
-    its : IsOfAnother h.pending.request.id step
-    its = subst (λ (i : RequestId). IsOfAnother i step) (sym h.id_is) other
+    its : IsNotStepOfPendingRequest h.pending.request.id step
+    its = subst (λ (i : RequestId). IsNotStepOfPendingRequest i step) (sym h.id_is) other
 
 pub ended_released : (m : Machine) (port : Port) (id : RequestId) → NoneKept m port → EndedIn m port id → EndedIn (after_step m Release) port id
 ended_released m port id none h = record {

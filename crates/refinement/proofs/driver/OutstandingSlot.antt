@@ -55,12 +55,12 @@ module _ (uses : SlotStates) (m : Machine) (d : Device) (port slot : ℕ) (a : S
 
           bits : (d.port port).st ≡ true → IsInSomeStage d.memory (d.port port) port slot h.pending h.command h.places → ((d.port port).ci slot ≡ true) ⊎ ((d.port port).sact slot ≡ true)
           bits st (inl w) = inl w.issued
-          bits st (inr (inl x)) = one_bit (is_queued h.command.operation) ((d.port port).ci slot) ((d.port port).sact slot) (d.port port).st x.ci_is_set_while_plain x.sact st
+          bits st (inr (inl x)) = one_bit (is_queued h.command.operation) ((d.port port).ci slot) ((d.port port).sact slot) (d.port port).st x.ci_is_set_iff_st_and_plain x.sact st
           bits st (inr (inr (inl x))) = unused x.is_not_issued x.is_not_taken
           bits st (inr (inr (inr x))) = unused x.is_not_issued x.is_not_taken
 
 pub shown_outstanding : (uses : SlotStates) (m : Machine) (d : Device) (port : ℕ) (entries : List Entry) → StateRelation uses m d → (s : ShowsFault entries (d.port port) port) → IsOutstanding uses m (d.port port) port s.fault.slot.0
-shown_outstanding uses m d port entries a s = used_outstanding uses m d port s.fault.slot.0 a s.slot_is_in_use
+shown_outstanding uses m d port entries a s = used_outstanding uses m d port s.fault.slot.0 a s.slot_is_issued_or_taken
 
 pub sole_fault : (uses : SlotStates) (m : Machine) (d : Device) (port slot : ℕ) (entries : List Entry) → StateRelation uses m d → (s : ShowsFault entries (d.port port) port) → ((other : ℕ) → other ≢ slot → uses port other ≡ Free) → s.fault.slot.0 ≡ slot
 sole_fault uses m d port slot entries a s alone = ⊎_elim
@@ -89,7 +89,7 @@ stopped_clear uses m d port slot a st = by (uses port slot) (a.relates_slots por
       where
         of : IsInSomeStage d.memory (d.port port) port slot h.pending h.command h.places → ((d.port port).ci slot ≡ false) × ((d.port port).sact slot ≡ false)
         of (inl w) = absurd (both_ways _ st w.started)
-        of (inr (inl t)) = (masked ((d.port port).ci slot) (not (is_queued h.command.operation)) t.ci_is_set_while_plain, masked ((d.port port).sact slot) (is_queued h.command.operation) t.sact)
+        of (inr (inl t)) = (masked ((d.port port).ci slot) (not (is_queued h.command.operation)) t.ci_is_set_iff_st_and_plain, masked ((d.port port).sact slot) (is_queued h.command.operation) t.sact)
         of (inr (inr (inl x))) = (x.is_not_issued, x.sact_is_clear)
         of (inr (inr (inr x))) = (x.is_not_issued, x.sact_is_clear)
 

@@ -20,9 +20,9 @@ use Rattle.block_machine.specs.Steps.{Accept, Answer, WaitAgain, Age, Release, M
 use Rattle.block_machine.proofs.Members.{map_in, into_map, at_cases, without_in, contains_here, contains_there, contains_cases, contains_none, append_in}
 use Rattle.block_machine.proofs.Sound.{Sound}
 use Rattle.block_machine.proofs.Standing.{standing}
-use Rattle.refinement.specs.Slots.{SlotState, Free, Own, Serves, SlotStates, set_slot_state, TouchedAsMoved, IsInSomeStage, IsOver, RelatesSlot, Armed, IsArmed}
+use Rattle.refinement.specs.Slots.{SlotState, Free, Own, Serves, SlotStates, set_slot_state, TouchedAsMoved, IsInSomeStage, IsOver, RelatesSlot, Armed, IsArmedIfSt}
 use Rattle.refinement.specs.Relation.{StateRelation, port_at}
-use Rattle.refinement.specs.Driver.{DriverState, DriverRelation, HasNoSlot, ForgetsAtMost, ForgetsAtMostKept, with_slot_parked, with_slot_freed}
+use Rattle.refinement.specs.Driver.{DriverState, DriverRelation, HasNoSlot, ForgetsAtMost, ForgetsAtMostKept, with_slot_freed_and_request_parked, with_slot_freed}
 use Rattle.refinement.proofs.relation.LastingSectors.{gains_none, keeps_same, lasting_on}
 use Rattle.refinement.proofs.relation.OneSlot.{sectors_on, changed_at}
 use Rattle.refinement.proofs.device.ClearSactBits.{over_unarmed}
@@ -44,7 +44,7 @@ module _ (memory : ℕ → ℕ) (p : DevicePort) (port slot : ℕ) (e : Pending)
 
   stage_of : IsInSomeStage memory p port slot e c places → IsInSomeStage memory p port slot (record e { issue_count = issues; age = age; issued = issued }) c places
   stage_of (inl w) = inl (record { started = w.started; issued = w.issued; is_not_taken = w.is_not_taken; sact = w.sact; has_block_if_trim = w.has_block_if_trim; untouched = w.untouched; unended = w.unended })
-  stage_of (inr (inl t)) = inr (inl (record { command = t.command; taken = t.taken; meaning = t.meaning; places_are = t.places_are; running = t.running; ci_is_set_while_plain = t.ci_is_set_while_plain; sact = t.sact; progress = progress_of e.request.asked.op t.command t.progress; unended = t.unended }))
+  stage_of (inr (inl t)) = inr (inl (record { command = t.command; taken = t.taken; meaning = t.meaning; places_are = t.places_are; running = t.running; ci_is_set_iff_st_and_plain = t.ci_is_set_iff_st_and_plain; sact = t.sact; progress = progress_of e.request.asked.op t.command t.progress; unended = t.unended }))
   stage_of (inr (inr (inl x))) = inr (inr (inl (record { is_not_issued = x.is_not_issued; sact_is_clear = x.sact_is_clear; is_not_taken = x.is_not_taken; ended = x.ended; touched = x.touched })))
   stage_of (inr (inr (inr x))) = inr (inr (inr (record { st_is_clear = x.st_is_clear; is_not_issued = x.is_not_issued; sact_is_clear = x.sact_is_clear; is_not_taken = x.is_not_taken; unended = x.unended })))
 
@@ -84,15 +84,15 @@ pub agrees_on : (uses : SlotStates) (m m' : Machine) (d : Device) → StateRelat
 agrees_on uses m m' d a world goes = record {
   relates_slots = λ q k. served_goes m m' d (d.port q) q k (uses q k) (goes q k) (a.relates_slots q k);
   serve_distinct_requests = a.serve_distinct_requests;
-  received_areas_are_placed = a.received_areas_are_placed;
+  received_areas_in_use_are_placed = a.received_areas_in_use_are_placed;
   disks_are_same = λ q. record {
     present = ap (λ (f : Port → Bool). f (port_at q)) world.present ∙ (a.disks_are_same q).present;
     id = ap (λ (f : Port → ℕ). f (port_at q)) world.ids ∙ (a.disks_are_same q).id;
     sector_count = ap (λ (f : Port → ℕ). f (port_at q)) world.sizes ∙ (a.disks_are_same q).sector_count;
   };
   client_frames_are_same = λ f b from small. a.client_frames_are_same f b from small ∙ ap (λ (g : Memory). g f b) (sym world.memory);
-  sectors_are_same = λ t q. sectors_on m m' (d.port q).disk q (λ k b lb. ap (λ (g : Port → DiskBytes). g (port_at q) k b) world.disks) (a.sectors_are_same t q);
-  holds_replug_candidates = λ t q. lasting_on m m' d.tape d.tape (d.port q) (d.port q) q refl refl (keeps_same m m' q world.disks world.aside) (gains_none d.tape m' q) (a.holds_replug_candidates t q);
+  sectors_are_same_if_disks_tell = λ t q. sectors_on m m' (d.port q).disk q (λ k b lb. ap (λ (g : Port → DiskBytes). g (port_at q) k b) world.disks) (a.sectors_are_same_if_disks_tell t q);
+  holds_replug_candidates_if_disks_tell = λ t q. lasting_on m m' d.tape d.tape (d.port q) (d.port q) q refl refl (keeps_same m m' q world.disks world.aside) (gains_none d.tape m' q) (a.holds_replug_candidates_if_disks_tell t q);
 }
 
 -- ---- accept
@@ -103,7 +103,7 @@ accept_knows k m r x = record {
       (λ q s id u e is may. goes_on_same m (after_step m (Accept r)) e (⊎_elim
       (λ (z : Contains m.book e × (e.issued ≡ true)). inl (Contains-append_left m.book (newly_accepted r ∷ []) e z.0, z.1))
       (λ (z : Contains m.kept e). inr z) may));
-  have_slots = λ q y may at_port. x.have_slots q y (⊎_elim
+  have_slots_unless_parked = λ q y may at_port. x.have_slots_unless_parked q y (⊎_elim
       (λ (z : Contains (m.book ++ newly_accepted r ∷ []) y × (y.issued ≡ true)). ⊎_elim
       (λ (w : Contains m.book y). inl (w, z.1))
       (λ (w : y ≡ newly_accepted r). true_false (ap (λ (e : Pending). e.issued) (sym w) ∙ z.1) refl)
@@ -128,13 +128,13 @@ pub tick_knows : (k : DriverState) (m : Machine) (ready : Port → Bool) → Dri
 tick_knows k m ready x = record {
   state_relation = agrees_on k.slot_states m (after_step m (Age ready)) k.device x.state_relation (record { present = refl; ids = refl; sizes = refl; disks = refl; aside = refl; memory = refl })
       (λ q s id u e is may. goes e may);
-  have_slots = λ q y may at_port. ⊎_elim
+  have_slots_unless_parked = λ q y may at_port. ⊎_elim
       (λ (z : Contains (map (aged_pending ready) m.book) y × (y.issued ≡ true)).
       let w = map_in (aged_pending ready) m.book y z.0 in
       let same : y ≡ record w.0 { age = (aged_pending ready w.0).age } = w.2 ∙ older_is ready w.0 in
       subst (λ (r : Accepted). Contains (k.awaiting_disposition q) r.id ⊎ ((slot : ℕ) × (k.slot_states q slot ≡ Serves r.id))) (sym (ap (λ (e : Pending). e.request) same))
-      (x.have_slots q w.0 (inl (w.1, ap (λ (e : Pending). e.issued) (sym same) ∙ z.1)) (ap (λ (e : Pending). e.request.port.0) (sym same) ∙ at_port)))
-      (λ (z : Contains m.kept y). x.have_slots q y (inr z) at_port) may;
+      (x.have_slots_unless_parked q w.0 (inl (w.1, ap (λ (e : Pending). e.issued) (sym same) ∙ z.1)) (ap (λ (e : Pending). e.request.port.0) (sym same) ∙ at_port)))
+      (λ (z : Contains m.kept y). x.have_slots_unless_parked q y (inr z) at_port) may;
 }
   where
     goes : (e : Pending) → MayStillMove m e → GoesOn m (after_step m (Age ready)) e
@@ -152,7 +152,7 @@ pub revoke_knows : (k : DriverState) (m : Machine) (client : ClientId) (number :
 revoke_knows k m client number x = record {
   state_relation = agrees_on k.slot_states m (after_step m (Revoke client number)) k.device x.state_relation (record { present = refl; ids = refl; sizes = refl; disks = refl; aside = refl; memory = refl })
       (λ q s id u e is may. goes_on_same m (after_step m (Revoke client number)) e may);
-  have_slots = x.have_slots;
+  have_slots_unless_parked = x.have_slots_unless_parked;
 }
 
 -- ---- a request is decided
@@ -182,12 +182,12 @@ leaves_knows : (k : DriverState) (m m' : Machine) (id : RequestId) (later : ℕ 
 leaves_knows k m m' id later x none forgets l = record {
   state_relation = agrees_on k.slot_states m m' k.device x.state_relation l.world
       (λ q s other u e is may. goes_on_same m m' e (l.moves e (λ same. none q s (u ∙ ap Serves (sym is ∙ same))) may));
-  have_slots = λ q y may at_port.
+  have_slots_unless_parked = λ q y may at_port.
       let b = l.back y may in
       ⊎_elim
       (λ (p : Contains (k.awaiting_disposition q) y.request.id). inl (forgets q y.request.id p b.1))
       (λ (w : (slot : ℕ) × (k.slot_states q slot ≡ Serves y.request.id)). inr w)
-      (x.have_slots q y b.0 at_port);
+      (x.have_slots_unless_parked q y b.0 at_port);
 }
 
 answer_leaves : (m : Machine) (e : Pending) (outcome : Outcome) → Sound m → Contains m.book e → is_kept_at_answer e outcome ≡ false → Leaves m (after_step m (Answer e outcome)) e.request.id
@@ -239,7 +239,7 @@ pub keeping_knows : (k : DriverState) (m : Machine) (e : Pending) (outcome : Out
 keeping_knows k m e outcome r x here stay = record {
   state_relation = agrees_on k.slot_states m (after_step m (Answer e outcome)) k.device x.state_relation (record { present = refl; ids = refl; sizes = refl; disks = refl; aside = refl; memory = refl })
       (λ q s id u y is may. goes_on_same m (after_step m (Answer e outcome)) y (goes y may));
-  have_slots = λ q y may at_port. x.have_slots q y (⊎_elim
+  have_slots_unless_parked = λ q y may at_port. x.have_slots_unless_parked q y (⊎_elim
       (λ (z : Contains (without_pending e.request.id m.book) y × (y.issued ≡ true)). inl ((without_in e.request.id m.book y z.0).0, z.1))
       (λ (z : Contains (after_step m (Answer e outcome)).kept y). ⊎_elim
       (λ (w : y ≡ e). inl (subst (λ (o : Pending). Contains m.book o) (sym w) here, ap (λ (o : Pending). o.issued) w ∙ was_issued outcome stay))
@@ -279,11 +279,11 @@ release_knows k m later r x none forgets = record {
       (λ q s id u e is may. goes_on_same m (after_step m Release) e (⊎_elim
       (λ (z : Contains m.book e × (e.issued ≡ true)). inl z)
       (λ (z : Contains m.kept e). absurd (none e z q s (u ∙ ap Serves (sym is)))) may));
-  have_slots = λ q y may at_port. ⊎_elim
+  have_slots_unless_parked = λ q y may at_port. ⊎_elim
       (λ (z : Contains m.book y × (y.issued ≡ true)). ⊎_elim
       (λ (p : Contains (k.awaiting_disposition q) y.request.id). inl (forgets q y.request.id p (λ e kept same. (standing m r).sound.apart y e z.0 kept (ap (λ (i : RequestId). i.0) (sym same)))))
       (λ (w : (slot : ℕ) × (k.slot_states q slot ≡ Serves y.request.id)). inr w)
-      (x.have_slots q y (inl z) at_port))
+      (x.have_slots_unless_parked q y (inl z) at_port))
       (λ (z : Contains [] y). absurd (contains_none y z)) may;
 }
 
@@ -304,10 +304,10 @@ module _ (k : DriverState) (m : Machine) (x : DriverRelation m k) (port slot : �
     disk = λ q. refl;
   })
 
-  pub park_knows : (id : RequestId) → k.slot_states port slot ≡ Serves id → DriverRelation m (with_slot_parked k port slot id)
+  pub park_knows : (id : RequestId) → k.slot_states port slot ≡ Serves id → DriverRelation m (with_slot_freed_and_request_parked k port slot id)
   park_knows id u = record {
     state_relation = free_agrees (λ e. let z : Serves id ≡ Armed = sym u ∙ e in cc);
-    have_slots = λ q y may at_port. ⊎_elim
+    have_slots_unless_parked = λ q y may at_port. ⊎_elim
         (λ (p : Contains (k.awaiting_disposition q) y.request.id). inl (more q y.request.id p))
         (λ (w : (s : ℕ) × (k.slot_states q s ≡ Serves y.request.id)). ⊎_elim
         (λ (here : (q ≡ port) × (w.0 ≡ slot)).
@@ -316,7 +316,7 @@ module _ (k : DriverState) (m : Machine) (x : DriverRelation m k) (port slot : �
         (subst (λ (l : List RequestId). Contains l y.request.id) (sym (changed_same k.awaiting_disposition port (id ∷ k.awaiting_disposition port))) (contains_here id (k.awaiting_disposition port) y.request.id same))))
         (λ (there : (q ≡ port → w.0 ≡ slot → ⊥) × (set_slot_state k.slot_states port slot Free q w.0 ≡ k.slot_states q w.0)). inr (w.0, there.1 ∙ w.1))
         (put_cases k.slot_states port slot Free q w.0))
-        (x.have_slots q y may at_port);
+        (x.have_slots_unless_parked q y may at_port);
   }
     where
       more : (q : ℕ) (i : RequestId) → Contains (k.awaiting_disposition q) i → Contains (changed k.awaiting_disposition port (id ∷ k.awaiting_disposition port) q) i
@@ -325,7 +325,7 @@ module _ (k : DriverState) (m : Machine) (x : DriverRelation m k) (port slot : �
   pub own_release_knows : (o : Operation) → k.slot_states port slot ≡ Own o → DriverRelation m (with_slot_freed k port slot)
   own_release_knows o u = record {
     state_relation = free_agrees (λ e. let z : Own o ≡ Armed = sym u ∙ e in cc);
-    have_slots = λ q. put_have k.slot_states m port slot Free q (k.awaiting_disposition q) (λ id v. absurd (let z : Own o ≡ Serves id = sym u ∙ v in cc)) (x.have_slots q);
+    have_slots_unless_parked = λ q. put_have k.slot_states m port slot Free q (k.awaiting_disposition q) (λ id v. absurd (let z : Own o ≡ Serves id = sym u ∙ v in cc)) (x.have_slots_unless_parked q);
   }
 
 -- an armed slot of a port whose ST is 0, which has cleared the bit
@@ -335,12 +335,12 @@ disarm_knows k m x port slot st u = record {
     world = record { present = refl; ids = refl; sizes = refl; disks = refl; aside = refl; memory = refl };
     moves = λ q s id u ne e is r. r;
     others = λ q s ne. SameSlot-refl (k.device.port q) s;
-    here = (let h : IsArmed (k.device.port port) slot = subst (λ (w : SlotState). RelatesSlot m k.device.memory k.device.tape (k.device.port port) port slot w) u (x.state_relation.relates_slots port slot) in record { is_not_issued = h.is_not_issued; is_not_taken = h.is_not_taken; unarmed = h.armed ∙ st });
+    here = (let h : IsArmedIfSt (k.device.port port) slot = subst (λ (w : SlotState). RelatesSlot m k.device.memory k.device.tape (k.device.port port) port slot w) u (x.state_relation.relates_slots port slot) in record { is_not_issued = h.is_not_issued; is_not_taken = h.is_not_taken; unarmed = h.armed ∙ st });
     apart = λ q s id f u. absurd (let z : Free ≡ Serves id = f in cc);
     fre = λ q. refl;
     received_at = λ q. refl;
     present = λ q. refl;
     disk = λ q. refl;
   });
-  have_slots = λ q. put_have k.slot_states m port slot Free q (k.awaiting_disposition q) (λ id v. absurd (let z : Armed ≡ Serves id = sym u ∙ v in cc)) (x.have_slots q);
+  have_slots_unless_parked = λ q. put_have k.slot_states m port slot Free q (k.awaiting_disposition q) (λ id v. absurd (let z : Armed ≡ Serves id = sym u ∙ v in cc)) (x.have_slots_unless_parked q);
 }

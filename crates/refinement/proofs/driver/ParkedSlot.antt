@@ -4,7 +4,7 @@ use Rattle.std.specs.List.{Contains}
 use Rattle.ata_types.specs.declared.request.RequestId.{RequestId}
 use Rattle.adapter.proofs.Changed.{changed_same}
 use Rattle.refinement.specs.Relation.{ServeDistinctRequests}
-use Rattle.refinement.specs.Driver.{DriverState, HasNoSlot, with_slot_parked}
+use Rattle.refinement.specs.Driver.{DriverState, HasNoSlot, with_slot_freed_and_request_parked}
 use Rattle.refinement.specs.Slots.{SlotState, Free, Serves, SlotStates, set_slot_state}
 use Rattle.refinement.proofs.driver.PutSlot.{put_served, serves_not_free}
 
@@ -15,16 +15,16 @@ put_unserved uses port slot u id none other p s v = ⊎_elim
     (λ (there : (p ≡ port → s ≡ slot → ⊥) × (uses p s ≡ Serves id)). none p s there.1)
     (put_served uses port slot u p s id v)
 
-pub law_parking_frees : (k : DriverState) (port slot : ℕ) (id : RequestId) → ServeDistinctRequests k.slot_states → k.slot_states port slot ≡ Serves id → HasNoSlot (with_slot_parked k port slot id).slot_states id
+pub law_parking_frees : (k : DriverState) (port slot : ℕ) (id : RequestId) → ServeDistinctRequests k.slot_states → k.slot_states port slot ≡ Serves id → HasNoSlot (with_slot_freed_and_request_parked k port slot id).slot_states id
 law_parking_frees k port slot id apart u p s v =
     ⊎_elim
     (λ (here : (p ≡ port) × (s ≡ slot) × (Free ≡ Serves id)). serves_not_free here.2 refl)
     (λ (there : (p ≡ port → s ≡ slot → ⊥) × (k.slot_states p s ≡ Serves id)). let same = apart p s port slot id there.1 u in there.0 same.0 same.1)
     (put_served k.slot_states port slot Free p s id v)
 
-pub parking_leaves : (k : DriverState) (port slot : ℕ) (id other : RequestId) → HasNoSlot k.slot_states other → HasNoSlot (with_slot_parked k port slot id).slot_states other
+pub parking_leaves : (k : DriverState) (port slot : ℕ) (id other : RequestId) → HasNoSlot k.slot_states other → HasNoSlot (with_slot_freed_and_request_parked k port slot id).slot_states other
 parking_leaves k port slot id other none = put_unserved k.slot_states port slot Free other none (λ i free. serves_not_free free refl)
 
-pub parking_parks : (k : DriverState) (port slot : ℕ) (id : RequestId) → Contains ((with_slot_parked k port slot id).awaiting_disposition port) id
+pub parking_parks : (k : DriverState) (port slot : ℕ) (id : RequestId) → Contains ((with_slot_freed_and_request_parked k port slot id).awaiting_disposition port) id
 parking_parks k port slot id =
     subst (λ (l : List RequestId). Contains l id) (sym (changed_same k.awaiting_disposition port (id ∷ k.awaiting_disposition port))) ((0, omega arith, refl))

@@ -4,7 +4,7 @@ use Rattle.adapter.specs.Access.{Access, DoesAll}
 use Rattle.adapter.specs.Device.{Device}
 use Rattle.block_machine.specs.Events.{AllByDevice}
 use Rattle.block_machine.specs.Expected.{after}
-use Rattle.refinement.specs.Acts.{Act, ActsByDeviceAlone, DriverSlots, IsActDone, Performs, accesses_of, driver_state_of_slots, act_steps}
+use Rattle.refinement.specs.Acts.{Act, ActsByDeviceAlone, DriverSlots, IsActDone, AccessesAreSimulatedByActs, accesses_of, driver_state_of_slots, act_steps}
 use Rattle.refinement.specs.Fragments.{IsSimulated, IsSimulatedChangingUses}
 use Rattle.refinement.specs.Driver.{AllFree}
 use Rattle.refinement.specs.PortFacts.{IsEngineStopped}
@@ -20,7 +20,7 @@ abbrev after_next : (SlotStates → SlotStates) → DriverSlots → DriverSlots
 after_next next s = record s { slot_states = next s.slot_states }
 
 pub performs_one : (May : Access → Type 0) (Fits : SlotStates → Type 0) (next : SlotStates → SlotStates) (old new : Device) → (a : IsSimulatedChangingUses May Fits next old new) →
-    Performs a.is_driven.accesses (λ s m. Fits s.slot_states) (after_next next) ActsByDeviceAlone old new
+    AccessesAreSimulatedByActs a.is_driven.accesses (λ s m. Fits s.slot_states) (after_next next) ActsByDeviceAlone old new
 performs_one May Fits next old new a = record {
   accesses_are_done = a.is_driven.all_are_done;
   acts_reach = λ s m reached x fits.
@@ -29,7 +29,7 @@ performs_one May Fits next old new a = record {
 
 pub performs_giving_up : ((early late : List Access) (old mid new : Device) → DoesAll early old mid → DoesAll late mid new → DoesAll (early ++ late) old new) → (May Then : Access → Type 0) (Fits Less : SlotStates → Type 0) (next : SlotStates → SlotStates) (port : ℕ) (old mid new : Device) → (a : IsSimulated May Fits old mid) → IsEngineStopped (mid.port port) →
     ((uses : SlotStates) → AllFree uses port → Less uses) → (b : IsSimulatedChangingUses Then Less next mid new) →
-    Performs (a.is_driven.accesses ++ b.is_driven.accesses) (λ s m. Fits s.slot_states) (λ s. after_next next (slots_with_all_parked port s)) ActsByDeviceAlone old new
+    AccessesAreSimulatedByActs (a.is_driven.accesses ++ b.is_driven.accesses) (λ s m. Fits s.slot_states) (λ s. after_next next (slots_with_all_parked port s)) ActsByDeviceAlone old new
 performs_giving_up append May Then Fits Less next port old mid new a halted less b = record {
   accesses_are_done = append a.is_driven.accesses b.is_driven.accesses old mid new a.is_driven.all_are_done b.is_driven.all_are_done;
   acts_reach = λ s m reached x fits.

@@ -58,7 +58,7 @@ module _ (laws : StepLaws) (uses : SlotStates) (m : Machine) (old : Device) (rea
       let f : SimulatesSteps uses m old mid = steps_follow uses m old mid reached a s in
       let r : IsReachable (left.after m f.steps) = laws.reachable_goes_on m f.steps reached f.steps_are_enabled in
       let k : KeepsOverSteps old mid = laws.steps_keep _ _ s in
-      let still : IsOver (mid.port port) 0 = record { is_not_issued = (k.ports_are_kept port).ci_stays_clear 0 over.is_not_issued; is_not_taken = (k.ports_are_kept port).slots_stay_free 0 over.is_not_issued over.is_not_taken } in
+      let still : IsOver (mid.port port) 0 = record { is_not_issued = (k.port_bits_only_fall port).ci_stays_clear 0 over.is_not_issued; is_not_taken = (k.port_bits_only_fall port).slots_stay_free 0 over.is_not_issued over.is_not_taken } in
       record {
         inside = (let size = k.memory_size_is_kept in omega (arith, inside, size));
         is_not_owned = λ q slot byte low high used. by still byte low high (left.after m f.steps) r (is_used uses (left.after m f.steps) mid r f.state_relation q slot byte used);
@@ -102,8 +102,8 @@ module _ (laws : StepLaws) (uses : SlotStates) (m : Machine) (old : Device) (rea
         readied = prepared_readied uses m old port.0 slot mode e v x;
       }))
 
-  pub own_is_permitted : (port : Port) (o : Operation) (v : ℕ) → IsOn old → HasPort old port.0 → IsOwnPrepared uses old port.0 o v → IsStable (MayWrite (Px port px.Ci) v) old
-  own_is_permitted port o v on there x mid s =
+  pub issuing_page_command_is_permitted : (port : Port) (o : Operation) (v : ℕ) → IsOn old → HasPort old port.0 → IsOwnPrepared uses old port.0 o v → IsStable (MayWrite (Px port px.Ci) v) old
+  issuing_page_command_is_permitted port o v on there x mid s =
       let f : SimulatesSteps uses m old mid = steps_follow uses m old mid reached a s in
       let y : IsOwnPrepared uses mid port.0 o v = own_prepared_stays uses m old mid port.0 o v reached a on.no_reset s x in
       let k : KeepsOverSteps old mid = laws.steps_keep _ _ s in

@@ -15,7 +15,7 @@ use Rattle.adapter.proofs.KeptLemmas.{law_step_lists_keep_what_steps_keep, PortB
 use Rattle.block_machine.proofs.HistoryLemmas.{reached_more}
 use Rattle.block_machine.specs.Expected.{after}
 pub use Rattle.refinement.specs.Fragments.{TapeGrows}
-use Rattle.refinement.specs.Fragments.{SomeMachineAgrees, ReadsPortOrWrites, IsDrivenBy, IsSimulated, IsSimulatedChangingUses, SparesOtherPorts, LeavesPort, NoneWrites}
+use Rattle.refinement.specs.Fragments.{SomeMachineAgrees, ReadsPortOrWrites, IsDrivenBy, IsSimulated, IsSimulatedChangingUses, SparesOtherPorts, OnlyDeviceChangesPort, NoneWrites}
 use Rattle.refinement.specs.PortFacts.{RecordsFaultsIfSt}
 use Rattle.refinement.specs.PreservedParts.{DoesNotWrite, SameAdapter}
 use Rattle.refinement.specs.Slots.{SlotStates}
@@ -103,12 +103,12 @@ module _ (Written : PortReg → Type 0) (port : Port) where
 -- ---- a port that isn't theirs
 
 module _ (port : Port) (q : ℕ) (other : q ≢ port.0) where
-  beside_left : (access : Access) (old new : Device) → old.hr ≡ false → SparesOtherPorts port access → Does access old new → LeavesPort (old.port q) (new.port q)
+  beside_left : (access : Access) (old new : Device) → old.hr ≡ false → SparesOtherPorts port access → Does access old new → OnlyDeviceChangesPort (old.port q) (new.port q)
   beside_left access old new off is x =
       let s = access_steps access old new x in
       let k : KeepsOverSteps old s.0 = law_step_lists_keep_what_steps_keep s.1 in
       let c : KeepsOutsideReset old s.0 = k.keeps_outside_reset off in
-      subst (LeavesPort (old.port q)) (sym (beside_same port q other access old new x is)) (record { port_is_kept_by_device = k.ports_are_kept q; controls = c.controls_are_kept q; notes = k.notes_are_kept q })
+      subst (OnlyDeviceChangesPort (old.port q)) (sym (beside_same port q other access old new x is)) (record { bits_only_fall = k.port_bits_only_fall q; controls = c.controls_are_kept q; notes = k.notes_are_kept q })
 
   beside_recorded : (access : Access) (old new : Device) → SparesOtherPorts port access → Does access old new → RecordsFaultsIfSt old.tape (old.port q) q → RecordsFaultsIfSt new.tape (new.port q) q
   beside_recorded access old new is x h =
@@ -116,11 +116,11 @@ module _ (port : Port) (q : ℕ) (other : q ≢ port.0) where
       subst (λ (p : DevicePort). RecordsFaultsIfSt new.tape p q) (sym (beside_same port q other access old new x is))
       (subst (λ (tape : List Entry). RecordsFaultsIfSt tape (s.0.port q) q) (sym s.2) (steps_recorded q old s.0 s.1 h))
 
-pub leaves_none : (p : DevicePort) → LeavesPort p p
-leaves_none p = record { port_is_kept_by_device = PortBitsOnlyFall-refl p; controls = KeepsControlsFlagsRise-refl p; notes = refl }
+pub leaves_none : (p : DevicePort) → OnlyDeviceChangesPort p p
+leaves_none p = record { bits_only_fall = PortBitsOnlyFall-refl p; controls = KeepsControlsFlagsRise-refl p; notes = refl }
 
-pub leaves_more : (old mid new : DevicePort) → LeavesPort old mid → LeavesPort mid new → LeavesPort old new
-leaves_more old mid new a b = record { port_is_kept_by_device = PortBitsOnlyFall-trans a.port_is_kept_by_device b.port_is_kept_by_device; controls = KeepsControlsFlagsRise-trans a.controls b.controls; notes = b.notes ∙ a.notes }
+pub leaves_more : (old mid new : DevicePort) → OnlyDeviceChangesPort old mid → OnlyDeviceChangesPort mid new → OnlyDeviceChangesPort old new
+leaves_more old mid new a b = record { bits_only_fall = PortBitsOnlyFall-trans a.bits_only_fall b.bits_only_fall; controls = KeepsControlsFlagsRise-trans a.controls b.controls; notes = b.notes ∙ a.notes }
 
 -- ---- the tape
 
@@ -152,9 +152,9 @@ module _ (May : Access → Type 0) (old new : Device) (driven : IsDrivenBy May o
       (over (λ a b. Unit {0}) (λ d. tt) (λ a b c x y. tt) May spares (λ access a b here may does. tt) driven.accesses old new on driven.accesses_are_of_kind driven.all_are_done).1
 
 module _ (port : Port) (old new : Device) (driven : IsDrivenBy (SparesOtherPorts port) old new) (q : ℕ) (other : q ≢ port.0) where
-  pub other_left : IsOn old → LeavesPort (old.port q) (new.port q)
+  pub other_left : IsOn old → OnlyDeviceChangesPort (old.port q) (new.port q)
   other_left on =
-      (over (λ a b. LeavesPort (a.port q) (b.port q)) (λ d. leaves_none (d.port q)) (λ a b c x y. leaves_more (a.port q) (b.port q) (c.port q) x y) (SparesOtherPorts port) (of_spares_ghc port)
+      (over (λ a b. OnlyDeviceChangesPort (a.port q) (b.port q)) (λ d. leaves_none (d.port q)) (λ a b c x y. leaves_more (a.port q) (b.port q) (c.port q) x y) (SparesOtherPorts port) (of_spares_ghc port)
       (λ access a b here may does. beside_left port q other access a b here.no_reset may does)
       driven.accesses old new on driven.accesses_are_of_kind driven.all_are_done).0
 

@@ -20,7 +20,7 @@ use Rattle.block_machine.specs.Histories.{IsReachable}
 use Rattle.block_machine.specs.Steps.{Issue, MayStillMove, after_step, update_pending, newly_issued}
 use Rattle.block_machine.proofs.Members.{map_in, into_map, at_cases}
 use Rattle.block_machine.proofs.Standing.{Standing, standing}
-use Rattle.refinement.specs.Slots.{SlotState, Free, Own, Serves, SlotStates, set_slot_state, ServesRequest, IsOver, RelatesSlot, Armed, IsEmptySlot, IsArmed}
+use Rattle.refinement.specs.Slots.{SlotState, Free, Own, Serves, SlotStates, set_slot_state, ServesRequest, IsOver, RelatesSlot, Armed, IsEmptySlot, IsArmedIfSt}
 use Rattle.refinement.specs.Relation.{StateRelation, port_at, SameSectors, HaveSlotsUnlessParked}
 use Rattle.refinement.specs.Driver.{IsPrepared, IsOwnPrepared}
 use Rattle.refinement.proofs.relation.SlotRelation.{SameSlot, SameSlot-refl, served_on, placed_on, GainsNone-refl}
@@ -109,17 +109,17 @@ module _ (uses : SlotStates) (m m' : Machine) (d : Device) (a : StateRelation us
   put_agrees = record {
     relates_slots = slot_now;
     serve_distinct_requests = apart_now;
-    received_areas_are_placed = λ q f. let r = a.received_areas_are_placed q (sym (x.fre q) ∙ f) in record { port_is_below_4 = r.port_is_below_4; area_is_in_place = x.received_at q ∙ r.area_is_in_place };
+    received_areas_in_use_are_placed = λ q f. let r = a.received_areas_in_use_are_placed q (sym (x.fre q) ∙ f) in record { port_is_below_4 = r.port_is_below_4; area_is_in_place = x.received_at q ∙ r.area_is_in_place };
     disks_are_same = λ q. record {
       present = ap (λ (f : Port → Bool). f (port_at q)) x.world.present ∙ (a.disks_are_same q).present ∙ sym (x.present q);
       id = ap (λ (f : Port → ℕ). f (port_at q)) x.world.ids ∙ (a.disks_are_same q).id ∙ ap (λ (y : device.Disk × DurableState). y.0.name) (sym (x.disk q));
       sector_count = ap (λ (f : Port → ℕ). f (port_at q)) x.world.sizes ∙ (a.disks_are_same q).sector_count ∙ ap (λ (y : device.Disk × DurableState). y.0.sector_count) (sym (x.disk q));
     };
     client_frames_are_same = λ f b from small. a.client_frames_are_same f b from small ∙ ap (λ (g : Memory). g f b) (sym x.world.memory);
-    sectors_are_same = λ t q. subst (λ (y : device.Disk × DurableState). SameSectors m' y.0 q) (sym (x.disk q))
-        (sectors_on m m' (d.port q).disk q (λ k b lb. ap (λ (g : Port → DiskBytes). g (port_at q) k b) x.world.disks) (a.sectors_are_same t q));
-    holds_replug_candidates = λ t q. lasting_on m m' d.tape d.tape (d.port q) (ports q) q (ap (λ (y : device.Disk × DurableState). y.1) (x.disk q)) (ap (λ (y : device.Disk × DurableState). y.0.sector_count) (x.disk q))
-        (keeps_same m m' q x.world.disks x.world.aside) (gains_none d.tape m' q) (a.holds_replug_candidates t q);
+    sectors_are_same_if_disks_tell = λ t q. subst (λ (y : device.Disk × DurableState). SameSectors m' y.0 q) (sym (x.disk q))
+        (sectors_on m m' (d.port q).disk q (λ k b lb. ap (λ (g : Port → DiskBytes). g (port_at q) k b) x.world.disks) (a.sectors_are_same_if_disks_tell t q));
+    holds_replug_candidates_if_disks_tell = λ t q. lasting_on m m' d.tape d.tape (d.port q) (ports q) q (ap (λ (y : device.Disk × DurableState). y.1) (x.disk q)) (ap (λ (y : device.Disk × DurableState). y.0.sector_count) (x.disk q))
+        (keeps_same m m' q x.world.disks x.world.aside) (gains_none d.tape m' q) (a.holds_replug_candidates_if_disks_tell t q);
   }
 
 -- ---- a command is issued
@@ -154,7 +154,7 @@ readied_slot uses m d a port slot true u st =
     let h : IsEmptySlot (d.port port) slot = subst (λ (w : SlotState). RelatesSlot m d.memory d.tape (d.port port) port slot w) u (a.relates_slots port slot) in
     (record { is_not_issued = h.is_not_issued; is_not_taken = h.is_not_taken }, h.unarmed)
 readied_slot uses m d a port slot false u st =
-    let h : IsArmed (d.port port) slot = subst (λ (w : SlotState). RelatesSlot m d.memory d.tape (d.port port) port slot w) u (a.relates_slots port slot) in
+    let h : IsArmedIfSt (d.port port) slot = subst (λ (w : SlotState). RelatesSlot m d.memory d.tape (d.port port) port slot w) u (a.relates_slots port slot) in
     (record { is_not_issued = h.is_not_issued; is_not_taken = h.is_not_taken }, h.armed ∙ st)
 
 not_serving : {A : Type 0} {id : RequestId} (plain : Bool) → Serves id ≡ (if plain then Free else Armed) → A
@@ -211,7 +211,7 @@ module _ (uses : SlotStates) (m : Machine) (d : Device) (reached : IsReachable m
   std = standing m reached
 
   waits_yet : e.issued ≡ false
-  waits_yet = not-true e.issued (and_parts _ _ x.issue_is_enabled.1.nothing_blocks).0
+  waits_yet = not-true e.issued (and_parts _ _ x.issue_is_enabled.1.waits_and_nothing_blocks).0
 
   -- no slot serves it yet
   not_served : (p s : ℕ) → uses p s ≡ Serves e.request.id → ⊥

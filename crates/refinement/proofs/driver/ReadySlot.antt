@@ -23,11 +23,11 @@ use Rattle.block_machine.specs.Steps.{Issue, IsEnabled}
 use Rattle.block_machine.specs.declared.due.QueueMode.{QueueMode}
 use Rattle.refinement.specs.StepLaws.{StepLaws}
 use Rattle.refinement.specs.Relation.{StateRelation}
-use Rattle.refinement.specs.Driver.{IsPrepared, KeepsTablesAndScratch, MissesHeaderAndTable}
+use Rattle.refinement.specs.Driver.{IsPrepared, KeepsTablesAndScratchUnlessOwn, MissesTableAndHeaderButPrdbc}
 use Rattle.refinement.specs.Simulation.{SimulatesSteps}
 use Rattle.refinement.specs.PreservedParts.{DoesNotWrite}
-use Rattle.refinement.specs.MemoryLayout.{IsHeaderOrTableByte}
-use Rattle.refinement.specs.Slots.{SlotState, Free, Armed, SlotStates, MeansRequest, HasBlockIfTrim, IsArmed, IsEmptySlot, IsOver, RelatesSlot}
+use Rattle.refinement.specs.MemoryLayout.{IsTableOrHeaderByteButPrdbc}
+use Rattle.refinement.specs.Slots.{SlotState, Free, Armed, SlotStates, MeansRequest, HasBlockIfTrim, IsArmedIfSt, IsEmptySlot, IsOver, RelatesSlot}
 use Rattle.refinement.specs.StartedPort.{ClearsNoStart}
 use Rattle.refinement.proofs.device.FactsOverAccesses.{access_steps, effect_keeps}
 use Rattle.refinement.proofs.steps.FollowedSteps.{steps_follow}
@@ -35,11 +35,11 @@ use Rattle.refinement.proofs.steps.UnusedSlots.{steps_leave}
 use Rattle.refinement.proofs.driver.UnusedOverCalls.{noted_memory, written_memory}
 use Rattle.refinement.proofs.device.PortControls.{spared}
 use Rattle.refinement.proofs.relation.SlotRelation.{told_on, placed_on}
-use Rattle.refinement.specs.ReadySlots.{IsStored, IsReadied, IsReadyToIssue}
+use Rattle.refinement.specs.ReadySlots.{IsStoredOnPortWithStSet, IsReadied, IsReadyToIssue}
 
 -- the same port, as far as the slot's bytes and ST go, and the same table
 stored_on : (old new : Device) (port slot : ℕ) (c : Meaning) (places : List ℕ) → (new.port port).st ≡ true → (new.port port).bases.clb ≡ (old.port port).bases.clb →
-    (port < 4 → slot < 32 → (at : ℕ) → IsHeaderOrTableByte port slot at → new.memory at ≡ old.memory at) → IsStored old port slot c places → IsStored new port slot c places
+    (port < 4 → slot < 32 → (at : ℕ) → IsTableOrHeaderByteButPrdbc port slot at → new.memory at ≡ old.memory at) → IsStoredOnPortWithStSet old port slot c places → IsStoredOnPortWithStSet new port slot c places
 stored_on old new port slot c places st list same x = record {
   st_is_set = st;
   list_is_in_place = placed_on (old.port port) (new.port port) port slot list x.list_is_in_place;
@@ -49,20 +49,20 @@ stored_on old new port slot c places st list same x = record {
 -- ---- the device's steps
 
 module _ (laws : StepLaws) (uses : SlotStates) (m : Machine) (port slot : ℕ) (c : Meaning) (places : List ℕ) (old new : Device) (reached : IsReachable m) (a : StateRelation uses m old) (off : old.hr ≡ false) (s : Steps old new) where
-  leaves : KeepsTablesAndScratch uses old new
+  leaves : KeepsTablesAndScratchUnlessOwn uses old new
   leaves = steps_leave uses m old new reached a off s
 
-  pub steps_stored : IsStored old port slot c places → IsStored new port slot c places
+  pub steps_stored : IsStoredOnPortWithStSet old port slot c places → IsStoredOnPortWithStSet new port slot c places
   steps_stored x =
       let k : KeepsOverSteps old new = laws.steps_keep _ _ s in
-      stored_on old new port slot c places (((k.keeps_outside_reset off).controls_are_kept port).st_is_kept ∙ x.st_is_set) (ap (λ (b : Bases). b.clb) (k.ports_are_kept port).bases_are_kept)
+      stored_on old new port slot c places (((k.keeps_outside_reset off).controls_are_kept port).st_is_kept ∙ x.st_is_set) (ap (λ (b : Bases). b.clb) (k.port_bits_only_fall port).bases_are_kept)
       (λ low small at t. leaves.tables port slot at low small t) x
 
 -- ---- an access
 
 -- what an access leaves of a slot's table, where it stores nothing there
 module _ (uses : SlotStates) (m : Machine) (port slot : ℕ) (old new : Device) (reached : IsReachable m) (a : StateRelation uses m old) (off : old.hr ≡ false) (low : port < 4) (small : slot < 32) where
-  access_tables : (access : Access) → ((from : ℕ) (bytes : List ℕ) → access ≡ Storing from bytes → MissesHeaderAndTable port slot from (length bytes)) → Does access old new → (at : ℕ) → IsHeaderOrTableByte port slot at → new.memory at ≡ old.memory at
+  access_tables : (access : Access) → ((from : ℕ) (bytes : List ℕ) → access ≡ Storing from bytes → MissesTableAndHeaderButPrdbc port slot from (length bytes)) → Does access old new → (at : ℕ) → IsTableOrHeaderByteButPrdbc port slot at → new.memory at ≡ old.memory at
   access_tables (Reading r v) misses x at t =
       ap (λ (d : Device). d.memory at) x.effect ∙ (ap (λ (f : ℕ → ℕ). f at) (noted_memory r v x.at_access) ∙ (steps_leave uses m old x.at_access reached a off x.steps).tables port slot at low small t)
   access_tables (Writing r v) misses x at t =
@@ -88,15 +88,15 @@ module _ (laws : StepLaws) (uses : SlotStates) (m : Machine) (port : Port) (slot
   started_by : (r : PortReg) (v : ℕ) → access ≡ Writing (Px port r) v → r ≡ Cmd → bit v 0 ≡ true
   started_by r v is e = keeps v (is ∙ ap (λ (w : PortReg). Writing (Px port w) v) e)
 
-  pub access_stored : ((at : ℕ) (bytes : List ℕ) → access ≡ Storing at bytes → MissesHeaderAndTable port.0 slot at (length bytes)) → Does access old new → IsStored old port.0 slot c places → IsStored new port.0 slot c places
+  pub access_stored : ((at : ℕ) (bytes : List ℕ) → access ≡ Storing at bytes → MissesTableAndHeaderButPrdbc port.0 slot at (length bytes)) → Does access old new → IsStoredOnPortWithStSet old port.0 slot c places → IsStoredOnPortWithStSet new port.0 slot c places
   access_stored misses x h =
       let s = access_steps access old new x in
-      let y : IsStored s.0 port.0 slot c places = steps_stored laws uses m port.0 slot c places old s.0 reached a off s.1 h in
+      let y : IsStoredOnPortWithStSet s.0 port.0 slot c places = steps_stored laws uses m port.0 slot c places old s.0 reached a off s.1 h in
       let k : KeepsOverSteps old s.0 = laws.steps_keep _ _ s.1 in
       let on : On (old.port port.0).bases.clb (new.port port.0) =
       effect_keeps (On (old.port port.0).bases.clb) port (λ p q v z. z) (λ p z. z) access old new x
       (λ q v mid is steps z. written_on_still (old.port port.0).bases.clb q v (length mid.tape) (mid.port port.0) (started_by q v is) (spared port q Clb access v spares is) z)
-      (y.st_is_set, ap (λ (b : Bases). b.clb) (k.ports_are_kept port.0).bases_are_kept) in
+      (y.st_is_set, ap (λ (b : Bases). b.clb) (k.port_bits_only_fall port.0).bases_are_kept) in
       stored_on old new port.0 slot c places on.0 on.1 (λ low small at t. access_tables uses m port.0 slot old new reached a off low small access misses x at t) h
 
 -- ---- the write of PxCI
@@ -109,7 +109,7 @@ record ReadyTo (queued : Bool) (p : DevicePort) (slot : ℕ) : Type 0 where
 served_ready : (m : Machine) (d : Device) (port slot : ℕ) (queued : Bool) (u : SlotState) → u ≡ (if queued then Armed else Free) → (d.port port).st ≡ true →
     RelatesSlot m d.memory d.tape (d.port port) port slot u → ReadyTo queued (d.port port) slot
 served_ready m d port slot true u e st served =
-    let h : IsArmed (d.port port) slot = subst (λ (w : SlotState). RelatesSlot m d.memory d.tape (d.port port) port slot w) e served in
+    let h : IsArmedIfSt (d.port port) slot = subst (λ (w : SlotState). RelatesSlot m d.memory d.tape (d.port port) port slot w) e served in
     record { over = record { is_not_issued = h.is_not_issued; is_not_taken = h.is_not_taken }; armed = h.armed ∙ st }
 served_ready m d port slot false u e st served =
     let h : IsEmptySlot (d.port port) slot = subst (λ (w : SlotState). RelatesSlot m d.memory d.tape (d.port port) port slot w) e served in
@@ -138,7 +138,7 @@ readied_permitted laws uses m d port v reached a on there st ready mid s =
       },
     )
   where
-    stays : (j : ℕ) (b : bit v j ≡ true) → IsStored mid port.0 j (ready j b).command (ready j b).places
+    stays : (j : ℕ) (b : bit v j ≡ true) → IsStoredOnPortWithStSet mid port.0 j (ready j b).command (ready j b).places
     stays j b = steps_stored laws uses m port.0 j (ready j b).command (ready j b).places d mid reached a on.no_reset s (ready j b).readied.stored
 
     slot_ready : (j : ℕ) (b : bit v j ≡ true) → ReadyTo (is_queued (ready j b).command.operation) (mid.port port.0) j

@@ -199,8 +199,8 @@ start_opens laws uses port v old new off on free clear quiet stopped call =
     let q : IsCleanToStart (call.at_access.port port.0) = steps_quiet port.0 old call.at_access call.steps quiet in
     let w : Open (port_after_fre_write (bit v 4) (port_after_st_write (bit v 0) (length call.at_access.tape) (call.at_access.port port.0))) =
     subst (λ (b : Bool). Open (port_after_fre_write (bit v 4) (port_after_st_write b (length call.at_access.tape) (call.at_access.port port.0)))) (sym on)
-    (subst (λ (x : DevicePort). Open (port_after_fre_write (bit v 4) x)) (sym (cond-false (call.at_access.port port.0).st (call.at_access.port port.0) _ ((k.ports_are_kept port.0).st_stays_clear stopped)))
-    (refl, (k.ports_are_kept port.0).sact_stays_clear 0 clear, q.no_link_is_due, inl q.is_stopped_tfes_clear.1)) in
+    (subst (λ (x : DevicePort). Open (port_after_fre_write (bit v 4) x)) (sym (cond-false (call.at_access.port port.0).st (call.at_access.port port.0) _ ((k.port_bits_only_fall port.0).st_stays_clear stopped)))
+    (refl, (k.port_bits_only_fall port.0).sact_stays_clear 0 clear, q.no_link_is_due, inl q.is_stopped_tfes_clear.1)) in
     let e : Open (new.port port.0) = subst Open (sym (ap (λ (d : Device). d.port port.0) call.effect ∙ changed_same call.at_access.port port.0 _)) w in
     record {
       hr_is_clear = ap (λ (d : Device). d.hr) call.effect ∙ (k.keeps_outside_reset off).no_reset;
@@ -236,5 +236,5 @@ pub open_well : (p : DevicePort) → RunsLinked p → p.halt ≡ NotHalted → p
 open_well p h ends clear n x quiet = well_of p (running_started p h ends) (record {
   serr_n_is_clear = n;
   serr_x_is_clear = x;
-  no_error_bit_is_set = λ place low up. ⊎_elim (λ (e : place ≡ 30). ap p.is e ∙ clear) (λ (ne : place ≡ 30 → ⊥). quiet place low (omega (arith, up, ne))) (cases_eq place 30);
+  bits_27_to_30_are_clear = λ place low up. ⊎_elim (λ (e : place ≡ 30). ap p.is e ∙ clear) (λ (ne : place ≡ 30 → ⊥). quiet place low (omega (arith, up, ne))) (cases_eq place 30);
 })

@@ -13,7 +13,7 @@ use Rattle.refinement.specs.StepLaws.{StepLaws}
 use Rattle.refinement.specs.Acts.{Act, AccessLeads, AreActsDone, accesses_of}
 use Rattle.refinement.specs.Driver.{DriverState, DriverRelation}
 use Rattle.refinement.specs.PreservedParts.{DoesNotWrite}
-use Rattle.refinement.specs.ReadySlots.{IsStored, KeepsStoredCommand}
+use Rattle.refinement.specs.ReadySlots.{IsStoredOnPortWithStSet, KeepsStoredCommand}
 use Rattle.refinement.proofs.device.AdapterOverAccesses.{access_on}
 use Rattle.refinement.proofs.driver.ActParts.{IsOfKind, acts_of_kind, done_keeps}
 use Rattle.refinement.proofs.driver.ReadySlot.{access_stored}
@@ -21,10 +21,10 @@ use Rattle.refinement.proofs.driver.ReadySlot.{access_stored}
 module _ (laws : StepLaws) (port : Port) (slot : ℕ) (c : Meaning) (places : List ℕ) where
   -- the adapter is on, and this is stored
   abbrev Holds : Device → Type 0
-  Holds d = IsOn d × IsStored d port.0 slot c places
+  Holds d = IsOn d × IsStoredOnPortWithStSet d port.0 slot c places
 
   pub done_stored : (acts : List Act) (k later : DriverState) (m : Machine) → IsReachable m → DriverRelation m k → AreActsDone acts k m later → All (KeepsStoredCommand port slot) (accesses_of acts) → IsOn k.device
-      → IsStored k.device port.0 slot c places → IsStored later.device port.0 slot c places
+      → IsStoredOnPortWithStSet k.device port.0 slot c places → IsStoredOnPortWithStSet later.device port.0 slot c places
   done_stored acts k later m reached x done all on stored = (done_keeps (λ (z : DriverState). Holds z.device) (λ act. IsOfKind (KeepsStoredCommand port slot) act.access)
       (λ z n act r knows is leaves. over z n act r knows act.access is.access_leads leaves) acts k later m reached x (acts_of_kind (KeepsStoredCommand port slot) acts all) done (on, stored)).1
     where

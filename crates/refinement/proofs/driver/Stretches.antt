@@ -24,7 +24,7 @@ use Rattle.refinement.specs.Acts.{Act, DriverSlots, IsActDone, driver_state_of_s
 use Rattle.refinement.specs.Driver.{DriverRelation, IsBackedByDeviceAlone, KeepsSlotStates, MayStore, IsOwnPrepared}
 use Rattle.refinement.specs.Fragments.{driver_state_of, AnySlotStates, IsDrivenBy, IsSimulated, IsSimulatedChangingUses, IsSimulatedAlong, IsSimulatedAlongChangingUses, NoneWrites, GainsNoMove}
 use Rattle.refinement.specs.PreservedParts.{DoesNotWrite}
-use Rattle.refinement.specs.HaltRecovery.{WorksPlainly}
+use Rattle.refinement.specs.HaltRecovery.{WorksOnUnqueuedCommandsOnly}
 use Rattle.refinement.specs.Relation.{port_at}
 use Rattle.refinement.specs.Slots.{SlotState, Own, SlotStates, set_slot_state, client_operation_of}
 use Rattle.refinement.proofs.driver.ActParts.{accesses_append, steps_append, all_acts, done_more, done_goes, done_plain, done_silent, done_uses}
@@ -243,7 +243,7 @@ followed_silent laws {May} {Fits} {next} {old} {new} a uses parked m fits reache
 -- a port that works on plain commands alone, and whose PxSACT isn't written
 pub followed_plain : StepLaws → {May : Access → Type 0} {Fits : SlotStates → Type 0} {next : SlotStates → SlotStates} {old new : Device} → IsSimulatedChangingUses May Fits next old new →
     (uses : SlotStates) (parked : ℕ → List RequestId) (m : Machine) → Fits uses → IsReachable m → DriverRelation m (driver_state_of uses parked old) → (port : Port) → NoneWrites May (Px port Sact) →
-    WorksPlainly (old.port port.0) → WorksPlainly (new.port port.0)
+    WorksOnUnqueuedCommandsOnly (old.port port.0) → WorksOnUnqueuedCommandsOnly (new.port port.0)
 followed_plain laws {May} {Fits} {next} {old} {new} a uses parked m fits reached x port arms =
     let c = a.acts_reach (record { slot_states = uses; awaiting_disposition = parked }) m reached x fits in
     let spares = All-weaker May (DoesNotWrite (Px port Sact)) arms a.is_driven.accesses a.is_driven.accesses_are_of_kind in

@@ -55,7 +55,7 @@ module _ (laws : StepLaws) (port : ℕ) (o : Operation) where
   leads_unmoving (step ∷ steps) old new none (can, lead) =
       let k : KeepsOverSteps old (device_after step old) = laws.one_step_keeps step _ can in
       gains_more (IsMove port o) old (device_after step old) new (step_unmoving old none step can)
-      (leads_unmoving steps (device_after step old) new (λ slot. record { is_not_issued = (k.ports_are_kept port).ci_stays_clear slot (none slot).is_not_issued; is_not_taken = (k.ports_are_kept port).slots_stay_free slot (none slot).is_not_issued (none slot).is_not_taken }) lead)
+      (leads_unmoving steps (device_after step old) new (λ slot. record { is_not_issued = (k.port_bits_only_fall port).ci_stays_clear slot (none slot).is_not_issued; is_not_taken = (k.port_bits_only_fall port).slots_stay_free slot (none slot).is_not_issued (none slot).is_not_taken }) lead)
 
   pub steps_unmoving : (old new : Device) → HasNoCommand (old.port port) → Steps old new → GainsNone (IsMove port o) old new
   steps_unmoving old new none s = leads_unmoving s.steps old new none s.lead

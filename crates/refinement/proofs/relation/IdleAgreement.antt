@@ -7,9 +7,9 @@ use Rattle.ata_types.specs.declared.grant.GrantRow.{GrantRow}
 use Rattle.ata_types.specs.declared.request.ClientId.{ClientId}
 use Rattle.ata_types.specs.declared.request.Frame.{Frame}
 use Rattle.adapter.specs.Device.{Device, DurableState}
-use Rattle.adapter.specs.Steps.{WereHeld, bytes_put_into}
+use Rattle.adapter.specs.Steps.{WereHeldSinceFlush, bytes_put_into}
 use Rattle.adapter.specs.declared.tape.Entry.{Entry}
-use Rattle.adapter.specs.Idle.{IsIdle, TellsDisks}
+use Rattle.adapter.specs.Idle.{IsIdle, DisksAreKnownIfTelling}
 use Rattle.block_machine.specs.State.{Block, DiskBytes, Machine}
 use Rattle.block_machine.specs.Expected.{IsInitial}
 use Rattle.refinement.specs.Slots.{Free, Serves}
@@ -31,7 +31,7 @@ in_blocks port k (e ∷ es) entry bytes here is = by (λ (c : Contains es entry)
     by rest zero lt at = Contains-append_left (optional_block (bytes_put_into port k e)) (blocks_put port k es) (slice_index bytes) (in_block (bytes_put_into port k e) bytes (ap (bytes_put_into port k) at ∙ is))
     by rest (suc i) lt at = Contains-append_right (optional_block (bytes_put_into port k e)) (blocks_put port k es) (slice_index bytes) (rest (i, omega (arith, lt), at))
 
-returns : (tape : List Entry) (lasting : DurableState) (port k : ℕ) (bytes : List ℕ) → WereHeld tape lasting port k bytes → Contains (replug_candidates tape lasting port k) (slice_index bytes)
+returns : (tape : List Entry) (lasting : DurableState) (port k : ℕ) (bytes : List ℕ) → WereHeldSinceFlush tape lasting port k bytes → Contains (replug_candidates tape lasting port k) (slice_index bytes)
 returns tape lasting port k bytes (inl is) = Contains-append_left (optional_block (option_map (λ (sectors : ℕ → List ℕ). sectors k) lasting.sectors)) (blocks_put port k (drop lasting.tape_length tape)) (slice_index bytes)
     (in_block (option_map (λ (sectors : ℕ → List ℕ). sectors k) lasting.sectors) bytes is)
 returns tape lasting port k bytes (inr (entry, here, is)) = Contains-append_right (optional_block (option_map (λ (sectors : ℕ → List ℕ). sectors k) lasting.sectors)) (blocks_put port k (drop lasting.tape_length tape)) (slice_index bytes)
@@ -43,13 +43,13 @@ idle_knows m d s i disk memory sectors aside = record {
   state_relation = record {
     relates_slots = λ q k. record { is_not_issued = (i.ports_are_idle q).ci_is_clear k; is_not_taken = (i.ports_are_idle q).none_is_taken k; unarmed = (i.ports_are_idle q).sact_is_clear k };
     serve_distinct_requests = λ q k q' k' id u v. absurd (let z : Free ≡ Serves id = u in cc);
-    received_areas_are_placed = λ q f. true_false f (i.ports_are_idle q).fre_is_clear;
+    received_areas_in_use_are_placed = λ q f. true_false f (i.ports_are_idle q).fre_is_clear;
     disks_are_same = disk;
     client_frames_are_same = memory;
-    sectors_are_same = sectors;
-    holds_replug_candidates = λ t port k inside bytes w. inr (slice_index bytes, subst (λ (l : List Block). Contains l (slice_index bytes)) (sym (aside t port k)) (returns d.tape (d.port port).lasting port k bytes w), λ b lb. refl);
+    sectors_are_same_if_disks_tell = sectors;
+    holds_replug_candidates_if_disks_tell = λ t port k inside bytes w. inr (slice_index bytes, subst (λ (l : List Block). Contains l (slice_index bytes)) (sym (aside t port k)) (returns d.tape (d.port port).lasting port k bytes w), λ b lb. refl);
   };
-  have_slots = λ q e may at_port. ⊎_elim
+  have_slots_unless_parked = λ q e may at_port. ⊎_elim
       (λ z. absurd (All-contains (λ _. ⊥) [] e (All-nil (λ _. ⊥)) (subst (λ es. Contains es e) s.book_is_empty z.0)))
       (λ z. absurd (All-contains (λ _. ⊥) [] e (All-nil (λ _. ⊥)) (subst (λ es. Contains es e) s.none_is_kept z)))
       may;
@@ -80,7 +80,7 @@ machine_of d rows owner = record {
 }
 
 pub machine_knows : (d : Device) (rows : List GrantRow) (owner : Frame → Option ClientId) → IsInitial (machine_of d rows owner) → IsIdle d
-    → TellsDisks d → DriverRelation (machine_of d rows owner) (idle_driver_state d)
+    → DisksAreKnownIfTelling d → DriverRelation (machine_of d rows owner) (idle_driver_state d)
 machine_knows d rows owner start is told =
     idle_knows (machine_of d rows owner) d start is (λ q. record { present = refl; id = refl; sector_count = refl }) (λ f b low small. refl) sectors (λ _ port k. refl)
   where
@@ -102,7 +102,7 @@ unowned_starts d = record {
   owned_frames_are_clients = λ frame client (e : None ≡ Some client). absurd (cc);
 }
 
-pub idle_agrees : (d : Device) → IsIdle d → TellsDisks d → SomeMachineAgrees (λ port slot. Free) d
+pub idle_agrees : (d : Device) → IsIdle d → DisksAreKnownIfTelling d → SomeMachineAgrees (λ port slot. Free) d
 idle_agrees d is told = record {
   machine = machine_of d [] (λ frame. None);
   parked = λ port. [];

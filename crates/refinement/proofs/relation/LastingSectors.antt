@@ -10,7 +10,7 @@ use Rattle.ata_types.specs.declared.request.Op.{Op}
 use Rattle.ata_types.specs.declared.request.Op.TheVariants.{Read, Write, Trim, Flush}
 use Rattle.adapter.specs.Commands.{is_ranged, reads_memory}
 use Rattle.adapter.specs.Device.{Disk, DurableState, DevicePort, FetchedCommand}
-use Rattle.adapter.specs.Steps.{WereHeld, bytes_put_into, lasting_after, lasting_after_plug, port_after_flush, next_sector, move_of, clear_entry}
+use Rattle.adapter.specs.Steps.{WereHeldSinceFlush, bytes_put_into, lasting_after, lasting_after_plug, port_with_lasting_after_operation, next_sector, move_of, clear_entry}
 use Rattle.adapter.specs.declared.command.Operation.{Operation}
 use Rattle.adapter.specs.declared.command.Operation.TheVariants as operation
 use Rattle.adapter.specs.declared.tape.Entry.{Entry}
@@ -130,8 +130,8 @@ quiet_move port slot t bytes none q k =
 
 -- what a sector of the port may come back with by the longer tape, it might by the shorter one; or the machine's disk holds it now, or has held it
 abbrev pub Gains : List Entry → List Entry → Machine → ℕ → Type 0
-Gains earlier later m port = (l : DurableState) (k : ℕ) (bytes : List ℕ) → WereHeld later l port k bytes
-    → WereHeld earlier l port k bytes ⊎ HoldsOrHeldSinceFlush m (port_at port) k (slice_index bytes)
+Gains earlier later m port = (l : DurableState) (k : ℕ) (bytes : List ℕ) → WereHeldSinceFlush later l port k bytes
+    → WereHeldSinceFlush earlier l port k bytes ⊎ HoldsOrHeldSinceFlush m (port_at port) k (slice_index bytes)
 
 pub gains_none : (tape : List Entry) (m : Machine) (port : ℕ) → Gains tape tape m port
 gains_none tape m port l k bytes w = inl w
@@ -161,14 +161,14 @@ pub lasting_on : (m m' : Machine) (earlier later : List Entry) (p new : DevicePo
 lasting_on m m' earlier later p new port same size keeps gains h k inside bytes w = ⊎_elim
     (λ before. keeps k (slice_index bytes) (h k (subst (λ (n : ℕ). k < n) size inside) bytes before))
     (λ now. now)
-    (gains p.lasting k bytes (subst (λ (l : DurableState). WereHeld later l port k bytes) same w))
+    (gains p.lasting k bytes (subst (λ (l : DurableState). WereHeldSinceFlush later l port k bytes) same w))
 
 -- what is lasting is what the disk holds now, and nothing was put since
 lasting_now : (m : Machine) (tape : List Entry) (e : Entry) (disk : Disk) (new : DevicePort) (port : ℕ) → IsQuiet e → new.lasting ≡ record { sectors = disk.sectors; tape_length = length tape }
     → new.disk.sector_count ≡ disk.sector_count → SameSectors m disk port → HoldsReplugCandidates m (tape ++ e ∷ []) new port
-lasting_now m tape e disk new port quiet is size s k inside bytes w = by (subst (λ (l : DurableState). WereHeld (tape ++ e ∷ []) l port k bytes) is w)
+lasting_now m tape e disk new port quiet is size s k inside bytes w = by (subst (λ (l : DurableState). WereHeldSinceFlush (tape ++ e ∷ []) l port k bytes) is w)
   where
-    by : WereHeld (tape ++ e ∷ []) (record { sectors = disk.sectors; tape_length = length tape }) port k bytes → HoldsOrHeldSinceFlush m (port_at port) k (slice_index bytes)
+    by : WereHeldSinceFlush (tape ++ e ∷ []) (record { sectors = disk.sectors; tape_length = length tape }) port k bytes → HoldsOrHeldSinceFlush m (port_at port) k (slice_index bytes)
     by (inl now) =
         let tells : Some (s.told_sectors k) ≡ Some bytes = ap (option_map (λ (sectors : ℕ → List ℕ). sectors k)) (sym s.disk_tells) ∙ now in
         inl (λ b lb. ap (λ (l : List ℕ). slice_index l b) (sym (same_Some (s.told_sectors k) bytes tells)) ∙ s.bytes_are_same k b (subst (λ (n : ℕ). k < n) size inside) lb)
@@ -231,21 +231,21 @@ gains_clear tape m port slot first count q now = gains_put tape (clear_entry por
 -- A command is ended: what the disk holds is lasting if it is a flush, and else what was so before.
 module _ (m : Machine) (e : Pending) (tape : List Entry) (last : Entry) (quiet : IsQuiet last) where
   pub lasting_ended : (p : DevicePort) (port : ℕ) (o : Operation) → client_operation_of o ≡ Some e.request.asked.op → SameSectors m p.disk port → HoldsReplugCandidates m tape p port
-      → HoldsReplugCandidates (after_step m (End e)) (tape ++ last ∷ []) (port_after_flush p o (length tape)) port
+      → HoldsReplugCandidates (after_step m (End e)) (tape ++ last ∷ []) (port_with_lasting_after_operation p o (length tape)) port
   lasting_ended p port o is s h = by o is
     where
       other : (o : Operation) (op : Op) → is_flush op ≡ false → Some op ≡ Some e.request.asked.op → lasting_after o p.lasting p.disk (length tape) ≡ p.lasting
-          → HoldsReplugCandidates (after_step m (End e)) (tape ++ last ∷ []) (port_after_flush p o (length tape)) port
+          → HoldsReplugCandidates (after_step m (End e)) (tape ++ last ∷ []) (port_with_lasting_after_operation p o (length tape)) port
       other o op plain is same =
-          lasting_on m (after_step m (End e)) tape (tape ++ last ∷ []) p (port_after_flush p o (length tape)) port same refl
+          lasting_on m (after_step m (End e)) tape (tape ++ last ∷ []) p (port_with_lasting_after_operation p o (length tape)) port same refl
           (λ k b held. held_ended m e (port_at port) k b (ap (λ (b : Bool). (e.request.port.0 == port) && b) (ap is_flush (sym (same_Some op e.request.asked.op is)) ∙ plain) ∙ and_false (e.request.port.0 == port)) held)
           (gains_quiet tape last (after_step m (End e)) port quiet) h
 
       no_op : {A : Type 0} → None ≡ Some e.request.asked.op → A
       no_op z = absurd cc
 
-      by : (o : Operation) → client_operation_of o ≡ Some e.request.asked.op → HoldsReplugCandidates (after_step m (End e)) (tape ++ last ∷ []) (port_after_flush p o (length tape)) port
-      by operation.Flush is = lasting_now (after_step m (End e)) tape last p.disk (port_after_flush p operation.Flush (length tape)) port quiet refl refl (record { told_sectors = s.told_sectors; disk_tells = s.disk_tells; bytes_are_same = s.bytes_are_same })
+      by : (o : Operation) → client_operation_of o ≡ Some e.request.asked.op → HoldsReplugCandidates (after_step m (End e)) (tape ++ last ∷ []) (port_with_lasting_after_operation p o (length tape)) port
+      by operation.Flush is = lasting_now (after_step m (End e)) tape last p.disk (port_with_lasting_after_operation p operation.Flush (length tape)) port quiet refl refl (record { told_sectors = s.told_sectors; disk_tells = s.disk_tells; bytes_are_same = s.bytes_are_same })
       by operation.Read is = other operation.Read Read refl is refl
       by operation.ReadQueued is = other operation.ReadQueued Read refl is refl
       by operation.Write is = other operation.Write Write refl is refl
@@ -263,9 +263,9 @@ module _ (m : Machine) (e : Pending) (tape : List Entry) (last : Entry) (quiet :
 
 -- a page command is ended: it is no flush
 pub lasting_read : (m : Machine) (tape : List Entry) (last : Entry) (p : DevicePort) (port : ℕ) (o : Operation) → IsQuiet last → client_operation_of o ≡ None → HoldsReplugCandidates m tape p port
-    → HoldsReplugCandidates m (tape ++ last ∷ []) (port_after_flush p o (length tape)) port
+    → HoldsReplugCandidates m (tape ++ last ∷ []) (port_with_lasting_after_operation p o (length tape)) port
 lasting_read m tape last p port o quiet none h =
-    lasting_on m m tape (tape ++ last ∷ []) p (port_after_flush p o (length tape)) port (by o none) refl (λ k b held. held) (gains_quiet tape last m port quiet) h
+    lasting_on m m tape (tape ++ last ∷ []) p (port_with_lasting_after_operation p o (length tape)) port (by o none) refl (λ k b held. held) (gains_quiet tape last m port quiet) h
   where
     some_op : {A : Type 0} (op : Op) → Some op ≡ None → A
     some_op op z = absurd cc

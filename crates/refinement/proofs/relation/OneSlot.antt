@@ -50,8 +50,8 @@ pub acted : (Except : ℕ → Type 0) (uses : SlotStates) (m m' : Machine) (d : 
 acted Except uses m m' d a memory' later port slot new x = record {
   relates_slots = slots_after Except uses m m' d a memory' later x.fixed port slot new x.others x.only x.moves x.here;
   serve_distinct_requests = a.serve_distinct_requests;
-  received_areas_are_placed = changed_at d.port port new (λ q p. p.fre ≡ true → HasReceivedArea p q)
-      (λ f. let r = a.received_areas_are_placed port (sym x.fre ∙ f) in record { port_is_below_4 = r.port_is_below_4; area_is_in_place = x.received_at ∙ r.area_is_in_place }) (λ q _. a.received_areas_are_placed q);
+  received_areas_in_use_are_placed = changed_at d.port port new (λ q p. p.fre ≡ true → HasReceivedArea p q)
+      (λ f. let r = a.received_areas_in_use_are_placed port (sym x.fre ∙ f) in record { port_is_below_4 = r.port_is_below_4; area_is_in_place = x.received_at ∙ r.area_is_in_place }) (λ q _. a.received_areas_in_use_are_placed q);
   disks_are_same = changed_at d.port port new (λ q p. IsDiskOf m' p q)
       (record {
         present = x.goes.present (port_at port) ∙ (a.disks_are_same port).present ∙ sym x.present;
@@ -64,8 +64,8 @@ acted Except uses m m' d a memory' later port slot new x = record {
         sector_count = x.goes.sizes (port_at q) ∙ (a.disks_are_same q).sector_count;
       });
   client_frames_are_same = x.memory;
-  sectors_are_same = λ t. changed_at d.port port new (λ q p. SameSectors m' p.disk q) (x.sectors t) (x.other_sectors t);
-  holds_replug_candidates = λ t. changed_at d.port port new (λ q p. HoldsReplugCandidates m' later p q) (x.lasting t) (x.other_lasting t);
+  sectors_are_same_if_disks_tell = λ t. changed_at d.port port new (λ q p. SameSectors m' p.disk q) (x.sectors t) (x.other_sectors t);
+  holds_replug_candidates_if_disks_tell = λ t. changed_at d.port port new (λ q p. HoldsReplugCandidates m' later p q) (x.lasting t) (x.other_lasting t);
 }
 
 -- another slot's request is another

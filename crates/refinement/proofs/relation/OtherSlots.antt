@@ -7,7 +7,7 @@ use Rattle.adapter.specs.Memory.{patched, changed}
 use Rattle.adapter.specs.Commands.{is_queued}
 use Rattle.adapter.specs.Device as device
 use Rattle.adapter.specs.Device.{HasKnownSectors, DurableState, FetchedCommand, DevicePort, Device}
-use Rattle.adapter.specs.Steps.{device_after, MayScribble, port_after_reset, IsReplugOf, WereHeld, lasting_after_plug}
+use Rattle.adapter.specs.Steps.{device_after, MayScribble, port_after_reset, IsReplugOf, WereHeldSinceFlush, lasting_after_plug}
 use Rattle.adapter.specs.Steps.DeviceTransition.{Fault, Fatal, Fall, FrFall, LinkUp, Unplug, Plug, ResetEnds, Scribble}
 use Rattle.adapter.specs.declared.command.Operation.{Operation}
 use Rattle.adapter.specs.declared.tape.Entry.{Entry}
@@ -72,8 +72,8 @@ module _ (uses : SlotStates) (m : Machine) (d : Device) (a : StateRelation uses 
   empty_port port new later fixed gains q = record {
     relates_slots = slots_quiet uses m m d a d.memory later fixed port new q.slots (λ id e _ r. r);
     serve_distinct_requests = a.serve_distinct_requests;
-    received_areas_are_placed = changed_at d.port port new (λ k p. p.fre ≡ true → HasReceivedArea p k)
-        (λ f. let r = a.received_areas_are_placed port (sym q.fre ∙ f) in record { port_is_below_4 = r.port_is_below_4; area_is_in_place = q.received_at ∙ r.area_is_in_place }) (λ k _. a.received_areas_are_placed k);
+    received_areas_in_use_are_placed = changed_at d.port port new (λ k p. p.fre ≡ true → HasReceivedArea p k)
+        (λ f. let r = a.received_areas_in_use_are_placed port (sym q.fre ∙ f) in record { port_is_below_4 = r.port_is_below_4; area_is_in_place = q.received_at ∙ r.area_is_in_place }) (λ k _. a.received_areas_in_use_are_placed k);
     disks_are_same = changed_at d.port port new (λ k p. IsDiskOf m p k)
         (record {
           present = (a.disks_are_same port).present ∙ sym q.present;
@@ -82,10 +82,10 @@ module _ (uses : SlotStates) (m : Machine) (d : Device) (a : StateRelation uses 
         })
         (λ k _. a.disks_are_same k);
     client_frames_are_same = a.client_frames_are_same;
-    sectors_are_same = λ t. changed_at d.port port new (λ k p. SameSectors m p.disk k) (subst (λ (x : device.Disk × DurableState). SameSectors m x.0 port) (sym q.disk) (a.sectors_are_same t port)) (λ k _. a.sectors_are_same t k);
-    holds_replug_candidates = λ t. changed_at d.port port new (λ k p. HoldsReplugCandidates m later p k)
-        (lasting_on m m d.tape later (d.port port) new port (ap (λ (x : device.Disk × DurableState). x.1) q.disk) (ap (λ (x : device.Disk × DurableState). x.0.sector_count) q.disk) (λ _ _ h. h) (gains port) (a.holds_replug_candidates t port))
-        (λ k _. lasting_on m m d.tape later (d.port k) (d.port k) k refl refl (λ _ _ h. h) (gains k) (a.holds_replug_candidates t k));
+    sectors_are_same_if_disks_tell = λ t. changed_at d.port port new (λ k p. SameSectors m p.disk k) (subst (λ (x : device.Disk × DurableState). SameSectors m x.0 port) (sym q.disk) (a.sectors_are_same_if_disks_tell t port)) (λ k _. a.sectors_are_same_if_disks_tell t k);
+    holds_replug_candidates_if_disks_tell = λ t. changed_at d.port port new (λ k p. HoldsReplugCandidates m later p k)
+        (lasting_on m m d.tape later (d.port port) new port (ap (λ (x : device.Disk × DurableState). x.1) q.disk) (ap (λ (x : device.Disk × DurableState). x.0.sector_count) q.disk) (λ _ _ h. h) (gains port) (a.holds_replug_candidates_if_disks_tell t port))
+        (λ k _. lasting_on m m d.tape later (d.port k) (d.port k) k refl refl (λ _ _ h. h) (gains k) (a.holds_replug_candidates_if_disks_tell t k));
   }
 
   -- no entry
@@ -147,7 +147,7 @@ module _ (uses : SlotStates) (m : Machine) (d : Device) (a : StateRelation uses 
     where
       received : (((d.port port).bases.fb ≤ at) × (at + length bytes ≤ (d.port port).bases.fb + 256)) → MayChange NoPort at (length bytes) × (at + length bytes ≤ DRIVER_BYTES)
       received x =
-          let r = a.received_areas_are_placed port s.fre_is_set in
+          let r = a.received_areas_in_use_are_placed port s.fre_is_set in
           (inl (record { port = port; below = r.port_is_below_4; from = omega (arith, r.area_is_in_place, x.0); to = omega (arith, r.area_is_in_place, x.1) }), omega (arith, r.area_is_in_place, x.1, r.port_is_below_4))
 
       placed_count : HasListInPlace (d.port port) port slot → at ≡ (d.port port).bases.clb + 32 * slot + 4 → length bytes ≡ 4 → MayChange NoPort at (length bytes) × (at + length bytes ≤ DRIVER_BYTES)
@@ -171,11 +171,11 @@ module _ (uses : SlotStates) (m : Machine) (d : Device) (a : StateRelation uses 
       silent _ refl refl (λ q. refl) (record {
         relates_slots = λ q k. slot_on NoPort uses m m d a (patched d.memory at bytes) d.tape fixed q k (d.port q) (SameSlot-refl (d.port q) k) (λ _ x. x) (λ id u e _ r. r);
         serve_distinct_requests = a.serve_distinct_requests;
-        received_areas_are_placed = a.received_areas_are_placed;
+        received_areas_in_use_are_placed = a.received_areas_in_use_are_placed;
         disks_are_same = a.disks_are_same;
         client_frames_are_same = memory_low m d.memory at bytes may.1 a.client_frames_are_same;
-        sectors_are_same = a.sectors_are_same;
-        holds_replug_candidates = a.holds_replug_candidates;
+        sectors_are_same_if_disks_tell = a.sectors_are_same_if_disks_tell;
+        holds_replug_candidates_if_disks_tell = a.holds_replug_candidates_if_disks_tell;
       })
 
   -- ---- the engine stops
@@ -219,7 +219,7 @@ module _ (uses : SlotStates) (m : Machine) (d : Device) (a : StateRelation uses 
       stage (inl w) = true_false w.started st
       stage (inr (inl t)) = inr (inr (inr (record {
         st_is_clear = st;
-        is_not_issued = t.ci_is_set_while_plain ∙ ap (λ (b : Bool). b && not (is_queued h.command.operation)) st;
+        is_not_issued = t.ci_is_set_iff_st_and_plain ∙ ap (λ (b : Bool). b && not (is_queued h.command.operation)) st;
         sact_is_clear = t.sact ∙ ap (λ (b : Bool). b && is_queued h.command.operation) st;
         is_not_taken = refl;
         unended = t.unended;
@@ -231,11 +231,11 @@ module _ (uses : SlotStates) (m : Machine) (d : Device) (a : StateRelation uses 
   fall_follows port st = silent _ refl refl (same_plugged d port _ refl) (record {
     relates_slots = λ q k. changed_at d.port port _ (λ x p. RelatesSlot m d.memory d.tape p x k (uses x k)) (fall_slot port k (uses port k) st (a.relates_slots port k)) (λ x _. a.relates_slots x k) q;
     serve_distinct_requests = a.serve_distinct_requests;
-    received_areas_are_placed = changed_at d.port port _ (λ k p. p.fre ≡ true → HasReceivedArea p k) (λ f. let r = a.received_areas_are_placed port f in record { port_is_below_4 = r.port_is_below_4; area_is_in_place = r.area_is_in_place }) (λ k _. a.received_areas_are_placed k);
+    received_areas_in_use_are_placed = changed_at d.port port _ (λ k p. p.fre ≡ true → HasReceivedArea p k) (λ f. let r = a.received_areas_in_use_are_placed port f in record { port_is_below_4 = r.port_is_below_4; area_is_in_place = r.area_is_in_place }) (λ k _. a.received_areas_in_use_are_placed k);
     disks_are_same = changed_at d.port port _ (λ k p. IsDiskOf m p k) (let x = a.disks_are_same port in record { present = x.present; id = x.id; sector_count = x.sector_count }) (λ k _. a.disks_are_same k);
     client_frames_are_same = a.client_frames_are_same;
-    sectors_are_same = λ t. changed_at d.port port _ (λ k p. SameSectors m p.disk k) (a.sectors_are_same t port) (λ k _. a.sectors_are_same t k);
-    holds_replug_candidates = λ t. changed_at d.port port _ (λ k p. HoldsReplugCandidates m d.tape p k) (a.holds_replug_candidates t port) (λ k _. a.holds_replug_candidates t k);
+    sectors_are_same_if_disks_tell = λ t. changed_at d.port port _ (λ k p. SameSectors m p.disk k) (a.sectors_are_same_if_disks_tell t port) (λ k _. a.sectors_are_same_if_disks_tell t k);
+    holds_replug_candidates_if_disks_tell = λ t. changed_at d.port port _ (λ k p. HoldsReplugCandidates m d.tape p k) (a.holds_replug_candidates_if_disks_tell t port) (λ k _. a.holds_replug_candidates_if_disks_tell t k);
   })
 
   reset_slot : (port k : ℕ) (u : SlotState) → RelatesSlot m d.memory d.tape (d.port port) port k u → RelatesSlot m d.memory d.tape (port_after_reset (d.port port)) port k u
@@ -279,11 +279,11 @@ module _ (uses : SlotStates) (m : Machine) (d : Device) (a : StateRelation uses 
   reset_follows = silent _ refl refl (λ q. refl) (record {
     relates_slots = λ q k. reset_slot q k (uses q k) (a.relates_slots q k);
     serve_distinct_requests = a.serve_distinct_requests;
-    received_areas_are_placed = λ q f. absurd (let e : false ≡ true = f in cc);
+    received_areas_in_use_are_placed = λ q f. absurd (let e : false ≡ true = f in cc);
     disks_are_same = λ q. let x = a.disks_are_same q in record { present = x.present; id = x.id; sector_count = x.sector_count };
     client_frames_are_same = a.client_frames_are_same;
-    sectors_are_same = λ t q. a.sectors_are_same t q;
-    holds_replug_candidates = λ t q. a.holds_replug_candidates t q;
+    sectors_are_same_if_disks_tell = λ t q. a.sectors_are_same_if_disks_tell t q;
+    holds_replug_candidates_if_disks_tell = λ t q. a.holds_replug_candidates_if_disks_tell t q;
   })
 
   -- ---- disks come and go
@@ -303,7 +303,7 @@ module _ (uses : SlotStates) (m : Machine) (d : Device) (a : StateRelation uses 
         state_relation = record {
           relates_slots = slots_quiet uses m m' d a d.memory _ (fixed_more uses d.memory d.tape _ (λ q o u x. x)) port _ (λ k. record { issued = refl; sact = refl; taken = refl; st = refl; cr = refl; since = refl; list = refl }) (λ id e _ r. r);
           serve_distinct_requests = a.serve_distinct_requests;
-          received_areas_are_placed = changed_at d.port port _ (λ k p. p.fre ≡ true → HasReceivedArea p k) (λ f. let r = a.received_areas_are_placed port f in record { port_is_below_4 = r.port_is_below_4; area_is_in_place = r.area_is_in_place }) (λ k _. a.received_areas_are_placed k);
+          received_areas_in_use_are_placed = changed_at d.port port _ (λ k p. p.fre ≡ true → HasReceivedArea p k) (λ f. let r = a.received_areas_in_use_are_placed port f in record { port_is_below_4 = r.port_is_below_4; area_is_in_place = r.area_is_in_place }) (λ k _. a.received_areas_in_use_are_placed k);
           disks_are_same = changed_at d.port port _ (λ k p. IsDiskOf m' p k)
               (record {
                 present = cond-true (port == port) false (m.present (port_at port)) (eq-eqb port port refl);
@@ -316,10 +316,10 @@ module _ (uses : SlotStates) (m : Machine) (d : Device) (a : StateRelation uses 
                 sector_count = (a.disks_are_same k).sector_count;
               });
           client_frames_are_same = a.client_frames_are_same;
-          sectors_are_same = λ t. changed_at d.port port _ (λ k p. SameSectors m' p.disk k) (sectors_on m m' (d.port port).disk port (λ k b lb. refl) (a.sectors_are_same t port)) (λ k _. sectors_on m m' (d.port k).disk k (λ s b lb. refl) (a.sectors_are_same t k));
-          holds_replug_candidates = λ t. changed_at d.port port _ (λ k p. HoldsReplugCandidates m' (d.tape ++ entry.Unplug (port_at port) ∷ []) p k)
-              (lasting_on m m' d.tape _ (d.port port) (d.port port) port refl refl (λ _ _ h. h) (gains_quiet d.tape _ m' port (λ _ _. refl)) (a.holds_replug_candidates t port))
-              (λ k _. lasting_on m m' d.tape _ (d.port k) (d.port k) k refl refl (λ _ _ h. h) (gains_quiet d.tape _ m' k (λ _ _. refl)) (a.holds_replug_candidates t k));
+          sectors_are_same_if_disks_tell = λ t. changed_at d.port port _ (λ k p. SameSectors m' p.disk k) (sectors_on m m' (d.port port).disk port (λ k b lb. refl) (a.sectors_are_same_if_disks_tell t port)) (λ k _. sectors_on m m' (d.port k).disk k (λ s b lb. refl) (a.sectors_are_same_if_disks_tell t k));
+          holds_replug_candidates_if_disks_tell = λ t. changed_at d.port port _ (λ k p. HoldsReplugCandidates m' (d.tape ++ entry.Unplug (port_at port) ∷ []) p k)
+              (lasting_on m m' d.tape _ (d.port port) (d.port port) port refl refl (λ _ _ h. h) (gains_quiet d.tape _ m' port (λ _ _. refl)) (a.holds_replug_candidates_if_disks_tell t port))
+              (λ k _. lasting_on m m' d.tape _ (d.port k) (d.port k) k refl refl (λ _ _ h. h) (gains_quiet d.tape _ m' k (λ _ _. refl)) (a.holds_replug_candidates_if_disks_tell t k));
         };
       }
 
@@ -341,12 +341,12 @@ module _ (uses : SlotStates) (m : Machine) (d : Device) (a : StateRelation uses 
             ∙ ap (λ (f : DiskBytes). f k b) (sym (cond-true (port == port) content (m.disk_bytes (port_at port)) (eq-eqb port port refl)));
       }) in
       let comes_back : (d.telling ≡ true → IsReplugOf d port disk → (k : ℕ) → k < disk.sector_count → HoldsOrHeldSinceFlush m (port_at port) k (content k)) = (λ t that k inside.
-      let s = a.sectors_are_same t port in
+      let s = a.sectors_are_same_if_disks_tell t port in
       let told = tells t in
       subst (λ (o : Option (ℕ → List ℕ)). HoldsOrHeldSinceFlush m (port_at port) k (content_of o k)) (sym told.1)
       (⊎_elim
       (λ (now : told.0 k ≡ s.told_sectors k). inl (λ b lb. ap (λ (l : List ℕ). slice_index l b) now ∙ s.bytes_are_same k b (subst (λ (n : ℕ). k < n) that.size inside) lb))
-      (λ (was : WereHeld d.tape (d.port port).lasting port k (told.0 k)). a.holds_replug_candidates t port k (subst (λ (n : ℕ). k < n) that.size inside) (told.0 k) was)
+      (λ (was : WereHeldSinceFlush d.tape (d.port port).lasting port k (told.0 k)). a.holds_replug_candidates_if_disks_tell t port k (subst (λ (n : ℕ). k < n) that.size inside) (told.0 k) was)
       (that.holds s.told_sectors told.0 s.disk_tells told.1 k inside))) in
       record {
         steps = machine.Replace (port_at port) disk.name disk.sector_count content ∷ [];
@@ -362,7 +362,7 @@ module _ (uses : SlotStates) (m : Machine) (d : Device) (a : StateRelation uses 
         state_relation = record {
           relates_slots = slots_quiet uses m m' d a d.memory _ (fixed_more uses d.memory d.tape _ (λ q o u x. x)) port _ (λ k. record { issued = refl; sact = refl; taken = refl; st = refl; cr = refl; since = refl; list = refl }) (λ id e _ r. r);
           serve_distinct_requests = a.serve_distinct_requests;
-          received_areas_are_placed = changed_at d.port port _ (λ k p. p.fre ≡ true → HasReceivedArea p k) (λ f. let r = a.received_areas_are_placed port f in record { port_is_below_4 = r.port_is_below_4; area_is_in_place = r.area_is_in_place }) (λ k _. a.received_areas_are_placed k);
+          received_areas_in_use_are_placed = changed_at d.port port _ (λ k p. p.fre ≡ true → HasReceivedArea p k) (λ f. let r = a.received_areas_in_use_are_placed port f in record { port_is_below_4 = r.port_is_below_4; area_is_in_place = r.area_is_in_place }) (λ k _. a.received_areas_in_use_are_placed k);
           disks_are_same = changed_at d.port port _ (λ k p. IsDiskOf m' p k)
               (record {
                 present = cond-true (port == port) true (m.present (port_at port)) (eq-eqb port port refl);
@@ -375,10 +375,10 @@ module _ (uses : SlotStates) (m : Machine) (d : Device) (a : StateRelation uses 
                 sector_count = cond-false (k == port) disk.sector_count (m.sizes (port_at k)) (ne_eqb k port ne) ∙ (a.disks_are_same k).sector_count;
               });
           client_frames_are_same = a.client_frames_are_same;
-          sectors_are_same = λ t. changed_at d.port port _ (λ k p. SameSectors m' p.disk k) (come_in t)
-              (λ k ne. sectors_on m m' (d.port k).disk k (λ s b lb. ap (λ (f : DiskBytes). f s b) (cond-false (k == port) content (m.disk_bytes (port_at k)) (ne_eqb k port ne))) (a.sectors_are_same t k));
-          holds_replug_candidates = λ t. changed_at d.port port _ (λ k p. HoldsReplugCandidates m' (d.tape ++ entry.Plug (port_at port) disk.name ∷ []) p k)
-              (lasting_put_in m port disk content d.tape _ (λ _ _. refl) (d.port port) (record (d.port port) { disk = disk; lasting = lasting_after_plug (d.port port).lasting (d.port port).disk disk (length d.tape) }) (a.disks_are_same port).id refl refl (λ same. (known same).size) (come_in t) (a.holds_replug_candidates t port))
-              (λ k ne. lasting_put_elsewhere m port disk content d.tape _ (λ _ _. refl) (d.port k) k ne (a.holds_replug_candidates t k));
+          sectors_are_same_if_disks_tell = λ t. changed_at d.port port _ (λ k p. SameSectors m' p.disk k) (come_in t)
+              (λ k ne. sectors_on m m' (d.port k).disk k (λ s b lb. ap (λ (f : DiskBytes). f s b) (cond-false (k == port) content (m.disk_bytes (port_at k)) (ne_eqb k port ne))) (a.sectors_are_same_if_disks_tell t k));
+          holds_replug_candidates_if_disks_tell = λ t. changed_at d.port port _ (λ k p. HoldsReplugCandidates m' (d.tape ++ entry.Plug (port_at port) disk.name ∷ []) p k)
+              (lasting_put_in m port disk content d.tape _ (λ _ _. refl) (d.port port) (record (d.port port) { disk = disk; lasting = lasting_after_plug (d.port port).lasting (d.port port).disk disk (length d.tape) }) (a.disks_are_same port).id refl refl (λ same. (known same).size) (come_in t) (a.holds_replug_candidates_if_disks_tell t port))
+              (λ k ne. lasting_put_elsewhere m port disk content d.tape _ (λ _ _. refl) (d.port k) k ne (a.holds_replug_candidates_if_disks_tell t k));
         };
       }

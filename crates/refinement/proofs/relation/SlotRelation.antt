@@ -18,7 +18,7 @@ use Rattle.adapter.proofs.MemoryLemmas.{bytes_same}
 use Rattle.adapter.proofs.Changed.{changed_same, changed_other}
 use Rattle.block_machine.specs.State.{Accepted, Pending, Machine}
 use Rattle.block_machine.specs.Steps.{MayStillMove}
-use Rattle.refinement.specs.MemoryLayout.{command_list_address, scratch_frame_address, IsHeaderOrTableByte, IsScratchByte}
+use Rattle.refinement.specs.MemoryLayout.{command_list_address, scratch_frame_address, IsTableOrHeaderByteButPrdbc, IsScratchByte}
 use Rattle.refinement.specs.Slots.{SlotState, Free, Own, Serves, SlotStates, SlotDecodesTo, HasListInPlace, MeansRange, HasBlockIfTrim, AwaitsFetch, TouchedAsMoved, IsTakenFor, IsInSomeStage, IsMove, PageStandsInScratch, OwnAwaitsFetch, OwnIsTaken, OwnIsOver, IsOver, RelatesSlot, Armed}
 use Rattle.refinement.specs.Relation.{StateRelation}
 
@@ -37,7 +37,7 @@ SameSlot-refl p slot = record { issued = refl; sact = refl; taken = refl; st = r
 
 -- the bytes that a slot rests on
 abbrev pub SameTable : (ℕ → ℕ) → (ℕ → ℕ) → ℕ → ℕ → Type 0
-SameTable memory new port slot = (a : ℕ) → IsHeaderOrTableByte port slot a → new a ≡ memory a
+SameTable memory new port slot = (a : ℕ) → IsTableOrHeaderByteButPrdbc port slot a → new a ≡ memory a
 
 abbrev pub SameScratch : (ℕ → ℕ) → (ℕ → ℕ) → ℕ → Type 0
 SameScratch memory new port = (a : ℕ) → IsScratchByte port a → new a ≡ memory a
@@ -129,7 +129,7 @@ module _ (memory new_memory : ℕ → ℕ) (p new : DevicePort) (port slot : ℕ
     meaning = w.meaning;
     places_are = w.places_are;
     running = same.cr ∙ w.running;
-    ci_is_set_while_plain = same.issued ∙ w.ci_is_set_while_plain ∙ ap (λ (st : Bool). st && not (is_queued c.operation)) (sym same.st);
+    ci_is_set_iff_st_and_plain = same.issued ∙ w.ci_is_set_iff_st_and_plain ∙ ap (λ (st : Bool). st && not (is_queued c.operation)) (sym same.st);
     sact = same.sact ∙ w.sact ∙ ap (λ (st : Bool). st && is_queued c.operation) (sym same.st);
     progress = progress_on e.request.asked.op memory new_memory port e w.command scratch w.progress;
     unended = w.unended;

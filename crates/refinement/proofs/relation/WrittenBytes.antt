@@ -6,7 +6,7 @@ use Rattle.adapter.specs.Memory.{patched}
 use Rattle.adapter.specs.declared.tape.Entry.{Entry}
 use Rattle.adapter.specs.declared.command.Operation.{Operation}
 use Rattle.adapter.proofs.MemoryLemmas.{patched_apart}
-use Rattle.refinement.specs.MemoryLayout.{command_list_address, received_fis_address, command_table_address, scratch_frame_address, IsHeaderOrTableByte, IsScratchByte}
+use Rattle.refinement.specs.MemoryLayout.{command_list_address, received_fis_address, command_table_address, scratch_frame_address, IsTableOrHeaderByteButPrdbc, IsScratchByte}
 use Rattle.refinement.specs.Slots.{Free, Own, SlotStates}
 use Rattle.refinement.specs.Driver.{MayStore}
 use Rattle.refinement.proofs.relation.SlotRelation.{SameFixed, GainsNone, GainsNone-refl, NoPort}
@@ -41,25 +41,25 @@ module _ (port q a : ℕ) (low : DRIVER_BYTES_PER_PORT * port ≤ a) (high : a <
   pub same_port : port ≡ q
   same_port = ⊎_elim (λ e. e) (λ x. ⊎_elim (λ (l : port < q). absurd (omega (arith, l, low, high, low', high'))) (λ (g : q < port). absurd (omega (arith, g, low, high, low', high'))) x) (cases_order port q)
 
-table_in : (port slot a : ℕ) → slot < 32 → IsHeaderOrTableByte port slot a → (DRIVER_BYTES_PER_PORT * port ≤ a) × (a < DRIVER_BYTES_PER_PORT * port + SCRATCH_OFFSET)
+table_in : (port slot a : ℕ) → slot < 32 → IsTableOrHeaderByteButPrdbc port slot a → (DRIVER_BYTES_PER_PORT * port ≤ a) × (a < DRIVER_BYTES_PER_PORT * port + SCRATCH_OFFSET)
 table_in port slot a below (inl x) = (omega (arith, x.0), omega (arith, x.1, below))
 table_in port slot a below (inr (inl x)) = (omega (arith, x.0), omega (arith, x.1, below))
 table_in port slot a below (inr (inr x)) = (omega (arith, x.0), omega (arith, x.1, below))
 
 -- the bytes of a header are before the received area, its tables after
-table_not_received : (port slot a : ℕ) → slot < 32 → IsHeaderOrTableByte port slot a → received_fis_address port ≤ a → a < received_fis_address port + 256 → ⊥
+table_not_received : (port slot a : ℕ) → slot < 32 → IsTableOrHeaderByteButPrdbc port slot a → received_fis_address port ≤ a → a < received_fis_address port + 256 → ⊥
 table_not_received port slot a below (inl x) low high = omega (arith, x.1, below, low)
 table_not_received port slot a below (inr (inl x)) low high = omega (arith, x.1, below, low)
 table_not_received port slot a below (inr (inr x)) low high = omega (arith, x.0, high)
 
-table_not_count : (port slot k a : ℕ) → slot < 32 → k < 32 → IsHeaderOrTableByte port slot a → command_list_address port + 32 * k + 4 ≤ a → a < command_list_address port + 32 * k + 8 → ⊥
+table_not_count : (port slot k a : ℕ) → slot < 32 → k < 32 → IsTableOrHeaderByteButPrdbc port slot a → command_list_address port + 32 * k + 4 ≤ a → a < command_list_address port + 32 * k + 8 → ⊥
 table_not_count port slot k a below small (inr (inr x)) low high = omega (arith, x.0, high, small)
 table_not_count port slot k a below small (inl x) low high = ⊎_elim (λ e. omega (arith, e, x.1, low))
     (λ y. ⊎_elim (λ (l : slot < k). omega (arith, l, x.1, low)) (λ (g : k < slot). omega (arith, g, x.0, high)) y) (cases_order slot k)
 table_not_count port slot k a below small (inr (inl x)) low high = ⊎_elim (λ e. omega (arith, e, x.0, high))
     (λ y. ⊎_elim (λ (l : slot < k). omega (arith, l, x.1, low)) (λ (g : k < slot). omega (arith, g, x.0, high)) y) (cases_order slot k)
 
-pub table_spared : (Except : ℕ → Type 0) (port slot at n a : ℕ) → port < 4 → slot < 32 → MayChange Except at n → IsHeaderOrTableByte port slot a → at ≤ a → a < at + n → ⊥
+pub table_spared : (Except : ℕ → Type 0) (port slot at n a : ℕ) → port < 4 → slot < 32 → MayChange Except at n → IsTableOrHeaderByteButPrdbc port slot a → at ≤ a → a < at + n → ⊥
 table_spared Except port slot at n a below small (inl x) t low high =
     let r = table_in port slot a small t in
     let e : port ≡ x.port = same_port port x.port a r.0 (omega (arith, r.1)) (omega (arith, x.from, low)) (omega (arith, x.to, high)) in
@@ -100,11 +100,11 @@ fixed_stays Except uses memory at bytes tape later may gains = record {
 -- ---- what the driver may write: the header and table of a free slot, and the scratch frame where slot 0 is free
 
 -- headers and tables of two slots don't meet
-tables_apart : (port slot k a : ℕ) → slot < 32 → k < 32 → slot ≢ k → IsHeaderOrTableByte port slot a →
+tables_apart : (port slot k a : ℕ) → slot < 32 → k < 32 → slot ≢ k → IsTableOrHeaderByteButPrdbc port slot a →
     ((command_list_address port + 32 * k ≤ a) × (a < command_list_address port + 32 * k + 32)) ⊎ ((command_table_address port k ≤ a) × (a < command_table_address port k + TABLE_BYTES)) → ⊥
 tables_apart port slot k a sb kb ne t other = ⊎_elim ne (λ y. ⊎_elim (λ (l : slot < k). less l t other) (λ (g : k < slot). more g t other) y) (cases_order slot k)
   where
-    less : slot < k → IsHeaderOrTableByte port slot a → ((command_list_address port + 32 * k ≤ a) × (a < command_list_address port + 32 * k + 32)) ⊎ ((command_table_address port k ≤ a) × (a < command_table_address port k + TABLE_BYTES)) → ⊥
+    less : slot < k → IsTableOrHeaderByteButPrdbc port slot a → ((command_list_address port + 32 * k ≤ a) × (a < command_list_address port + 32 * k + 32)) ⊎ ((command_table_address port k ≤ a) × (a < command_table_address port k + TABLE_BYTES)) → ⊥
     less l (inl x) (inl y) = omega (arith, l, x.1, y.0)
     less l (inr (inl x)) (inl y) = omega (arith, l, x.1, y.0)
     less l (inr (inr x)) (inl y) = omega (arith, x.0, y.1, kb)
@@ -112,7 +112,7 @@ tables_apart port slot k a sb kb ne t other = ⊎_elim ne (λ y. ⊎_elim (λ (l
     less l (inr (inl x)) (inr y) = omega (arith, x.1, y.0, sb)
     less l (inr (inr x)) (inr y) = omega (arith, l, x.1, y.0)
 
-    more : k < slot → IsHeaderOrTableByte port slot a → ((command_list_address port + 32 * k ≤ a) × (a < command_list_address port + 32 * k + 32)) ⊎ ((command_table_address port k ≤ a) × (a < command_table_address port k + TABLE_BYTES)) → ⊥
+    more : k < slot → IsTableOrHeaderByteButPrdbc port slot a → ((command_list_address port + 32 * k ≤ a) × (a < command_list_address port + 32 * k + 32)) ⊎ ((command_table_address port k ≤ a) × (a < command_table_address port k + TABLE_BYTES)) → ⊥
     more g (inl x) (inl y) = omega (arith, g, x.0, y.1)
     more g (inr (inl x)) (inl y) = omega (arith, g, x.0, y.1)
     more g (inr (inr x)) (inl y) = omega (arith, x.0, y.1, kb)
@@ -129,7 +129,7 @@ pub narrow : (port k at n a : ℕ) → at ≤ a → a < at + n → ((command_lis
 narrow port k at n a low high (inl x) = inl (omega (arith, x.0, low), omega (arith, x.1, high))
 narrow port k at n a low high (inr x) = inr (omega (arith, x.0, low), omega (arith, x.1, high))
 
-pub store_table : (uses : SlotStates) (port slot at n a : ℕ) → (uses port slot ≡ Free → ⊥) → port < 4 → slot < 32 → MayStore uses at n → IsHeaderOrTableByte port slot a → at ≤ a → a < at + n → ⊥
+pub store_table : (uses : SlotStates) (port slot at n a : ℕ) → (uses port slot ≡ Free → ⊥) → port < 4 → slot < 32 → MayStore uses at n → IsTableOrHeaderByteButPrdbc port slot a → at ≤ a → a < at + n → ⊥
 store_table uses port slot at n a used below small (inl x) t low high =
     let r = table_in port slot a small t in
     let y = narrow x.port x.slot at n a low high x.is_in_header_or_table in

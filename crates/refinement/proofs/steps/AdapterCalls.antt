@@ -109,11 +109,11 @@ stored_agrees : (uses : SlotStates) (m : Machine) (d : Device) (at : ℕ) (bytes
 stored_agrees uses m d at bytes a may = record {
   relates_slots = λ q k. slot_on NoPort uses m m d a (patched d.memory at bytes) d.tape (stored_fixed uses d.memory at bytes d.tape may) q k (d.port q) (SameSlot-refl (d.port q) k) (λ _ x. x) (λ id u e _ r. r);
   serve_distinct_requests = a.serve_distinct_requests;
-  received_areas_are_placed = a.received_areas_are_placed;
+  received_areas_in_use_are_placed = a.received_areas_in_use_are_placed;
   disks_are_same = a.disks_are_same;
   client_frames_are_same = memory_low m d.memory at bytes (stored_low uses at (length bytes) may) a.client_frames_are_same;
-  sectors_are_same = a.sectors_are_same;
-  holds_replug_candidates = a.holds_replug_candidates;
+  sectors_are_same_if_disks_tell = a.sectors_are_same_if_disks_tell;
+  holds_replug_candidates_if_disks_tell = a.holds_replug_candidates_if_disks_tell;
 }
 
 pub store_follows : (uses : SlotStates) (m : Machine) (at : ℕ) (bytes : List ℕ) (old new : Device) → IsReachable m → StateRelation uses m old → MayStore uses at (length bytes) → Stores at bytes old new → SimulatesSteps uses m old new

@@ -300,7 +300,7 @@ module _ (uses : SlotStates) (m : Machine) (d : Device) (a : StateRelation uses 
                 meaning = x.meaning;
                 places_are = x.places_are;
                 running = x.running;
-                ci_is_set_while_plain = x.issued;
+                ci_is_set_iff_st_and_plain = x.issued;
                 sact = x.sact;
                 progress = subst (λ (o : Op). TouchedAsMoved o d.memory port (with_sectors_touched h.pending t.cleared count) (record t { cleared = t.cleared + count })) (sym (ap (λ (j : Accepted). j.asked.op) (touched_request h.pending t.cleared count) ∙ op))
                     (touched_upto h.pending t.cleared count was.0, inr ((let mv : t.moved ≡ length t.places = can.block_is_moved in let r : t.moved ≡ 1 = omega (arith, mv, one_place) in r), subst (λ (j : Accepted). MeansRange t.block j) (sym (touched_request h.pending t.cleared count)) range));
@@ -312,10 +312,10 @@ module _ (uses : SlotStates) (m : Machine) (d : Device) (a : StateRelation uses 
         present = refl;
         name = refl;
         size = refl;
-        sectors = λ t'. cleared (a.sectors_are_same t' port);
-        other_sectors = λ t' q ne. sectors_on m swept_machine (d.port q).disk q (λ k b lb. done.others (port_at q) k b (λ e _ _. ne (e ∙ h.port_is))) (a.sectors_are_same t' q);
-        lasting = λ t'. lasting_on m swept_machine d.tape _ (d.port port) (d.port port) port refl refl (lasting_swept m h.pending t.cleared count port) (gains_clear d.tape swept_machine port slot first count port zeroed) (a.holds_replug_candidates t' port);
-        other_lasting = λ t' q ne. lasting_on m swept_machine d.tape _ (d.port q) (d.port q) q refl refl (lasting_swept m h.pending t.cleared count q) (gains_clear d.tape swept_machine port slot first count q zeroed) (a.holds_replug_candidates t' q);
+        sectors = λ t'. cleared (a.sectors_are_same_if_disks_tell t' port);
+        other_sectors = λ t' q ne. sectors_on m swept_machine (d.port q).disk q (λ k b lb. done.others (port_at q) k b (λ e _ _. ne (e ∙ h.port_is))) (a.sectors_are_same_if_disks_tell t' q);
+        lasting = λ t'. lasting_on m swept_machine d.tape _ (d.port port) (d.port port) port refl refl (lasting_swept m h.pending t.cleared count port) (gains_clear d.tape swept_machine port slot first count port zeroed) (a.holds_replug_candidates_if_disks_tell t' port);
+        other_lasting = λ t' q ne. lasting_on m swept_machine d.tape _ (d.port q) (d.port q) q refl refl (lasting_swept m h.pending t.cleared count q) (gains_clear d.tape swept_machine port slot first count q zeroed) (a.holds_replug_candidates_if_disks_tell t' q);
         memory = λ f b from small. a.client_frames_are_same f b from small ∙ ap (λ (g : Memory). g f b) (sym done.memory);
       });
     }

@@ -7,7 +7,7 @@ use Rattle.ata_types.specs.declared.request.RequestId.{RequestId}
 use Rattle.adapter.specs.Commands.{Meaning, is_queued}
 use Rattle.adapter.specs.Memory.{bytes_at, changed}
 use Rattle.adapter.specs.Device.{FetchedCommand, Device}
-use Rattle.adapter.specs.Steps.{device_after, MayBeDone, IsFinished, port_after_done, port_after_flush, done_entry}
+use Rattle.adapter.specs.Steps.{device_after, MayBeDone, IsFinished, port_after_done, port_with_lasting_after_operation, done_entry}
 use Rattle.adapter.specs.Steps.DeviceTransition.{Done}
 use Rattle.adapter.specs.declared.command.Operation.{Operation}
 use Rattle.adapter.specs.declared.command.Operation.TheVariants as operation
@@ -90,7 +90,7 @@ all_touched Trim memory port e t fin is places flush p =
         (λ (y : (t.moved ≡ 1) × MeansRange t.block e.request). y.1) p.1
 
 module _ (uses : SlotStates) (m : Machine) (d : Device) (a : StateRelation uses m d) (reached : IsReachable m) (port slot flag : ℕ) (t : FetchedCommand) (can : MayBeDone d port slot flag t) where
-  others_same : (k : ℕ) → k ≢ slot → SameSlot (d.port port) (port_after_flush (port_after_done (d.port port) slot flag t.meaning.operation) t.meaning.operation (length d.tape)) k
+  others_same : (k : ℕ) → k ≢ slot → SameSlot (d.port port) (port_with_lasting_after_operation (port_after_done (d.port port) slot flag t.meaning.operation) t.meaning.operation (length d.tape)) k
   others_same k ne = record {
     issued = issued_other (is_queued t.meaning.operation) (d.port port).ci slot k ne;
     sact = sact_other (is_queued t.meaning.operation) (d.port port).sact slot k ne;
@@ -118,14 +118,14 @@ module _ (uses : SlotStates) (m : Machine) (d : Device) (a : StateRelation uses 
       refl,
     );
     plugged_disks_match_steps = plugged_kept d port _ (machine.End h.pending ∷ []) refl (λ _. refl);
-    state_relation = acted NoPort uses m (after_step m (machine.End h.pending)) d a d.memory (d.tape ++ done_entry port slot t.meaning.operation ∷ []) port slot (port_after_flush (port_after_done (d.port port) slot flag t.meaning.operation) t.meaning.operation (length d.tape)) (record {
+    state_relation = acted NoPort uses m (after_step m (machine.End h.pending)) d a d.memory (d.tape ++ done_entry port slot t.meaning.operation ∷ []) port slot (port_with_lasting_after_operation (port_after_done (d.port port) slot flag t.meaning.operation) t.meaning.operation (length d.tape)) (record {
       id = h.pending.request.id;
       goes = end_goes m h.pending;
       moves = others_move uses m (after_step m (machine.End h.pending)) d a port slot id u (subst (λ (n : RequestId). Goes m (after_step m (machine.End h.pending)) n) h.id_is (end_goes m h.pending));
       only = λ q z. absurd z;
       fixed = fixed_more uses d.memory d.tape (done_entry port slot t.meaning.operation) (λ q o v z. z);
       others = others_same;
-      here = subst (λ (v : SlotState). RelatesSlot (after_step m (machine.End h.pending)) d.memory (d.tape ++ done_entry port slot t.meaning.operation ∷ []) (port_after_flush (port_after_done (d.port port) slot flag t.meaning.operation) t.meaning.operation (length d.tape)) port slot v) (sym u)
+      here = subst (λ (v : SlotState). RelatesSlot (after_step m (machine.End h.pending)) d.memory (d.tape ++ done_entry port slot t.meaning.operation ∷ []) (port_with_lasting_after_operation (port_after_done (d.port port) slot flag t.meaning.operation) t.meaning.operation (length d.tape)) port slot v) (sym u)
           (record {
             pending = mark_ended h.pending;
             may_still_move = end_moves m h.pending h.may_still_move;
@@ -149,10 +149,10 @@ module _ (uses : SlotStates) (m : Machine) (d : Device) (a : StateRelation uses 
       present = refl;
       name = refl;
       size = refl;
-      sectors = λ t'. sectors_on m (after_step m (machine.End h.pending)) (d.port port).disk port (λ k b lb. refl) (a.sectors_are_same t' port);
-      other_sectors = λ t' q ne. sectors_on m (after_step m (machine.End h.pending)) (d.port q).disk q (λ k b lb. refl) (a.sectors_are_same t' q);
-      lasting = λ t'. lasting_ended m h.pending d.tape (done_entry port slot t.meaning.operation) (λ _ _. refl) (port_after_done (d.port port) slot flag t.meaning.operation) port t.meaning.operation means.op_is (a.sectors_are_same t' port) (a.holds_replug_candidates t' port);
-      other_lasting = λ t' q ne. lasting_ended_elsewhere m h.pending d.tape (done_entry port slot t.meaning.operation) (λ _ _. refl) (d.port q) port q h.port_is ne (a.holds_replug_candidates t' q);
+      sectors = λ t'. sectors_on m (after_step m (machine.End h.pending)) (d.port port).disk port (λ k b lb. refl) (a.sectors_are_same_if_disks_tell t' port);
+      other_sectors = λ t' q ne. sectors_on m (after_step m (machine.End h.pending)) (d.port q).disk q (λ k b lb. refl) (a.sectors_are_same_if_disks_tell t' q);
+      lasting = λ t'. lasting_ended m h.pending d.tape (done_entry port slot t.meaning.operation) (λ _ _. refl) (port_after_done (d.port port) slot flag t.meaning.operation) port t.meaning.operation means.op_is (a.sectors_are_same_if_disks_tell t' port) (a.holds_replug_candidates_if_disks_tell t' port);
+      other_lasting = λ t' q ne. lasting_ended_elsewhere m h.pending d.tape (done_entry port slot t.meaning.operation) (λ _ _. refl) (d.port q) port q h.port_is ne (a.holds_replug_candidates_if_disks_tell t' q);
       memory = a.client_frames_are_same;
     });
   }
@@ -176,14 +176,14 @@ module _ (uses : SlotStates) (m : Machine) (d : Device) (a : StateRelation uses 
     tape_is = refl;
     tape_tells_steps = ([], [], subst (λ (w : Option Op). TellsDone w m (record { port = record { 0 = port }; slot = record { 0 = slot }; operation = t.meaning.operation }) []) (sym own) refl, refl, refl);
     plugged_disks_match_steps = plugged_kept d port _ [] refl (λ _. refl);
-    state_relation = acted NoPort uses m m d a d.memory (d.tape ++ done_entry port slot t.meaning.operation ∷ []) port slot (port_after_flush (port_after_done (d.port port) slot flag t.meaning.operation) t.meaning.operation (length d.tape)) (record {
+    state_relation = acted NoPort uses m m d a d.memory (d.tape ++ done_entry port slot t.meaning.operation ∷ []) port slot (port_with_lasting_after_operation (port_after_done (d.port port) slot flag t.meaning.operation) t.meaning.operation (length d.tape)) (record {
       id = record { 0 = 0 };
       goes = Goes-refl m (record { 0 = 0 });
       moves = λ port' slot' id' v ne y is r. r;
       only = λ q z. absurd z;
       fixed = fixed_more uses d.memory d.tape (done_entry port slot t.meaning.operation) (λ q o v z. z);
       others = others_same;
-      here = subst (λ (v : SlotState). RelatesSlot m d.memory (d.tape ++ done_entry port slot t.meaning.operation ∷ []) (port_after_flush (port_after_done (d.port port) slot flag t.meaning.operation) t.meaning.operation (length d.tape)) port slot v) (sym u)
+      here = subst (λ (v : SlotState). RelatesSlot m d.memory (d.tape ++ done_entry port slot t.meaning.operation ∷ []) (port_with_lasting_after_operation (port_after_done (d.port port) slot flag t.meaning.operation) t.meaning.operation (length d.tape)) port slot v) (sym u)
           (record {
             operation_is_drivers_own = h.operation_is_drivers_own;
             slot_is_0 = h.slot_is_0;
@@ -203,10 +203,10 @@ module _ (uses : SlotStates) (m : Machine) (d : Device) (a : StateRelation uses 
       present = refl;
       name = refl;
       size = refl;
-      sectors = λ t'. a.sectors_are_same t' port;
-      other_sectors = λ t' q ne. a.sectors_are_same t' q;
-      lasting = λ t'. lasting_read m d.tape (done_entry port slot t.meaning.operation) (port_after_done (d.port port) slot flag t.meaning.operation) port t.meaning.operation (λ _ _. refl) own (a.holds_replug_candidates t' port);
-      other_lasting = λ t' q ne. lasting_on m m d.tape _ (d.port q) (d.port q) q refl refl (λ _ _ held. held) (gains_quiet d.tape (done_entry port slot t.meaning.operation) m q (λ _ _. refl)) (a.holds_replug_candidates t' q);
+      sectors = λ t'. a.sectors_are_same_if_disks_tell t' port;
+      other_sectors = λ t' q ne. a.sectors_are_same_if_disks_tell t' q;
+      lasting = λ t'. lasting_read m d.tape (done_entry port slot t.meaning.operation) (port_after_done (d.port port) slot flag t.meaning.operation) port t.meaning.operation (λ _ _. refl) own (a.holds_replug_candidates_if_disks_tell t' port);
+      other_lasting = λ t' q ne. lasting_on m m d.tape _ (d.port q) (d.port q) q refl refl (λ _ _ held. held) (gains_quiet d.tape (done_entry port slot t.meaning.operation) m q (λ _ _. refl)) (a.holds_replug_candidates_if_disks_tell t' q);
       memory = a.client_frames_are_same;
     });
   }

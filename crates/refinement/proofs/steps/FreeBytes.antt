@@ -187,7 +187,7 @@ module _ (uses : slots.SlotStates) (m : Machine) (d : Device) (reached : IsReach
   is_used (inl x) = of_use x.0 x.1
   is_used (inr (inl x)) = of_taken x.0 x.1 x.2
   is_used (inr (inr x)) =
-      let r = a.received_areas_are_placed port x.0 in
+      let r = a.received_areas_in_use_are_placed port x.0 in
       inr (inl (record { port = port; below = r.port_is_below_4; from = (let y = x.1 in omega (arith, y, r.area_is_in_place)); to = (let y = x.2 in omega (arith, y, r.area_is_in_place)) }))
 
 -- ---- what lies where

@@ -59,7 +59,7 @@ pub taken_as : (memory : ℕ → ℕ) (p : DevicePort) (port slot : ℕ) (e : Pe
 taken_as memory p port slot e c places t is (inl w) = some_none is w.is_not_taken
 taken_as memory p port slot e c places t is (inr (inl x)) =
     subst (λ (u : FetchedCommand). TakenAs memory p port slot e c places u) (some_same (sym x.taken ∙ is))
-    (record { meaning = x.meaning; places_are = x.places_are; running = x.running; issued = x.ci_is_set_while_plain; sact = x.sact; progress = x.progress; unended = x.unended })
+    (record { meaning = x.meaning; places_are = x.places_are; running = x.running; issued = x.ci_is_set_iff_st_and_plain; sact = x.sact; progress = x.progress; unended = x.unended })
 taken_as memory p port slot e c places t is (inr (inr (inl x))) = some_none is x.is_not_taken
 taken_as memory p port slot e c places t is (inr (inr (inr x))) = some_none is x.is_not_taken
 
@@ -130,7 +130,7 @@ module _ (uses : SlotStates) (m : Machine) (d : Device) (a : StateRelation uses 
         meaning = meaning ∙ x.meaning;
         places_are = places ∙ x.places_are;
         running = x.running;
-        ci_is_set_while_plain = x.issued;
+        ci_is_set_iff_st_and_plain = x.issued;
         sact = x.sact;
         progress = progress;
         unended = ended ∙ x.unended;
@@ -231,7 +231,7 @@ module _ (uses : SlotStates) (m : Machine) (d : Device) (a : StateRelation uses 
         steps = Touch h.pending t.moved (slice_index bytes) ∷ [];
         steps_are_enabled = (tt, may Read reads tt refl sector inside (λ b w lb. read_is_no_write (sym reads ∙ w)));
         telling_is_same = refl;
-        steps_are_faithful = λ t'. (tt, λ _ b lb. told (a.sectors_are_same t' port) b lb);
+        steps_are_faithful = λ t'. (tt, λ _ b lb. told (a.sectors_are_same_if_disks_tell t' port) b lb);
         new_entries = _;
         tape_is = refl;
         tape_tells_steps = (Touch h.pending t.moved (slice_index bytes) ∷ [], [], subst (λ (w : Option Op). TellsMove w m (move_of port slot t bytes) (Touch h.pending t.moved (slice_index bytes) ∷ [])) (sym o) (is_touch Read reads tt refl sector inside), refl, refl);
@@ -251,10 +251,10 @@ module _ (uses : SlotStates) (m : Machine) (d : Device) (a : StateRelation uses 
           present = refl;
           name = refl;
           size = refl;
-          sectors = λ t'. sectors_on m (after_step m (Touch h.pending t.moved (slice_index bytes))) (d.port port).disk port (λ k b lb. disks_same (port_at port) k b) (a.sectors_are_same t' port);
-          other_sectors = λ t' q ne. sectors_on m (after_step m (Touch h.pending t.moved (slice_index bytes))) (d.port q).disk q (λ k b lb. disks_same (port_at q) k b) (a.sectors_are_same t' q);
-          lasting = λ t'. lasting_on m (after_step m (Touch h.pending t.moved (slice_index bytes))) d.tape later (d.port port) (d.port port) port refl refl (lasting_touched m h.pending t.moved (slice_index bytes) port) (gains_quiet d.tape (entry.Move (move_of port slot t bytes)) (after_step m (Touch h.pending t.moved (slice_index bytes))) port (quiet_move port slot t bytes (no_write o))) (a.holds_replug_candidates t' port);
-          other_lasting = λ t' q ne. lasting_on m (after_step m (Touch h.pending t.moved (slice_index bytes))) d.tape later (d.port q) (d.port q) q refl refl (lasting_touched m h.pending t.moved (slice_index bytes) q) (gains_quiet d.tape (entry.Move (move_of port slot t bytes)) (after_step m (Touch h.pending t.moved (slice_index bytes))) q (quiet_move port slot t bytes (no_write o))) (a.holds_replug_candidates t' q);
+          sectors = λ t'. sectors_on m (after_step m (Touch h.pending t.moved (slice_index bytes))) (d.port port).disk port (λ k b lb. disks_same (port_at port) k b) (a.sectors_are_same_if_disks_tell t' port);
+          other_sectors = λ t' q ne. sectors_on m (after_step m (Touch h.pending t.moved (slice_index bytes))) (d.port q).disk q (λ k b lb. disks_same (port_at q) k b) (a.sectors_are_same_if_disks_tell t' q);
+          lasting = λ t'. lasting_on m (after_step m (Touch h.pending t.moved (slice_index bytes))) d.tape later (d.port port) (d.port port) port refl refl (lasting_touched m h.pending t.moved (slice_index bytes) port) (gains_quiet d.tape (entry.Move (move_of port slot t bytes)) (after_step m (Touch h.pending t.moved (slice_index bytes))) port (quiet_move port slot t bytes (no_write o))) (a.holds_replug_candidates_if_disks_tell t' port);
+          other_lasting = λ t' q ne. lasting_on m (after_step m (Touch h.pending t.moved (slice_index bytes))) d.tape later (d.port q) (d.port q) q refl refl (lasting_touched m h.pending t.moved (slice_index bytes) q) (gains_quiet d.tape (entry.Move (move_of port slot t bytes)) (after_step m (Touch h.pending t.moved (slice_index bytes))) q (quiet_move port slot t bytes (no_write o))) (a.holds_replug_candidates_if_disks_tell t' q);
           memory = λ f b from small.
               memory_put m d.memory (next_place t) (frame_at h.pending.request.asked.frames.items (t.moved / 8)) (512 * (t.moved % 8)) bytes
               (place Read reads tt refl sector inside) (omega (arith, size)) a.client_frames_are_same f b from small
@@ -327,11 +327,11 @@ module _ (uses : SlotStates) (m : Machine) (d : Device) (a : StateRelation uses 
           name = refl;
           size = refl;
           sectors = λ t'. subst (λ (k : ℕ). SameSectors (after_step m (Touch h.pending t.moved (slice_index bytes))) (disk_with_sector (d.port port).disk k bytes) port) (sym sector)
-              (sector_written m (after_step m (Touch h.pending t.moved (slice_index bytes))) (d.port port).disk port (sector_of h.pending.request t.moved) bytes (h.pending.request.blocks_at_acceptance t.moved) (λ k b. now (port_at port) k b) holds (a.sectors_are_same t' port));
+              (sector_written m (after_step m (Touch h.pending t.moved (slice_index bytes))) (d.port port).disk port (sector_of h.pending.request t.moved) bytes (h.pending.request.blocks_at_acceptance t.moved) (λ k b. now (port_at port) k b) holds (a.sectors_are_same_if_disks_tell t' port));
           other_sectors = λ t' q ne. sectors_on m (after_step m (Touch h.pending t.moved (slice_index bytes))) (d.port q).disk q
-              (λ k b lb. now (port_at q) k b ∙ ap (λ (f : Block). f b) (put_elsewhere (port_at port) (sector_of h.pending.request t.moved) (h.pending.request.blocks_at_acceptance t.moved) m.disk_bytes (port_at q) k (λ z _. ne z))) (a.sectors_are_same t' q);
-          lasting = λ t'. lasting_on m (after_step m (Touch h.pending t.moved (slice_index bytes))) d.tape _ (d.port port) (d.port port) port refl refl (lasting_touched m h.pending t.moved (slice_index bytes) port) (gains_write d.tape (after_step m (Touch h.pending t.moved (slice_index bytes))) port slot t bytes port written) (a.holds_replug_candidates t' port);
-          other_lasting = λ t' q ne. lasting_on m (after_step m (Touch h.pending t.moved (slice_index bytes))) d.tape _ (d.port q) (d.port q) q refl refl (lasting_touched m h.pending t.moved (slice_index bytes) q) (gains_write d.tape (after_step m (Touch h.pending t.moved (slice_index bytes))) port slot t bytes q written) (a.holds_replug_candidates t' q);
+              (λ k b lb. now (port_at q) k b ∙ ap (λ (f : Block). f b) (put_elsewhere (port_at port) (sector_of h.pending.request t.moved) (h.pending.request.blocks_at_acceptance t.moved) m.disk_bytes (port_at q) k (λ z _. ne z))) (a.sectors_are_same_if_disks_tell t' q);
+          lasting = λ t'. lasting_on m (after_step m (Touch h.pending t.moved (slice_index bytes))) d.tape _ (d.port port) (d.port port) port refl refl (lasting_touched m h.pending t.moved (slice_index bytes) port) (gains_write d.tape (after_step m (Touch h.pending t.moved (slice_index bytes))) port slot t bytes port written) (a.holds_replug_candidates_if_disks_tell t' port);
+          other_lasting = λ t' q ne. lasting_on m (after_step m (Touch h.pending t.moved (slice_index bytes))) d.tape _ (d.port q) (d.port q) q refl refl (lasting_touched m h.pending t.moved (slice_index bytes) q) (gains_write d.tape (after_step m (Touch h.pending t.moved (slice_index bytes))) port slot t bytes q written) (a.holds_replug_candidates_if_disks_tell t' q);
           memory = λ f b from small. a.client_frames_are_same f b from small ∙ ap (λ (g : state.Memory). g f b) (sym memory_kept);
         });
       }
@@ -397,10 +397,10 @@ module _ (uses : SlotStates) (m : Machine) (d : Device) (a : StateRelation uses 
           present = refl;
           name = refl;
           size = refl;
-          sectors = λ t'. a.sectors_are_same t' port;
-          other_sectors = λ t' q ne. a.sectors_are_same t' q;
-          lasting = λ t'. lasting_on m m d.tape _ (d.port port) (d.port port) port refl refl (λ _ _ held. held) (gains_quiet d.tape _ m port (quiet_move port slot t bytes (no_write o))) (a.holds_replug_candidates t' port);
-          other_lasting = λ t' q ne. lasting_on m m d.tape _ (d.port q) (d.port q) q refl refl (λ _ _ held. held) (gains_quiet d.tape _ m q (quiet_move port slot t bytes (no_write o))) (a.holds_replug_candidates t' q);
+          sectors = λ t'. a.sectors_are_same_if_disks_tell t' port;
+          other_sectors = λ t' q ne. a.sectors_are_same_if_disks_tell t' q;
+          lasting = λ t'. lasting_on m m d.tape _ (d.port port) (d.port port) port refl refl (λ _ _ held. held) (gains_quiet d.tape _ m port (quiet_move port slot t bytes (no_write o))) (a.holds_replug_candidates_if_disks_tell t' port);
+          other_lasting = λ t' q ne. lasting_on m m d.tape _ (d.port q) (d.port q) q refl refl (λ _ _ held. held) (gains_quiet d.tape _ m q (quiet_move port slot t bytes (no_write o))) (a.holds_replug_candidates_if_disks_tell t' q);
           memory = a.client_frames_are_same;
         });
       }

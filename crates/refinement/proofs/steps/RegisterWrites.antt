@@ -36,7 +36,7 @@ pub port_agrees : (uses : SlotStates) (m : Machine) (d : Device) → StateRelati
 port_agrees uses m d a port new slots receives present disk = record {
   relates_slots = λ q k. changed_at d.port port new (λ x p. RelatesSlot m d.memory d.tape p x k (uses x k)) (slots k) (λ x _. a.relates_slots x k) q;
   serve_distinct_requests = a.serve_distinct_requests;
-  received_areas_are_placed = changed_at d.port port new (λ k p. p.fre ≡ true → HasReceivedArea p k) receives (λ k _. a.received_areas_are_placed k);
+  received_areas_in_use_are_placed = changed_at d.port port new (λ k p. p.fre ≡ true → HasReceivedArea p k) receives (λ k _. a.received_areas_in_use_are_placed k);
   disks_are_same = changed_at d.port port new (λ k p. IsDiskOf m p k)
       (record {
         present = (a.disks_are_same port).present ∙ sym present;
@@ -45,8 +45,8 @@ port_agrees uses m d a port new slots receives present disk = record {
       })
       (λ k _. a.disks_are_same k);
   client_frames_are_same = a.client_frames_are_same;
-  sectors_are_same = λ t. changed_at d.port port new (λ k p. SameSectors m p.disk k) (subst (λ (x : device.Disk × DurableState). SameSectors m x.0 port) (sym disk) (a.sectors_are_same t port)) (λ k _. a.sectors_are_same t k);
-  holds_replug_candidates = λ t. changed_at d.port port new (λ k p. HoldsReplugCandidates m d.tape p k) (lasting_same m d.tape (d.port port) new port disk (a.holds_replug_candidates t port)) (λ k _. a.holds_replug_candidates t k);
+  sectors_are_same_if_disks_tell = λ t. changed_at d.port port new (λ k p. SameSectors m p.disk k) (subst (λ (x : device.Disk × DurableState). SameSectors m x.0 port) (sym disk) (a.sectors_are_same_if_disks_tell t port)) (λ k _. a.sectors_are_same_if_disks_tell t k);
+  holds_replug_candidates_if_disks_tell = λ t. changed_at d.port port new (λ k p. HoldsReplugCandidates m d.tape p k) (lasting_same m d.tape (d.port port) new port disk (a.holds_replug_candidates_if_disks_tell t port)) (λ k _. a.holds_replug_candidates_if_disks_tell t k);
 }
 
 -- a slot that looks the same, in a memory that is the same
@@ -60,7 +60,7 @@ or_false false = refl
 
 module _ (uses : SlotStates) (m : Machine) (d : Device) (a : StateRelation uses m d) (port : ℕ) where
   received_on : (new : DevicePort) → new.fre ≡ (d.port port).fre → new.bases.fb ≡ (d.port port).bases.fb → new.fre ≡ true → HasReceivedArea new port
-  received_on new fre fb f = let r = a.received_areas_are_placed port (sym fre ∙ f) in record { port_is_below_4 = r.port_is_below_4; area_is_in_place = fb ∙ r.area_is_in_place }
+  received_on new fre fb f = let r = a.received_areas_in_use_are_placed port (sym fre ∙ f) in record { port_is_below_4 = r.port_is_below_4; area_is_in_place = fb ∙ r.area_is_in_place }
 
   -- a port that looks the same
   pub alike : (new : DevicePort) → ((k : ℕ) → SameSlot (d.port port) new k) → new.fre ≡ (d.port port).fre → new.bases.fb ≡ (d.port port).bases.fb →
@@ -82,7 +82,7 @@ module _ (uses : SlotStates) (m : Machine) (d : Device) (a : StateRelation uses 
   listed : (v : ℕ) → (v ≡ command_list_address port) ⊎ AllFree uses port → StateRelation uses m (with_port d port (record (d.port port) { bases = record (d.port port).bases { clb = v; clb_set = true } }))
   listed v at = port_agrees uses m d a port _
       (λ k. listed_slot v k (uses port k) (⊎_elim (λ (e : v ≡ command_list_address port). inl e) (λ (f : AllFree uses port). inr (f k)) at) (a.relates_slots port k))
-      (λ f. let r = a.received_areas_are_placed port f in record { port_is_below_4 = r.port_is_below_4; area_is_in_place = r.area_is_in_place }) refl refl
+      (λ f. let r = a.received_areas_in_use_are_placed port f in record { port_is_below_4 = r.port_is_below_4; area_is_in_place = r.area_is_in_place }) refl refl
 
   -- ---- PxSACT, with no bit
 
@@ -160,7 +160,7 @@ module _ (uses : SlotStates) (m : Machine) (d : Device) (a : StateRelation uses 
         meaning = t.meaning;
         places_are = t.places_are;
         running = t.running;
-        ci_is_set_while_plain = fallen_bit (d.port port).st (d.port port).ci k (λ s. t.ci_is_set_while_plain ∙ ap (λ (b : Bool). b && not (is_queued h.command.operation)) s);
+        ci_is_set_iff_st_and_plain = fallen_bit (d.port port).st (d.port port).ci k (λ s. t.ci_is_set_iff_st_and_plain ∙ ap (λ (b : Bool). b && not (is_queued h.command.operation)) s);
         sact = fallen_bit (d.port port).st (d.port port).sact k (λ s. t.sact ∙ ap (λ (b : Bool). b && is_queued h.command.operation) s);
         progress = t.progress;
         unended = t.unended;
@@ -251,15 +251,15 @@ module _ (uses : SlotStates) (m : Machine) (d : Device) (a : StateRelation uses 
   all_alike new same fre bases present disk = record {
     relates_slots = λ q k. slot_stays m d (d.port q) (new q) q k (uses q k) (same q k) (a.relates_slots q k);
     serve_distinct_requests = a.serve_distinct_requests;
-    received_areas_are_placed = λ q f. let r = a.received_areas_are_placed q (sym (fre q) ∙ f) in record { port_is_below_4 = r.port_is_below_4; area_is_in_place = ap (λ (b : device.Bases). b.fb) (bases q) ∙ r.area_is_in_place };
+    received_areas_in_use_are_placed = λ q f. let r = a.received_areas_in_use_are_placed q (sym (fre q) ∙ f) in record { port_is_below_4 = r.port_is_below_4; area_is_in_place = ap (λ (b : device.Bases). b.fb) (bases q) ∙ r.area_is_in_place };
     disks_are_same = λ q. record {
       present = (a.disks_are_same q).present ∙ sym (present q);
       id = (a.disks_are_same q).id ∙ ap (λ (x : device.Disk × DurableState). x.0.name) (sym (disk q));
       sector_count = (a.disks_are_same q).sector_count ∙ ap (λ (x : device.Disk × DurableState). x.0.sector_count) (sym (disk q));
     };
     client_frames_are_same = a.client_frames_are_same;
-    sectors_are_same = λ t q. subst (λ (x : device.Disk × DurableState). SameSectors m x.0 q) (sym (disk q)) (a.sectors_are_same t q);
-    holds_replug_candidates = λ t q. lasting_same m d.tape (d.port q) (new q) q (disk q) (a.holds_replug_candidates t q);
+    sectors_are_same_if_disks_tell = λ t q. subst (λ (x : device.Disk × DurableState). SameSectors m x.0 q) (sym (disk q)) (a.sectors_are_same_if_disks_tell t q);
+    holds_replug_candidates_if_disks_tell = λ t q. lasting_same m d.tape (d.port q) (new q) q (disk q) (a.holds_replug_candidates_if_disks_tell t q);
   }
 
   told_on : (v : ℕ) → StateRelation uses m (device_after_write Is v d)
@@ -292,7 +292,7 @@ module _ (uses : SlotStates) (m : Machine) (d : Device) (a : StateRelation uses 
       -- PxFB is written with FRE clear
       off : (s : PortReg) → s ≡ px.Fb → MayWrite (Px port s) v d → (d.port port.0).fre ≡ true → ⊥
       off s is may on = let y = subst (λ (t : PortReg). MayWrite (Px port t) v d) is may in true_false on y.2.1
-  written_agrees Ghc v may x = record { relates_slots = a.relates_slots; serve_distinct_requests = a.serve_distinct_requests; received_areas_are_placed = a.received_areas_are_placed; disks_are_same = a.disks_are_same; client_frames_are_same = a.client_frames_are_same; sectors_are_same = a.sectors_are_same; holds_replug_candidates = a.holds_replug_candidates }
+  written_agrees Ghc v may x = record { relates_slots = a.relates_slots; serve_distinct_requests = a.serve_distinct_requests; received_areas_in_use_are_placed = a.received_areas_in_use_are_placed; disks_are_same = a.disks_are_same; client_frames_are_same = a.client_frames_are_same; sectors_are_same_if_disks_tell = a.sectors_are_same_if_disks_tell; holds_replug_candidates_if_disks_tell = a.holds_replug_candidates_if_disks_tell }
   written_agrees Is v may x = told_on v
   written_agrees Cap v may x = a
   written_agrees Pi v may x = a
@@ -309,7 +309,7 @@ leaves_on uses (Px port px.Cmd) v old mid may s x =
     let hr : old.hr ≡ false = (may old (record { steps = []; lead = refl })).0.no_reset in
     record {
       start = λ b. ⊎_elim (λ (t : (old.port port.0).st ≡ true). inl (((k.keeps_outside_reset hr).controls_are_kept port.0).st_is_kept ∙ t)) (λ (f : AllFree uses port.0). inr f) (x.start b);
-      receive = λ b. let y = x.receive b in (y.0, ap (λ (z : device.Bases). z.fb) (k.ports_are_kept port.0).bases_are_kept ∙ y.1);
+      receive = λ b. let y = x.receive b in (y.0, ap (λ (z : device.Bases). z.fb) (k.port_bits_only_fall port.0).bases_are_kept ∙ y.1);
     }
 leaves_on uses (Px port px.Clb) v old mid may s x = x
 leaves_on uses (Px port px.Sact) v old mid may s x = x

@@ -19,15 +19,15 @@ use Rattle.block_machine.proofs.Standing.{standing}
 use Rattle.block_machine.proofs.Trace.{runs_lives}
 use Rattle.refinement.specs.Simulation.{SimulatesSteps}
 use Rattle.refinement.specs.Slots.{SlotStates}
-use Rattle.refinement.specs.SparedBook.{IsFurther, AllFurther, KeepsBookAndLoans}
+use Rattle.refinement.specs.SparedBook.{IsAsFarOrFurther, AllAsFarOrFurther, KeepsLoansAndBookOnlyAdvances}
 use Rattle.refinement.proofs.steps.WaitingRequests.{tells_device}
 
 -- ---- requests
 
-further_refl : (e : Pending) → IsFurther e e
+further_refl : (e : Pending) → IsAsFarOrFurther e e
 further_refl e = record { request = refl; issues = refl; age = refl; issued = refl; touched = λ i h. h; ended = λ h. h }
 
-further_more : (a b c : Pending) → IsFurther a b → IsFurther b c → IsFurther a c
+further_more : (a b c : Pending) → IsAsFarOrFurther a b → IsAsFarOrFurther b c → IsAsFarOrFurther a c
 further_more a b c x y = record {
   request = y.request ∙ x.request;
   issues = y.issues ∙ x.issues;
@@ -37,38 +37,38 @@ further_more a b c x y = record {
   ended = λ h. y.ended (x.ended h);
 }
 
-all_refl : (es : List Pending) → AllFurther es es
+all_refl : (es : List Pending) → AllAsFarOrFurther es es
 all_refl [] = refl
 all_refl (e ∷ es) = (further_refl e, all_refl es)
 
-all_more : (xs ys zs : List Pending) → AllFurther xs ys → AllFurther ys zs → AllFurther xs zs
-all_more [] ys zs a b = subst (λ (l : List Pending). AllFurther l zs) a b
+all_more : (xs ys zs : List Pending) → AllAsFarOrFurther xs ys → AllAsFarOrFurther ys zs → AllAsFarOrFurther xs zs
+all_more [] ys zs a b = subst (λ (l : List Pending). AllAsFarOrFurther l zs) a b
 all_more (x ∷ xs) [] zs a b = absurd a
 all_more (x ∷ xs) (y ∷ ys) [] a b = absurd b
 all_more (x ∷ xs) (y ∷ ys) (z ∷ zs) a b = (further_more x y z a.0 b.0, all_more xs ys zs a.1 b.1)
 
-touch_further : (i : ℕ) (e : Pending) → IsFurther e (touch i e)
+touch_further : (i : ℕ) (e : Pending) → IsAsFarOrFurther e (touch i e)
 touch_further i e = record { request = refl; issues = refl; age = refl; issued = refl; touched = λ k h. or_right _ _ h; ended = λ h. h }
 
-ended_further : (e : Pending) → IsFurther e (mark_ended e)
+ended_further : (e : Pending) → IsAsFarOrFurther e (mark_ended e)
 ended_further e = record { request = refl; issues = refl; age = refl; issued = refl; touched = λ k h. h; ended = λ h. refl }
 
-all_at : (f : Pending → Pending) → ((e : Pending) → IsFurther e (f e)) → (id : RequestId) (es : List Pending) → AllFurther es (map (update_pending id f) es)
+all_at : (f : Pending → Pending) → ((e : Pending) → IsAsFarOrFurther e (f e)) → (id : RequestId) (es : List Pending) → AllAsFarOrFurther es (map (update_pending id f) es)
 all_at f on id [] = refl
 all_at f on id (e ∷ es) = (one, all_at f on id es)
   where
-    one : IsFurther e (update_pending id f e)
+    one : IsAsFarOrFurther e (update_pending id f e)
     one = ⊎_elim
-        (λ p. subst (λ (x : Pending). IsFurther e x) (sym p.1) (on e))
-        (λ p. subst (λ (x : Pending). IsFurther e x) (sym p.1) (further_refl e))
+        (λ p. subst (λ (x : Pending). IsAsFarOrFurther e x) (sym p.1) (on e))
+        (λ p. subst (λ (x : Pending). IsAsFarOrFurther e x) (sym p.1) (further_refl e))
         (at_cases id f e)
 
 -- ---- steps
 
-pub spares_refl : (m : Machine) → KeepsBookAndLoans m m
+pub spares_refl : (m : Machine) → KeepsLoansAndBookOnlyAdvances m m
 spares_refl m = record { rows = refl; owner = refl; lent = refl; next_id = refl; book = all_refl m.book; kept = all_refl m.kept }
 
-pub spares_more : (a b c : Machine) → KeepsBookAndLoans a b → KeepsBookAndLoans b c → KeepsBookAndLoans a c
+pub spares_more : (a b c : Machine) → KeepsLoansAndBookOnlyAdvances a b → KeepsLoansAndBookOnlyAdvances b c → KeepsLoansAndBookOnlyAdvances a c
 spares_more a b c x y = record {
   rows = y.rows ∙ x.rows;
   owner = y.owner ∙ x.owner;
@@ -78,7 +78,7 @@ spares_more a b c x y = record {
   kept = all_more a.kept b.kept c.kept x.kept y.kept;
 }
 
-step_spares : (m : Machine) (step : Step) → IsByDevice step → KeepsBookAndLoans m (after_step m step)
+step_spares : (m : Machine) (step : Step) → IsByDevice step → KeepsLoansAndBookOnlyAdvances m (after_step m step)
 step_spares m (Touch e i block) is = record {
   rows = refl;
   owner = refl;
@@ -107,14 +107,14 @@ step_spares m Release is = absurd is
 step_spares m (Store client frame offset bytes) is = absurd is
 step_spares m (Load client frame offset bytes) is = absurd is
 
-pub steps_spare : (m : Machine) (steps : List Step) → AllByDevice steps → KeepsBookAndLoans m (after m steps)
+pub steps_spare : (m : Machine) (steps : List Step) → AllByDevice steps → KeepsLoansAndBookOnlyAdvances m (after m steps)
 steps_spare m [] is = spares_refl m
 steps_spare m (step ∷ before) is =
     spares_more m (after m before) (after m (step ∷ before)) (steps_spare m before is.0) (step_spares (after m before) step is.1)
 
 -- ---- what a driver read of the book
 
-pub same_due : (old later : List Pending) → AllFurther old later → map unanswered later ≡ map unanswered old
+pub same_due : (old later : List Pending) → AllAsFarOrFurther old later → map unanswered later ≡ map unanswered old
 same_due [] later a = ap (map unanswered) a
 same_due (x ∷ xs) [] a = absurd a
 same_due (x ∷ xs) (y ∷ ys) a =
@@ -124,20 +124,20 @@ same_due (x ∷ xs) (y ∷ ys) a =
     let rest : map unanswered ys ≡ map unanswered xs = same_due xs ys a.1 in
     λ i. head i ∷ rest i
 
-pub found_later : (old later : List Pending) (e : Pending) → AllFurther old later → Contains old e → (x : Pending) × Contains later x × IsFurther e x
-found_later [] later e a i = absurd (contains_none e i)
-found_later (x ∷ xs) [] e a i = absurd a
-found_later (x ∷ xs) (y ∷ ys) e a i = ⊎_elim
-    (λ (w : e ≡ x). (y, contains_here y ys y refl, subst (λ (z : Pending). IsFurther z y) (sym w) a.0))
-    (λ (w : Contains xs e). let q = found_later xs ys e a.1 w in (q.0, contains_there y ys q.0 q.1, q.2))
+pub entry_is_found_in_later_book : (old later : List Pending) (e : Pending) → AllAsFarOrFurther old later → Contains old e → (x : Pending) × Contains later x × IsAsFarOrFurther e x
+entry_is_found_in_later_book [] later e a i = absurd (contains_none e i)
+entry_is_found_in_later_book (x ∷ xs) [] e a i = absurd a
+entry_is_found_in_later_book (x ∷ xs) (y ∷ ys) e a i = ⊎_elim
+    (λ (w : e ≡ x). (y, contains_here y ys y refl, subst (λ (z : Pending). IsAsFarOrFurther z y) (sym w) a.0))
+    (λ (w : Contains xs e). let q = entry_is_found_in_later_book xs ys e a.1 w in (q.0, contains_there y ys q.0 q.1, q.2))
     (contains_cases x xs e i)
 
-pub found_before : (old later : List Pending) (e : Pending) → AllFurther old later → Contains later e → (x : Pending) × Contains old x × IsFurther x e
-found_before [] later e a i = absurd (contains_none e (subst (λ (l : List Pending). Contains l e) a i))
-found_before (x ∷ xs) [] e a i = absurd a
-found_before (x ∷ xs) (y ∷ ys) e a i = ⊎_elim
-    (λ (w : e ≡ y). (x, contains_here x xs x refl, subst (λ (z : Pending). IsFurther x z) (sym w) a.0))
-    (λ (w : Contains ys e). let q = found_before xs ys e a.1 w in (q.0, contains_there x xs q.0 q.1, q.2))
+pub entry_is_found_in_earlier_book : (old later : List Pending) (e : Pending) → AllAsFarOrFurther old later → Contains later e → (x : Pending) × Contains old x × IsAsFarOrFurther x e
+entry_is_found_in_earlier_book [] later e a i = absurd (contains_none e (subst (λ (l : List Pending). Contains l e) a i))
+entry_is_found_in_earlier_book (x ∷ xs) [] e a i = absurd a
+entry_is_found_in_earlier_book (x ∷ xs) (y ∷ ys) e a i = ⊎_elim
+    (λ (w : e ≡ y). (x, contains_here x xs x refl, subst (λ (z : Pending). IsAsFarOrFurther x z) (sym w) a.0))
+    (λ (w : Contains ys e). let q = entry_is_found_in_earlier_book xs ys e a.1 w in (q.0, contains_there x xs q.0 q.1, q.2))
     (contains_cases y ys e i)
 
 -- ---- frames
@@ -146,15 +146,15 @@ found_before (x ∷ xs) (y ∷ ys) e a i = ⊎_elim
 abbrev IsUnmoved : Machine → Frame → Type 0
 IsUnmoved m frame = (e : Pending) → MayStillMove m e → m.lent frame ≡ Some e.request.id → ⊥
 
-unmoved_on : (m n : Machine) (frame : Frame) → KeepsBookAndLoans m n → IsUnmoved m frame → IsUnmoved n frame
+unmoved_on : (m n : Machine) (frame : Frame) → KeepsLoansAndBookOnlyAdvances m n → IsUnmoved m frame → IsUnmoved n frame
 unmoved_on m n frame s none e may lent = ⊎_elim
     (λ (z : Contains n.book e × (e.issued ≡ true)).
-    let q = found_before m.book n.book e s.book z.0 in
+    let q = entry_is_found_in_earlier_book m.book n.book e s.book z.0 in
     none q.0 (inl (q.1, sym q.2.issued ∙ z.1)) (was q.0 q.2))
-    (λ (z : Contains n.kept e). let q = found_before m.kept n.kept e s.kept z in none q.0 (inr q.1) (was q.0 q.2))
+    (λ (z : Contains n.kept e). let q = entry_is_found_in_earlier_book m.kept n.kept e s.kept z in none q.0 (inr q.1) (was q.0 q.2))
     may
   where
-    was : (o : Pending) → IsFurther o e → m.lent frame ≡ Some o.request.id
+    was : (o : Pending) → IsAsFarOrFurther o e → m.lent frame ≡ Some o.request.id
     was o x = ap (λ f. f frame) (sym s.lent) ∙ lent ∙ ap (λ r. Some r.id) x.request
 
 touch_leaves : (m : Machine) → Sound m → (e : Pending) (i : ℕ) (block : Block) → IsEnabled m (Touch e i block) → (frame : Frame) → IsUnmoved m frame → (b : ℕ) →
@@ -194,13 +194,13 @@ frames_stay m (step ∷ before) frame r is may none b =
 
 -- ---- a machine that follows
 
-pub follows_spare : (uses : SlotStates) (m : Machine) (old new : Device) → (f : SimulatesSteps uses m old new) → KeepsBookAndLoans m (after m f.steps)
+pub follows_spare : (uses : SlotStates) (m : Machine) (old new : Device) → (f : SimulatesSteps uses m old new) → KeepsLoansAndBookOnlyAdvances m (after m f.steps)
 follows_spare uses m old new f = steps_spare m f.steps (tells_device m f.new_entries f.steps f.tape_tells_steps)
 
 -- where no request of the port is kept, none is later
-pub none_kept_on : (m n : Machine) (port : Port) → KeepsBookAndLoans m n → NoneKept m port → NoneKept n port
+pub none_kept_on : (m n : Machine) (port : Port) → KeepsLoansAndBookOnlyAdvances m n → NoneKept m port → NoneKept n port
 none_kept_on m n port s none e i is =
-    let q = found_before m.kept n.kept e s.kept i in
+    let q = entry_is_found_in_earlier_book m.kept n.kept e s.kept i in
     none q.0 q.1 (ap (λ (r : Accepted). r.port) (sym q.2.request) ∙ is)
 
 pub none_kept_after : (m : Machine) (steps : List Step) (port : Port) → AllByDevice steps → NoneKept m port → NoneKept (after m steps) port

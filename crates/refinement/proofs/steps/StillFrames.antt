@@ -26,7 +26,7 @@ use Rattle.refinement.specs.PortFacts.{DeviceSparesFrame, CommandsAreOver}
 use Rattle.refinement.specs.Simulation.{SimulatesSteps}
 use Rattle.refinement.specs.MemoryLayout.{scratch_frame_address, sector_address}
 use Rattle.refinement.specs.Slots.{SlotState, Free, Own, Serves, SlotStates, SlotDecodesTo, HasListInPlace, AreRequestPlaces, ServesRequest, OwnAwaitsFetch, OwnIsTaken, OwnIsOver, IsOver, RelatesSlot, Armed}
-use Rattle.refinement.specs.SparedBook.{KeepsBookAndLoans}
+use Rattle.refinement.specs.SparedBook.{KeepsLoansAndBookOnlyAdvances}
 use Rattle.refinement.proofs.steps.FollowedSteps.{steps_follow}
 use Rattle.block_machine.proofs.Lending.{lent_clients}
 use Rattle.refinement.proofs.steps.MovedSector.{TakenAs, taken_as}
@@ -119,7 +119,7 @@ module _ (uses : SlotStates) (m : Machine) (d : Device) (a : StateRelation uses 
         (λ (y : ((t : FetchedCommand) × ((d.port port).taken slot ≡ Some t) × InDataBlocks t.places at) ⊎ (((d.port port).fre ≡ true) × ((d.port port).bases.fb ≤ at) × (at < (d.port port).bases.fb + 256))). ⊎_elim
         (λ (t : (t : FetchedCommand) × ((d.port port).taken slot ≡ Some t) × InDataBlocks t.places at). taken (uses port slot) refl (a.relates_slots port slot) t.0 t.1 t.2)
         (λ (f : ((d.port port).fre ≡ true) × ((d.port port).bases.fb ≤ at) × (at < (d.port port).bases.fb + 256)).
-        let r = a.received_areas_are_placed port f.0 in let p = past in omega (arith, r.area_is_in_place, r.port_is_below_4, f.2, p))
+        let r = a.received_areas_in_use_are_placed port f.0 in let p = past in omega (arith, r.area_is_in_place, r.port_is_below_4, f.2, p))
         y)
         x
 
@@ -129,9 +129,9 @@ module _ (uses : SlotStates) (m : Machine) (d : Device) (a : StateRelation uses 
 still_stays : (uses : SlotStates) (m : Machine) (d : Device) (frame : Frame) → IsReachable m → StateRelation uses m d → DRIVER_FRAMES ≤ frame.0 → ((id : RequestId) → m.lent frame ≡ Some id → CommandsAreOver uses d id) → IsStable (DeviceSparesFrame frame) d
 still_stays uses m d frame reached a high over mid s =
     let f : SimulatesSteps uses m d mid = steps_follow uses m d mid reached a s in
-    let spares : KeepsBookAndLoans m (left.after m f.steps) = follows_spare uses m d mid f in
+    let spares : KeepsLoansAndBookOnlyAdvances m (left.after m f.steps) = follows_spare uses m d mid f in
     still_now uses (left.after m f.steps) mid f.state_relation (reached_more m f.steps reached f.steps_are_enabled) frame high (λ id lent port slot u.
-    let k : PortBitsOnlyFall (d.port port) (mid.port port) = (law_step_lists_keep_what_steps_keep s).ports_are_kept port in
+    let k : PortBitsOnlyFall (d.port port) (mid.port port) = (law_step_lists_keep_what_steps_keep s).port_bits_only_fall port in
     let o : IsOver (d.port port) slot = over id (ap (λ (lent : Frame → Option RequestId). lent frame) (sym spares.lent) ∙ lent) port slot u in
     record { is_not_issued = k.ci_stays_clear slot o.is_not_issued; is_not_taken = k.slots_stay_free slot o.is_not_issued o.is_not_taken })
 
@@ -147,7 +147,7 @@ unlent_is_still uses m d frame reached a none high = still_stays uses m d frame 
 -- an idle device, which has nothing in use whatever it does, uses no byte
 pub idle_is_still : (d : Device) (frame : Frame) → IsIdle d → IsStable (DeviceSparesFrame frame) d
 idle_is_still d frame idle mid s port slot at from to x =
-    let k : PortBitsOnlyFall (d.port port) (mid.port port) = (law_step_lists_keep_what_steps_keep s).ports_are_kept port in
+    let k : PortBitsOnlyFall (d.port port) (mid.port port) = (law_step_lists_keep_what_steps_keep s).port_bits_only_fall port in
     let i : IsIdlePort (d.port port) = idle.ports_are_idle port in
     let none : IsOver (mid.port port) slot = record { is_not_issued = k.ci_stays_clear slot (i.ci_is_clear slot); is_not_taken = k.slots_stay_free slot (i.ci_is_clear slot) (i.none_is_taken slot) } in
     ⊎_elim

@@ -129,7 +129,7 @@ module _ (uses : SlotStates) (m : Machine) (d : Device) (a : StateRelation uses 
               meaning = same;
               places_are = says_places d.memory (d.port port).bases.clb slot c h.command places h.places can.says h.slot_decodes_to.decodes_to;
               running = can.working.cr_is_set;
-              ci_is_set_while_plain = fallen_if (is_queued c.operation) (d.port port).ci slot can.fetchable.issued ∙ ap not queued ∙ ap (λ (st : Bool). st && not (is_queued h.command.operation)) (sym can.fetchable.st_is_set);
+              ci_is_set_iff_st_and_plain = fallen_if (is_queued c.operation) (d.port port).ci slot can.fetchable.issued ∙ ap not queued ∙ ap (λ (st : Bool). st && not (is_queued h.command.operation)) (sym can.fetchable.st_is_set);
               sact = x.sact ∙ ap (λ (st : Bool). st && is_queued h.command.operation) (sym can.fetchable.st_is_set);
               progress = started h.pending.request.asked.op d.memory port h.pending c places x.has_block_if_trim x.untouched;
               unended = x.unended;
@@ -169,10 +169,10 @@ module _ (uses : SlotStates) (m : Machine) (d : Device) (a : StateRelation uses 
         present = refl;
         name = refl;
         size = refl;
-        sectors = λ t. a.sectors_are_same t port;
-        other_sectors = λ t q ne. a.sectors_are_same t q;
-        lasting = λ t. a.holds_replug_candidates t port;
-        other_lasting = λ t q ne. a.holds_replug_candidates t q;
+        sectors = λ t. a.sectors_are_same_if_disks_tell t port;
+        other_sectors = λ t q ne. a.sectors_are_same_if_disks_tell t q;
+        lasting = λ t. a.holds_replug_candidates_if_disks_tell t port;
+        other_lasting = λ t q ne. a.holds_replug_candidates_if_disks_tell t q;
         memory = a.client_frames_are_same;
       });
     }

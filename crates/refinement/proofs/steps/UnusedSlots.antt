@@ -23,7 +23,7 @@ use Rattle.refinement.proofs.relation.SlotRelation.{told_on, block_on}
 use Rattle.refinement.specs.MemoryLayout.{command_list_address, scratch_frame_address, sector_address}
 use Rattle.refinement.specs.Slots.{SlotDecodesTo, HasBlockIfTrim, SlotState, Free, Own, Serves, SlotStates, MeansRequest, AreRequestPlaces, OwnAwaitsFetch, OwnIsTaken, OwnIsOver, RelatesSlot, Armed}
 use Rattle.refinement.specs.Relation.{StateRelation}
-use Rattle.refinement.specs.Driver.{KeepsTablesAndScratch}
+use Rattle.refinement.specs.Driver.{KeepsTablesAndScratchUnlessOwn}
 use Rattle.refinement.specs.Simulation.{SimulatesSteps}
 use Rattle.refinement.proofs.relation.WrittenBytes.{MayChange, table_spared, scratch_spared}
 use Rattle.refinement.proofs.steps.EndedCommand.{is_trim}
@@ -36,22 +36,22 @@ use Rattle.refinement.proofs.relation.ReachedMachine.{client_frame}
 abbrev HasOwn : SlotStates → ℕ → Type 0
 HasOwn uses port = (o : Operation) × (uses port 0 ≡ Own o)
 
-pub same_bytes : (uses : SlotStates) (old new : Device) → new.memory ≡ old.memory → KeepsTablesAndScratch uses old new
+pub same_bytes : (uses : SlotStates) (old new : Device) → new.memory ≡ old.memory → KeepsTablesAndScratchUnlessOwn uses old new
 same_bytes uses old new same = record {
   tables = λ port slot a below small t. ap (λ (f : ℕ → ℕ). f a) same;
   scratch = λ port a below own s. ap (λ (f : ℕ → ℕ). f a) same;
 }
 
-pub leaves_none : (uses : SlotStates) (d : Device) → KeepsTablesAndScratch uses d d
+pub leaves_none : (uses : SlotStates) (d : Device) → KeepsTablesAndScratchUnlessOwn uses d d
 leaves_none uses d = same_bytes uses d d refl
 
-pub leaves_more : (uses : SlotStates) (old mid new : Device) → KeepsTablesAndScratch uses old mid → KeepsTablesAndScratch uses mid new → KeepsTablesAndScratch uses old new
+pub leaves_more : (uses : SlotStates) (old mid new : Device) → KeepsTablesAndScratchUnlessOwn uses old mid → KeepsTablesAndScratchUnlessOwn uses mid new → KeepsTablesAndScratchUnlessOwn uses old new
 leaves_more uses old mid new x y = record {
   tables = λ p s at b c t. y.tables p s at b c t ∙ x.tables p s at b c t;
   scratch = λ p at b o s. y.scratch p at b o s ∙ x.scratch p at b o s;
 }
 
-patched_leaves : (uses : SlotStates) (old new : Device) (at : ℕ) (bytes : List ℕ) → MayChange (HasOwn uses) at (length bytes) → new.memory ≡ patched old.memory at bytes → KeepsTablesAndScratch uses old new
+patched_leaves : (uses : SlotStates) (old new : Device) (at : ℕ) (bytes : List ℕ) → MayChange (HasOwn uses) at (length bytes) → new.memory ≡ patched old.memory at bytes → KeepsTablesAndScratchUnlessOwn uses old new
 patched_leaves uses old new at bytes may same = record {
   tables = λ port slot a below small t. ap (λ (f : ℕ → ℕ). f a) same ∙ patched_apart old.memory at bytes a (λ low high. table_spared (HasOwn uses) port slot at (length bytes) a below small may t low high);
   scratch = λ port a below own s. ap (λ (f : ℕ → ℕ). f a) same ∙ patched_apart old.memory at bytes a (λ low high. scratch_spared (HasOwn uses) port at (length bytes) a below (λ x. own x.0 x.1) may s low high);
@@ -108,15 +108,15 @@ module _ (uses : SlotStates) (m : Machine) (d : Device) (reached : IsReachable m
               let l : t.moved < length t.places = can.piece_is_left in omega (arith, n, l))
           client Trim is x = true_false (ap reads_memory (is_trim t.meaning.operation ((means x).op_is ∙ ap Some is))) plain
 
-  move_leaves : (port slot : ℕ) (t : FetchedCommand) (bytes : List ℕ) → MayMove d port slot t bytes → KeepsTablesAndScratch uses d (device_after (Move port slot t bytes) d)
+  move_leaves : (port slot : ℕ) (t : FetchedCommand) (bytes : List ℕ) → MayMove d port slot t bytes → KeepsTablesAndScratchUnlessOwn uses d (device_after (Move port slot t bytes) d)
   move_leaves port slot t bytes can = by (reads_memory t.meaning.operation) refl
     where
-      by : (b : Bool) → reads_memory t.meaning.operation ≡ b → KeepsTablesAndScratch uses d (device_after (Move port slot t bytes) d)
+      by : (b : Bool) → reads_memory t.meaning.operation ≡ b → KeepsTablesAndScratchUnlessOwn uses d (device_after (Move port slot t bytes) d)
       by true e = same_bytes uses d (device_after (Move port slot t bytes) d) (ap (λ (b : Bool). if b then d.memory else patched d.memory (next_place t) bytes) e)
       by false e = patched_leaves uses d (device_after (Move port slot t bytes) d) (next_place t) bytes (move_may port slot t bytes can e)
           (ap (λ (b : Bool). if b then d.memory else patched d.memory (next_place t) bytes) e)
 
-  step_leaves : (step : steps.DeviceTransition) → d.hr ≡ false → Can step d → KeepsTablesAndScratch uses d (device_after step d)
+  step_leaves : (step : steps.DeviceTransition) → d.hr ≡ false → Can step d → KeepsTablesAndScratchUnlessOwn uses d (device_after step d)
   step_leaves (Move port slot t bytes) calm can = move_leaves port slot t bytes can
   step_leaves (Scribble port slot at bytes) calm can = patched_leaves uses d (device_after (Scribble port slot at bytes) d) at bytes (weaken uses at (length bytes) (scribble_may uses m d a port slot at bytes can).0) refl
   step_leaves (Done port slot flag t) calm can = same_bytes uses d (device_after (Done port slot flag t) d) refl
@@ -132,25 +132,25 @@ module _ (uses : SlotStates) (m : Machine) (d : Device) (reached : IsReachable m
   step_leaves (Plug port disk) calm can = same_bytes uses d (device_after (Plug port disk) d) refl
   step_leaves ResetEnds calm can = true_false can calm
 
-leads_leave : (uses : SlotStates) (m : Machine) (steps : List steps.DeviceTransition) (old new : Device) → IsReachable m → StateRelation uses m old → old.hr ≡ false → TransitionsLead steps old new → KeepsTablesAndScratch uses old new
-leads_leave uses m [] old new r a calm e = subst (KeepsTablesAndScratch uses old) (sym e) (leaves_none uses old)
+leads_leave : (uses : SlotStates) (m : Machine) (steps : List steps.DeviceTransition) (old new : Device) → IsReachable m → StateRelation uses m old → old.hr ≡ false → TransitionsLead steps old new → KeepsTablesAndScratchUnlessOwn uses old new
+leads_leave uses m [] old new r a calm e = subst (KeepsTablesAndScratchUnlessOwn uses old) (sym e) (leaves_none uses old)
 leads_leave uses m (step ∷ steps) old new r a calm (can, lead) =
     let f : SimulatesSteps uses m old (device_after step old) = step_follows uses m old step r a can in
-    let x : KeepsTablesAndScratch uses old (device_after step old) = step_leaves uses m old r a step calm can in
+    let x : KeepsTablesAndScratchUnlessOwn uses old (device_after step old) = step_leaves uses m old r a step calm can in
     let k : KeepsOverSteps old (device_after step old) = step_keeps step old can in
-    let y : KeepsTablesAndScratch uses (device_after step old) new = leads_leave uses (left.after m f.steps) steps (device_after step old) new (reached_more m f.steps r f.steps_are_enabled) f.state_relation (k.keeps_outside_reset calm).no_reset lead in
+    let y : KeepsTablesAndScratchUnlessOwn uses (device_after step old) new = leads_leave uses (left.after m f.steps) steps (device_after step old) new (reached_more m f.steps r f.steps_are_enabled) f.state_relation (k.keeps_outside_reset calm).no_reset lead in
     leaves_more uses old (device_after step old) new x y
 
-pub steps_leave : (uses : SlotStates) (m : Machine) (old new : Device) → IsReachable m → StateRelation uses m old → old.hr ≡ false → Steps old new → KeepsTablesAndScratch uses old new
+pub steps_leave : (uses : SlotStates) (m : Machine) (old new : Device) → IsReachable m → StateRelation uses m old → old.hr ≡ false → Steps old new → KeepsTablesAndScratchUnlessOwn uses old new
 steps_leave uses m old new r a calm s = leads_leave uses m s.steps old new r a calm s.lead
 
 -- so what the bytes of a slot say goes on
-pub told_is_left : (uses : SlotStates) (old new : Device) → KeepsTablesAndScratch uses old new → (port slot : ℕ) (c : Meaning) (places : List ℕ) → port < 4 → slot < 32 →
+pub told_is_left : (uses : SlotStates) (old new : Device) → KeepsTablesAndScratchUnlessOwn uses old new → (port slot : ℕ) (c : Meaning) (places : List ℕ) → port < 4 → slot < 32 →
     SlotDecodesTo old.memory (command_list_address port) port slot c places → SlotDecodesTo new.memory (command_list_address port) port slot c places
 told_is_left uses old new l port slot c places below small told =
     told_on old.memory new.memory (command_list_address port) (command_list_address port) port slot c places refl refl (λ at t. l.tables port slot at below small t) told
 
 -- and a trim's block stands there, where slot 0 has no command of the driver's own
-pub block_is_left : (uses : SlotStates) (old new : Device) → KeepsTablesAndScratch uses old new → (port : ℕ) (r : Accepted) → port < 4 → ((o : Operation) → uses port 0 ≡ Own o → ⊥) →
+pub block_is_left : (uses : SlotStates) (old new : Device) → KeepsTablesAndScratchUnlessOwn uses old new → (port : ℕ) (r : Accepted) → port < 4 → ((o : Operation) → uses port 0 ≡ Own o → ⊥) →
     HasBlockIfTrim r.asked.op old.memory port r → HasBlockIfTrim r.asked.op new.memory port r
 block_is_left uses old new l port r below own block = block_on r.asked.op old.memory new.memory port r (λ _ at t. l.scratch port at below own t) block

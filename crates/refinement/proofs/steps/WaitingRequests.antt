@@ -180,7 +180,7 @@ device_leaves m (step ∷ before) r is all =
 module _ (m later : Machine) (l : LeavesWaiting m later) (mode : QueueMode) (e : Pending) where
   issue_may : IsEnabled m (Issue mode e) → IsEnabled later (Issue mode e)
   issue_may may = (
-    l.waits e may.0 (not-true e.issued (and_parts _ _ may.1.nothing_blocks).0),
+    l.waits e may.0 (not-true e.issued (and_parts _ _ may.1.waits_and_nothing_blocks).0),
     subst (λ (b : List Unanswered). IsDue mode b (unanswered e)) (sym l.asks) may.1,
     λ y here same. let q = l.kept y here in may.2 q.0 q.1 (ap (λ (j : Accepted). j.port) q.2 ∙ same),
     subst (λ (rows : List GrantRow). HasRow e.request.asked.client e.request.asked.grant rows) (sym l.rows) may.3,

@@ -24,7 +24,7 @@ use Rattle.refinement.specs.BootWitness.{waking_device, BootWitness}
 use Rattle.refinement.specs.Errors.{IsDiskComing, NoDiskComes}
 use Rattle.refinement.specs.PortFacts.{PxisValueTellsNoTrouble}
 use Rattle.refinement.specs.PreservedParts.{IsPlugEvent, NoPlugEvents}
-use Rattle.refinement.specs.StartedPort.{IsUpForStart, IsComingUp, SetsNoStart}
+use Rattle.refinement.specs.StartedPort.{IsUpForStart, IsStoppedAndUpForStartIfShown, SetsNoStart}
 use Rattle.refinement.proofs.device.AllowedWrites.{write_stays}
 use Rattle.refinement.proofs.device.BootedPort.{well_is_found}
 use Rattle.refinement.proofs.device.RisingLink.{comreset_comes, access_coming, up_is_found, access_up}
@@ -79,7 +79,7 @@ waits = record { at_access = quieted; steps = record { steps = []; lead = refl }
 
 is_startable : MayStart (ready.port 0)
 unfolding changed
-is_startable = record { cr_is_clear = refl; receives = refl; programmed = record { clb_is_written = refl; clbu_is_written = refl; fb_is_written = refl; fbu_is_written = refl }; link_was_seen = refl; not_busy = refl }
+is_startable = record { cr_is_clear = refl; receives = refl; programmed = record { clb_is_written = refl; clbu_is_written = refl; fb_is_written = refl; fbu_is_written = refl }; link_was_seen = refl; last_tfd_was_idle = refl }
 
 -- 0 has no bit
 no_bit : (place : ℕ) → bit 0 place ≡ false
@@ -99,7 +99,7 @@ unfolding changed
 tells = record { at_access = started; steps = record { steps = []; lead = refl }; shows = λ place cause. none_shown (started.port 0) refl refl (λ k. refl) place; effect = refl }
 
 no_trouble : PxisValueTellsNoTrouble 0
-no_trouble = record { pcs_is_clear = no_bit 6; prcs_is_clear = no_bit 22; no_error_bit_is_set = λ place low high. no_bit place }
+no_trouble = record { pcs_is_clear = no_bit 6; prcs_is_clear = no_bit 22; bits_27_to_30_are_clear = λ place low high. no_bit place }
 
 -- ---- the writes are permitted
 
@@ -146,7 +146,7 @@ stands : ((waking_device.port 0).cr ≡ false) × ((linked.port 0).cr ≡ false)
 unfolding changed
 stands = (refl, refl, refl, refl, refl, refl)
 
-coming : StepLaws → IsComingUp (released.port 0)
+coming : StepLaws → IsStoppedAndUpForStartIfShown (released.port 0)
 coming laws = access_coming laws (port_at 0) (Writing (port_reg Sctl) 0) sent released (no_start Sctl 0 (λ e. cc)) (writes (port_reg Sctl) 0 sent) (none_comes sent released refl)
     (comreset_comes laws (port_at 0) 1 waking_device sent stands.0 refl (writes (port_reg Sctl) 1 waking_device))
 

@@ -16,7 +16,7 @@ use Rattle.adapter.specs.FirstRead.{first_memory, first_read_device, empty_port,
 use Rattle.adapter.specs.Memory.{bytes_at, changed, patched}
 use Rattle.adapter.specs.ReadDone.{read_of}
 use Rattle.adapter.specs.Decoding.{DecodesTo, piece_addresses}
-use Rattle.adapter.specs.Steps.{Can, WereHeld}
+use Rattle.adapter.specs.Steps.{Can, WereHeldSinceFlush}
 use Rattle.adapter.specs.Steps.DeviceTransition.{Fetch}
 use Rattle.adapter.proofs.Changed.{fun_ext, changed_same, changed_other}
 use Rattle.adapter.proofs.FirstRead.{first_says}
@@ -78,7 +78,7 @@ accepting_reached : IsReachable accepting
 accepting_reached = record { initial_machine = start; steps_since = Accept accepted ∷ []; is_initial = starts_with first_memory; is_legal = (tt, is_new); leads_to_machine = refl }
 
 may_issue : IsEnabled accepting (Issue plain waits)
-may_issue = ((0, omega arith, refl), record { is_in_book = (0, omega arith, refl); nothing_blocks = refl; slot_is_left = λ h. true_false refl h }, λ e h. absurd (All-contains (λ _. ⊥) [] e (All-nil (λ _. ⊥)) h), has_its_grant refl)
+may_issue = ((0, omega arith, refl), record { is_in_book = (0, omega arith, refl); waits_and_nothing_blocks = refl; slot_is_left = λ h. true_false refl h }, λ e h. absurd (All-contains (λ _. ⊥) [] e (All-nil (λ _. ⊥)) h), has_its_grant refl)
 
 abbrev pub issued : Machine
 issued = after_step accepting (Issue plain waits)
@@ -112,7 +112,7 @@ unfolding first_disk_sector
 tells k b bl = get_or-replicate 512 b k 0 bl
 
 -- nothing is on the tape: the disk may come back as it was first in
-lasts : (memory : ℕ → ℕ) (k : ℕ) (bytes : List ℕ) → WereHeld [] (record { sectors = Some first_disk_sector; tape_length = 0 }) 0 k bytes → HoldsOrHeldSinceFlush (start_with memory) (port_at 0) k (slice_index bytes)
+lasts : (memory : ℕ → ℕ) (k : ℕ) (bytes : List ℕ) → WereHeldSinceFlush [] (record { sectors = Some first_disk_sector; tape_length = 0 }) 0 k bytes → HoldsOrHeldSinceFlush (start_with memory) (port_at 0) k (slice_index bytes)
 lasts memory k bytes (inl is) = inl (λ b bl. ap (λ (l : List ℕ). slice_index l b) (sym (same_Some (first_disk_sector k) bytes is)) ∙ tells k b bl)
 lasts memory k bytes (inr (entry, here, is)) = let lt = here.1 in absurd (omega (arith, lt))
 
@@ -122,16 +122,16 @@ ready_knows memory = record {
   state_relation = record {
     relates_slots = λ q k. changed_at (λ _. empty_port) 0 ready_port (λ n p. IsEmptySlot p k) (record { is_not_issued = refl; is_not_taken = refl; unarmed = refl }) (λ n ne. record { is_not_issued = refl; is_not_taken = refl; unarmed = refl }) q;
     serve_distinct_requests = λ q k q' k' id u v. absurd (let z : Free ≡ Serves id = u in cc);
-    received_areas_are_placed = changed_at (λ _. empty_port) 0 ready_port (λ n p. p.fre ≡ true → HasReceivedArea p n) (λ _. record { port_is_below_4 = omega arith; area_is_in_place = refl }) (λ n ne f. true_false f refl);
+    received_areas_in_use_are_placed = changed_at (λ _. empty_port) 0 ready_port (λ n p. p.fre ≡ true → HasReceivedArea p n) (λ _. record { port_is_below_4 = omega arith; area_is_in_place = refl }) (λ n ne f. true_false f refl);
     disks_are_same = changed_at (λ _. empty_port) 0 ready_port (λ n p. IsDiskOf (start_with memory) p n) (record { present = refl; id = refl; sector_count = refl })
         (λ n ne. record { present = ne_eqb n 0 ne; id = refl; sector_count = cond-false (n == 0) 256 0 (ne_eqb n 0 ne) });
     client_frames_are_same = λ f b from small. refl;
-    sectors_are_same = λ _. changed_at (λ _. empty_port) 0 ready_port (λ n p. SameSectors (start_with memory) p.disk n)
+    sectors_are_same_if_disks_tell = λ _. changed_at (λ _. empty_port) 0 ready_port (λ n p. SameSectors (start_with memory) p.disk n)
         (record { told_sectors = first_disk_sector; disk_tells = refl; bytes_are_same = λ k b kl bl. tells k b bl })
         (λ n ne. record { told_sectors = λ k. []; disk_tells = refl; bytes_are_same = λ k b kl bl. absurd (omega (arith, kl)) });
-    holds_replug_candidates = λ _. changed_at (λ _. empty_port) 0 ready_port (λ n p. HoldsReplugCandidates (start_with memory) [] p n) (λ k inside bytes w. lasts memory k bytes w) (λ n ne k inside bytes w. absurd (omega (arith, inside)));
+    holds_replug_candidates_if_disks_tell = λ _. changed_at (λ _. empty_port) 0 ready_port (λ n p. HoldsReplugCandidates (start_with memory) [] p n) (λ k inside bytes w. lasts memory k bytes w) (λ n ne k inside bytes w. absurd (omega (arith, inside)));
   };
-  have_slots = λ q e may at_port. ⊎_elim (λ z. absurd (All-contains (λ _. ⊥) [] e (All-nil (λ _. ⊥)) z.0)) (λ z. absurd (All-contains (λ _. ⊥) [] e (All-nil (λ _. ⊥)) z)) may;
+  have_slots_unless_parked = λ q e may at_port. ⊎_elim (λ z. absurd (All-contains (λ _. ⊥) [] e (All-nil (λ _. ⊥)) z.0)) (λ z. absurd (All-contains (λ _. ⊥) [] e (All-nil (λ _. ⊥)) z)) may;
 }
 
 -- a command that is issued there may be taken
@@ -169,7 +169,7 @@ prepared = record {
   command = read_of 100 8;
   places = piece_addresses 0x64000 8;
   slot_decodes_to = told;
-  means = record { op_is = refl; first_sector_is = λ _. refl; places_are = (cut_length 0x64000 8, places_in 100); trim_is_in_slot_0 = λ e. absurd (read_no_trim e) };
+  means = record { op_is = refl; first_sector_is_if_ranged = λ _. refl; places_are = (cut_length 0x64000 8, places_in 100); trim_is_in_slot_0 = λ e. absurd (read_no_trim e) };
   queued_as_request = refl;
   has_block_if_trim = tt;
   bit_is_set = refl;
@@ -209,7 +209,7 @@ pub first_knows : DriverRelation issued first_driver_state
 first_knows = record {
   state_relation = subst (λ (d : Device). StateRelation first_slot_states issued d) (sym issues)
       (issue_agrees (idle_driver_state prepared_read).slot_states accepting prepared_read accepting_reached accepting_knows.state_relation 0 0 plain waits 1 prepared);
-  have_slots = λ q. issue_have (idle_driver_state prepared_read).slot_states accepting prepared_read accepting_reached accepting_knows.state_relation 0 0 plain waits 1 prepared q [] (accepting_knows.have_slots q);
+  have_slots_unless_parked = λ q. issue_have (idle_driver_state prepared_read).slot_states accepting prepared_read accepting_reached accepting_knows.state_relation 0 0 plain waits 1 prepared q [] (accepting_knows.have_slots_unless_parked q);
 }
 
 pub first_is_known : StepLaws → FirstReadWitness

@@ -23,7 +23,7 @@ use Rattle.refinement.specs.Slots.{Free, Own, Serves, SlotDecodesTo}
 use Rattle.refinement.specs.ReadWitness.{identify_memory, prepared_identify, issued_identify, own_driver_state, OwnCommandAgrees}
 use Rattle.refinement.proofs.relation.OneSlot.{changed_at}
 use Rattle.refinement.proofs.driver.EndedRequests.{page_is_read}
-use Rattle.refinement.proofs.driver.PermittedAccesses.{own_is_permitted}
+use Rattle.refinement.proofs.driver.PermittedAccesses.{issuing_page_command_is_permitted}
 use Rattle.refinement.proofs.driver.PutSlot.{put_same, put_have, own_agrees}
 use Rattle.refinement.proofs.witnesses.SpeltSlot.{page_told, zeros_from}
 use Rattle.refinement.proofs.witnesses.FirstRead.{start_with, starts_with, ready_knows, can_take, bit_one_other}
@@ -66,7 +66,7 @@ prepared = record {
 knows : DriverRelation machine own_driver_state
 knows = record {
   state_relation = own_agrees (idle_driver_state prepared_identify).slot_states machine prepared_identify before.state_relation 0 Identify 1 prepared;
-  have_slots = λ q. put_have (idle_driver_state prepared_identify).slot_states machine 0 0 (Own Identify) q [] (λ id u. absurd (let z : Free ≡ Serves id = u in cc)) (before.have_slots q);
+  have_slots_unless_parked = λ q. put_have (idle_driver_state prepared_identify).slot_states machine 0 0 (Own Identify) q [] (λ id u. absurd (let z : Free ≡ Serves id = u in cc)) (before.have_slots_unless_parked q);
 }
 
 -- ---- and its page comes
@@ -136,7 +136,7 @@ own_is_known laws = record {
   reached = reached;
   relation_before_issue = before;
   prepared = prepared;
-  permitted = own_is_permitted laws (idle_driver_state prepared_identify).slot_states machine prepared_identify reached before.state_relation (port_at 0) Identify 1
+  permitted = issuing_page_command_is_permitted laws (idle_driver_state prepared_identify).slot_states machine prepared_identify reached before.state_relation (port_at 0) Identify 1
       (record { ae_is_set = refl; no_reset = refl }) (omega arith, refl) prepared;
   writes = record { at_access = prepared_identify; steps = record { steps = []; lead = refl }; effect = refl };
   driver_relation = knows;

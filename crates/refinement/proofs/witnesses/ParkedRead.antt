@@ -91,7 +91,7 @@ unserved q k u = ⊎_elim
 
 parked_knows : StepLaws → DriverRelation issued parked_driver_state
 parked_knows laws =
-    park_knows (record first_driver_state { device = stopped_read }) issued (record { state_relation = (stopped_agrees laws); have_slots = first_knows.have_slots }) 0 0
+    park_knows (record first_driver_state { device = stopped_read }) issued (record { state_relation = (stopped_agrees laws); have_slots_unless_parked = first_knows.have_slots_unless_parked }) 0 0
     (record { is_not_issued = stopped_halted.no_command_is_issued 0; is_not_taken = stopped_halted.no_command_is_taken 0 }) first_id (put_same (λ _ _. Free) 0 0 (Serves first_id))
 
 pub parked_is_known : StepLaws → ParkedReadWitness

@@ -29,7 +29,7 @@ use Rattle.refinement.specs.ReadWitness.{ready_device}
 use Rattle.refinement.proofs.witnesses.QueuedReads.{two_are_known}
 use Rattle.refinement.proofs.witnesses.SpeltSlot.{IsSpelt, IsSpeltHeader, IsSpeltCommand, IsSpeltPrd, spelt_told, zeros_from}
 use Rattle.refinement.proofs.steps.RegisterWrites.{written_agrees}
-use Rattle.refinement.specs.HaltRecovery.{WorksPlainly}
+use Rattle.refinement.specs.HaltRecovery.{WorksOnUnqueuedCommandsOnly}
 
 abbrev AreTakenPlainly : Device → ℕ → Type 0
 AreTakenPlainly d port = (slot : ℕ) (t : FetchedCommand) → (d.port port).taken slot ≡ Some t → is_queued t.meaning.operation ≡ false
@@ -133,7 +133,7 @@ can_fetch = record {
   says = first_told.decodes_to;
 }
 
-unarmed_works : WorksPlainly (unarmed.port 0)
+unarmed_works : WorksOnUnqueuedCommandsOnly (unarmed.port 0)
 unfolding changed
 unarmed_works = record { start_ends_halt = refl; unarmed = λ slot. refl; taken_are_plain = λ slot t is. absurd (none-some _ is) }
 
@@ -141,7 +141,7 @@ taken_then : ((device_after (Fetch 0 0 (queued_read 100) (piece_addresses 0x6400
 unfolding changed
 taken_then = refl
 
-pub needs_agreed : ((port : ℕ) (old new : Device) → Steps old new → WorksPlainly (old.port port) → WorksPlainly (new.port port)) → ⊥
+pub needs_agreed : ((port : ℕ) (old new : Device) → Steps old new → WorksOnUnqueuedCommandsOnly (old.port port) → WorksOnUnqueuedCommandsOnly (new.port port)) → ⊥
 needs_agreed law =
     absurd (true≢false ((law 0 unarmed (device_after (Fetch 0 0 (queued_read 100) (piece_addresses 0x64000 8)) unarmed)
     (record { steps = (Fetch 0 0 (queued_read 100) (piece_addresses 0x64000 8)) ∷ []; lead = (can_fetch, refl) }) unarmed_works).taken_are_plain 0 queued_taken taken_then))

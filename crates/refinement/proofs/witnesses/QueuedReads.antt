@@ -115,7 +115,7 @@ first_in : Contains accepted.book first_waits
 first_in = contains_here first_waits (second_waits ∷ []) first_waits refl
 
 may_first : IsEnabled accepted (Issue queued first_waits)
-may_first = (first_in, record { is_in_book = into_map unanswered accepted.book first_waits first_in; nothing_blocks = refl; slot_is_left = λ _. omega arith }, λ e h. absurd (contains_none e h), has_its_grant refl)
+may_first = (first_in, record { is_in_book = into_map unanswered accepted.book first_waits first_in; waits_and_nothing_blocks = refl; slot_is_left = λ _. omega arith }, λ e h. absurd (contains_none e h), has_its_grant refl)
 
 abbrev issuing : Machine
 issuing = after_step accepted (Issue queued first_waits)
@@ -127,7 +127,7 @@ second_in : Contains issuing.book second_waits
 second_in = contains_there (newly_issued first_waits) (second_waits ∷ []) second_waits (contains_here second_waits [] second_waits refl)
 
 may_second : IsEnabled issuing (Issue queued second_waits)
-may_second = (second_in, record { is_in_book = into_map unanswered issuing.book second_waits second_in; nothing_blocks = refl; slot_is_left = λ _. omega arith }, λ e h. absurd (contains_none e h), has_its_grant refl)
+may_second = (second_in, record { is_in_book = into_map unanswered issuing.book second_waits second_in; waits_and_nothing_blocks = refl; slot_is_left = λ _. omega arith }, λ e h. absurd (contains_none e h), has_its_grant refl)
 
 abbrev machine : Machine
 machine = after_step issuing (Issue queued second_waits)
@@ -150,7 +150,7 @@ read_prepared uses m was d slot first n may free small started list told = recor
   command = queued_read first;
   places = piece_addresses (4096 * n) 8;
   slot_decodes_to = subst (λ (at : ℕ). SlotDecodesTo d.memory at 0 slot (queued_read first) (piece_addresses (4096 * n) 8)) (sym list) told;
-  means = record { op_is = refl; first_sector_is = λ _. refl; places_are = (cut_length (4096 * n) 8, places_in n); trim_is_in_slot_0 = λ e. absurd (read_no_trim e) };
+  means = record { op_is = refl; first_sector_is_if_ranged = λ _. refl; places_are = (cut_length (4096 * n) 8, places_in n); trim_is_in_slot_0 = λ e. absurd (read_no_trim e) };
   queued_as_request = refl;
   has_block_if_trim = tt;
   bit_is_set = ap (λ (b : ℕ). b == 1) (bit_at-pow_same slot);
@@ -189,7 +189,7 @@ two_armed_agrees = arming_agrees (set_slot_state (λ _ _. Free) 0 0 Armed) accep
 armed_have : (q : ℕ) → HaveSlotsUnlessParked armed_uses accepted q []
 armed_have q =
     put_have (set_slot_state (λ _ _. Free) 0 0 Armed) accepted 0 1 Armed q [] (λ id u. absurd (serves_free (sym u ∙ still_free)))
-    (put_have (λ _ _. Free) accepted 0 0 Armed q [] (λ id u. absurd (serves_free (sym u))) (accepted_knows.have_slots q))
+    (put_have (λ _ _. Free) accepted 0 0 Armed q [] (λ id u. absurd (serves_free (sym u))) (accepted_knows.have_slots_unless_parked q))
 
 -- ---- both are issued
 
@@ -213,7 +213,7 @@ second_prepared = read_prepared one_uses issuing one_accepted one_issued 1 108 1
 two_knows : StepLaws → DriverRelation machine (two_reads_driver_state two_issued)
 two_knows laws = record {
   state_relation = issue_agrees one_uses issuing one_issued (issuing_reached laws) one_agrees 0 1 queued second_waits 2 second_prepared;
-  have_slots = λ q. issue_have one_uses issuing one_issued (issuing_reached laws) one_agrees 0 1 queued second_waits 2 second_prepared q [] (one_have q);
+  have_slots_unless_parked = λ q. issue_have one_uses issuing one_issued (issuing_reached laws) one_agrees 0 1 queued second_waits 2 second_prepared q [] (one_have q);
 }
 
 -- ---- and the one is taken
@@ -246,7 +246,7 @@ pub two_are_known : StepLaws → TwoReadsWitness
 two_are_known laws = record {
   machine_before_issue = accepted;
   reached_before = accepted_reached;
-  armed = record { state_relation = two_armed_agrees; have_slots = armed_have };
+  armed = record { state_relation = two_armed_agrees; have_slots_unless_parked = armed_have };
   machine = machine;
   reached = (reached laws);
   first_request = newly_issued first_waits;
@@ -263,7 +263,7 @@ two_are_known laws = record {
       (record { ae_is_set = refl; no_reset = refl }) (omega arith, refl) (omega arith) second_prepared;
   issued = (two_knows laws);
   takes = record { steps = (Fetch 0 0 (queued_read 100) (piece_addresses 0x64000 8)) ∷ []; lead = (can_fetch, refl) };
-  driver_relation = record { state_relation = (taken_agrees laws); have_slots = (two_knows laws).have_slots };
+  driver_relation = record { state_relation = (taken_agrees laws); have_slots_unless_parked = (two_knows laws).have_slots_unless_parked };
   command = newly_fetched (queued_read 100) (piece_addresses 0x64000 8);
   taken = bits.0;
   queued = refl;

@@ -28,7 +28,7 @@ use Rattle.refinement.specs.MemoryLayout.{scratch_frame_address}
 use Rattle.refinement.specs.Slots.{Free, Own, SlotDecodesTo}
 use Rattle.refinement.specs.ReadWitness.{ready_device}
 use Rattle.refinement.proofs.relation.OneSlot.{changed_at}
-use Rattle.refinement.proofs.driver.PermittedAccesses.{own_is_permitted}
+use Rattle.refinement.proofs.driver.PermittedAccesses.{issuing_page_command_is_permitted}
 use Rattle.refinement.proofs.driver.PutSlot.{put_other, own_agrees}
 use Rattle.refinement.proofs.relation.LastingSectors.{gains_none}
 use Rattle.refinement.proofs.relation.OtherSlots.{empty_port}
@@ -36,7 +36,7 @@ use Rattle.refinement.proofs.relation.SlotRelation.{SameFixed-refl}
 use Rattle.refinement.proofs.witnesses.SpeltSlot.{page_told, zeros_from}
 use Rattle.refinement.proofs.witnesses.FirstRead.{start_with, starts_with, ready_knows, bit_one_other}
 use Rattle.refinement.specs.LogWitness.{log_memory, log_port, log_device, log_uses, LogEndsHaltWitness}
-use Rattle.refinement.specs.HaltRecovery.{RunsLinked, OwnCommandEndsHalt, FaultLeavesIssued}
+use Rattle.refinement.specs.HaltRecovery.{RunsLinked, PlainSlot0IsIssuedOrNotHalted, FaultLeavesIssued}
 use Rattle.refinement.proofs.driver.EndedHalt.{issued_ends, ended_well}
 
 -- ---- what the bytes say
@@ -67,7 +67,7 @@ halt_agrees =
     (record { slots = λ k. record { issued = refl; sact = refl; taken = refl; st = refl; cr = refl; since = refl; list = refl }; fre = refl; received_at = refl; present = refl; disk = refl })
 
 knows : DriverRelation machine (idle_driver_state log_device)
-knows = record { state_relation = halt_agrees; have_slots = ready.have_slots }
+knows = record { state_relation = halt_agrees; have_slots_unless_parked = ready.have_slots_unless_parked }
 
 runs : RunsLinked (log_device.port 0)
 unfolding changed
@@ -96,7 +96,7 @@ issued = device_after_write (Px (port_at 0) Ci) 1 log_device
 writes : Writes (Px (port_at 0) Ci) 1 log_device issued
 writes = record { at_access = log_device; steps = record { steps = []; lead = refl }; effect = refl }
 
-ends : StepLaws → OwnCommandEndsHalt log_uses 0 issued
+ends : StepLaws → PlainSlot0IsIssuedOrNotHalted log_uses 0 issued
 ends laws = issued_ends laws (idle_driver_state log_device).slot_states machine (port_at 0) ReadLog 1 log_device issued reached halt_agrees refl (λ slot ne. refl) prepared writes
 
 opens : FaultLeavesIssued log_uses 0 issued
@@ -203,7 +203,7 @@ no_trouble : PxisValueTellsNoTrouble 1
 no_trouble = record {
   pcs_is_clear = bit_one_other 6 (λ e. omega (arith, e));
   prcs_is_clear = bit_one_other 22 (λ e. omega (arith, e));
-  no_error_bit_is_set = λ place low high. bit_one_other place (λ e. omega (arith, e, low));
+  bits_27_to_30_are_clear = λ place low high. bit_one_other place (λ e. omega (arith, e, low));
 }
 
 halted : (log_device.port 0).halt ≡ LogOnly
@@ -218,7 +218,7 @@ log_is_ended laws = record {
   halted = halted;
   runs_linked = runs;
   prepared = prepared;
-  permitted = own_is_permitted laws (idle_driver_state log_device).slot_states machine log_device reached halt_agrees (port_at 0) ReadLog 1 (record { ae_is_set = refl; no_reset = refl }) (omega arith, refl) prepared;
+  permitted = issuing_page_command_is_permitted laws (idle_driver_state log_device).slot_states machine log_device reached halt_agrees (port_at 0) ReadLog 1 (record { ae_is_set = refl; no_reset = refl }) (omega arith, refl) prepared;
   issued = issued;
   writes = writes;
   ends_halt = (ends laws);

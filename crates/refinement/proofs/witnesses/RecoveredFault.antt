@@ -27,8 +27,8 @@ use Rattle.refinement.specs.StepLaws.{StepLaws}
 use Rattle.refinement.specs.Relation.{port_at}
 use Rattle.refinement.specs.PortFacts.{IsEngineStopped, PxisValueTellsNoTrouble}
 use Rattle.refinement.proofs.device.AllowedWrites.{write_stays}
-use Rattle.refinement.specs.RecoveryWitness.{FaultIsSeen, RecoveredWitness}
-use Rattle.refinement.specs.HaltRecovery.{IsLinked, WorksPlainly}
+use Rattle.refinement.specs.RecoveryWitness.{CommandMayHaveFailedBySstsRead, RecoveredWitness}
+use Rattle.refinement.specs.HaltRecovery.{IsLinked, WorksOnUnqueuedCommandsOnly}
 use Rattle.refinement.specs.TwoReadsWitness.{queued_read, two_issued}
 use Rattle.refinement.proofs.device.PlainPort.{plainly_well}
 use Rattle.refinement.proofs.witnesses.QueuedReads.{second_told}
@@ -135,7 +135,7 @@ tells : Reads (port_reg Is) 0 started found
 tells = record { at_access = started; steps = record { steps = []; lead = refl }; shows = λ place cause. none_shown (started.port 0) clear_errors.0 clear_errors.1 all_quiet place; effect = refl }
 
 no_trouble : PxisValueTellsNoTrouble 0
-no_trouble = record { pcs_is_clear = no_bit 6; prcs_is_clear = no_bit 22; no_error_bit_is_set = λ place low high. no_bit place }
+no_trouble = record { pcs_is_clear = no_bit 6; prcs_is_clear = no_bit 22; bits_27_to_30_are_clear = λ place low high. no_bit place }
 
 -- ---- the writes are permitted
 
@@ -162,7 +162,7 @@ may_stop = permitted Cmd 0x10 failed (λ p e. cc) refl refl refl (record {
 
 is_startable : MayStart (ready.port 0)
 unfolding changed
-is_startable = record { cr_is_clear = refl; receives = refl; programmed = record { clb_is_written = refl; clbu_is_written = refl; fb_is_written = refl; fbu_is_written = refl }; link_was_seen = refl; not_busy = refl }
+is_startable = record { cr_is_clear = refl; receives = refl; programmed = record { clb_is_written = refl; clbu_is_written = refl; fb_is_written = refl; fbu_is_written = refl }; link_was_seen = refl; last_tfd_was_idle = refl }
 
 may_start : IsStable (MayWrite (port_reg Cmd) 0x11) ready
 unfolding changed
@@ -175,7 +175,7 @@ may_start = permitted Cmd 0x11 ready (λ p e. cc) refl refl refl (record {
 
 -- ---- what is known of it
 
-first_plain : WorksPlainly (first_read_device.port 0)
+first_plain : WorksOnUnqueuedCommandsOnly (first_read_device.port 0)
 unfolding changed
 first_plain = record { start_ends_halt = refl; unarmed = λ slot. refl; taken_are_plain = λ slot t is. absurd (none-some _ is) }
 
@@ -183,7 +183,7 @@ first_linked : IsLinked (first_read_device.port 0)
 unfolding changed
 first_linked = record { det_is_3 = refl; present = refl; fresh = refl; no_link_is_due = refl; comreset_is_over = λ (e : 0 ≡ 1). omega (arith, e) }
 
-ready_plain : WorksPlainly (ready.port 0)
+ready_plain : WorksOnUnqueuedCommandsOnly (ready.port 0)
 unfolding changed
 ready_plain = record { start_ends_halt = refl; unarmed = λ slot. refl; taken_are_plain = λ slot t is. absurd (none-some _ is) }
 
@@ -235,7 +235,7 @@ recovery_is_found laws = record {
 
 -- ---- the fault is seen
 
-pub fault_is_seen : FaultIsSeen first_read_device 0 HaltedPlain
+pub fault_is_seen : CommandMayHaveFailedBySstsRead first_read_device 0 HaltedPlain
 unfolding changed
 fault_is_seen = record {
   seen = device_after_reading (port_reg Ssts) 3 failed;
@@ -272,7 +272,7 @@ second_fault = record { taken = refl; cr_is_set = refl; is_byte = omega arith; k
 second_fails : Steps two_issued second_failed
 second_fails = record { steps = Fetch 0 1 (queued_read 108) (piece_addresses 0x65000 8) ∷ Fault 0 1 0x40 0 second_read ∷ []; lead = (second_fetch, (second_fault, refl)) }
 
-pub queued_fault_is_seen : FaultIsSeen two_issued 1 HaltedQueued
+pub queued_fault_is_seen : CommandMayHaveFailedBySstsRead two_issued 1 HaltedQueued
 unfolding changed
 queued_fault_is_seen = record {
   seen = device_after_reading (port_reg Ssts) 3 second_failed;

@@ -73,7 +73,7 @@ waits_in : Contains accepted.book waits
 waits_in = contains_here waits [] waits refl
 
 may_issue : IsEnabled accepted (Issue plain waits)
-may_issue = (waits_in, record { is_in_book = into_map unanswered accepted.book waits waits_in; nothing_blocks = refl; slot_is_left = λ h. absurd (true≢false h) }, λ e h. absurd (contains_none e h), has_its_grant refl)
+may_issue = (waits_in, record { is_in_book = into_map unanswered accepted.book waits waits_in; waits_and_nothing_blocks = refl; slot_is_left = λ h. absurd (true≢false h) }, λ e h. absurd (contains_none e h), has_its_grant refl)
 
 abbrev issued : Machine
 issued = after_step accepted (Issue plain waits)
@@ -99,7 +99,7 @@ prepared = record {
   command = example_trim;
   places = scratch_frame_address 0 ∷ [];
   slot_decodes_to = told;
-  means = record { op_is = refl; first_sector_is = λ h. absurd (false≢true h); places_are = refl; trim_is_in_slot_0 = λ _. refl };
+  means = record { op_is = refl; first_sector_is_if_ranged = λ h. absurd (false≢true h); places_are = refl; trim_is_in_slot_0 = λ _. refl };
   queued_as_request = refl;
   has_block_if_trim = ap trim_sectors block_is ∙ block_means;
   bit_is_set = refl;
@@ -109,7 +109,7 @@ prepared = record {
 issued_knows : DriverRelation issued trim_driver_state
 issued_knows = record {
   state_relation = issue_agrees (idle_driver_state prepared_trim).slot_states accepted prepared_trim accepted_reached accepted_knows.state_relation 0 0 plain waits 1 prepared;
-  have_slots = λ q. issue_have (idle_driver_state prepared_trim).slot_states accepted prepared_trim accepted_reached accepted_knows.state_relation 0 0 plain waits 1 prepared q [] (accepted_knows.have_slots q);
+  have_slots_unless_parked = λ q. issue_have (idle_driver_state prepared_trim).slot_states accepted prepared_trim accepted_reached accepted_knows.state_relation 0 0 plain waits 1 prepared q [] (accepted_knows.have_slots_unless_parked q);
 }
 
 can_fetch : Can (Fetch 0 0 example_trim (scratch_frame_address 0 ∷ [])) issued_trim
@@ -199,7 +199,7 @@ trim_is_known laws = record {
   taken = bits.3;
   driver_relation = record {
     state_relation = silent_agrees first_slot_states issued issued_trim taken_trim (fetch_follows first_slot_states issued issued_trim issued_knows.state_relation 0 0 example_trim (scratch_frame_address 0 ∷ []) can_fetch) refl;
-    have_slots = issued_knows.have_slots;
+    have_slots_unless_parked = issued_knows.have_slots_unless_parked;
   };
   done = done_is_known laws trim_driver_state issued (reached laws) issued_knows first_id (put_same (λ _ _. Free) 0 0 (Serves first_id)) refl ended comes refl bits.0 bits.1 bits.2;
 }

@@ -77,7 +77,7 @@ impl SectorStore for FailingStore {
 
     ghost failures = { λ s. Some s.failing.failed };
 
-    ghost tells_sectors = { λ s. s.memory.are_sectors };
+    ghost told_sectors_are_valid = { λ s. s.memory.are_sectors };
 
     ghost fits = { λ s. s.memory.few };
 

@@ -1,7 +1,7 @@
 // A disk that needs no memory for its sectors, for runs in which tens of thousands of them are cleared.
 ghost use Rattle.std.specs.Prelude.{ℕ, ◌≡◌, ◌≤◌, ◌<◌, ◌^◌, Some, replicate, true};
-ghost use Rattle.sector_store.specs.Stores.{IsStoredSector};
-ghost use Rattle.server_examples.specs.NumberedSectors.{numbered_sectors};
+ghost use Rattle.sector_store.specs.Stores.{IsSectorBytes};
+ghost use Rattle.server_examples.specs.NumberedSectors.{numbered_sectors_with_cleared_range};
 
 use super::failing_store::FailingCall;
 use sector_store::SectorStore;
@@ -17,7 +17,7 @@ pub struct NumberedStore {
     failing: FailingCall,
     ghost rising: { first ≤ next },
     ghost few: { sectors < 2 ^ 64 },
-    ghost are_sectors: { (k : ℕ) → IsStoredSector (numbered_sectors first next k) },
+    ghost are_sectors: { (k : ℕ) → IsSectorBytes (numbered_sectors_with_cleared_range first next k) },
 }
 
 impl NumberedStore {
@@ -34,7 +34,7 @@ impl NumberedStore {
 
     /// What a sector holds.
     fn bytes_of(&self, sector: u64) -> [u8; 512]
-        ensures { result ≡ numbered_sectors self.now.first self.now.next sector }
+        ensures { result ≡ numbered_sectors_with_cleared_range self.now.first self.now.next sector }
     {
         if self.first <= sector && sector < self.next {
             [0; 512]
@@ -54,11 +54,11 @@ impl NumberedStore {
 impl SectorStore for NumberedStore {
     ghost size = { λ s. s.sectors };
 
-    ghost told = { λ s. Some (numbered_sectors s.first s.next) };
+    ghost told = { λ s. Some (numbered_sectors_with_cleared_range s.first s.next) };
 
     ghost failures = { λ s. Some s.failing.failed };
 
-    ghost tells_sectors = { λ s k _. s.are_sectors k };
+    ghost told_sectors_are_valid = { λ s k _. s.are_sectors k };
 
     ghost fits = { λ s. s.few };
 

@@ -99,7 +99,7 @@ module _ (laws : PrerequisiteLaws) where
 
       -- what was read told of no error
       told_none : (place : ℕ) → 27 ≤ place → place ≤ 30 → bit turn.takes_event.causes place ≡ false
-      told_none = (laws.look_laws.no_event_bits turn.takes_event.causes turn.takes_event.status (sym turn.takes_event.result_is ∙ calm)).0.no_error_bit_is_set
+      told_none = (laws.look_laws.no_event_bits turn.takes_event.causes turn.takes_event.status (sym turn.takes_event.result_is ∙ calm)).0.bits_27_to_30_are_clear
 
       -- so a fault that came is shown
       fault_shown : TapeGainsEntry (IsFaultOf port.0) old.device new → (new.port port.0).is 30 ≡ true
@@ -127,8 +127,8 @@ module _ (laws : PrerequisiteLaws) where
 
       -- no failure was shown when it began
       pub never_failed : ShowsFailure (old.device.port port.0) → ⊥
-      never_failed (inl fatal) = let high = fatal.to in false≢true (sym (shown_none.no_error_bit_is_set fatal.place fatal.from (omega (arith, high))) ∙ fatal.cause_is_set)
-      never_failed (inr fault) = false≢true (sym (shown_none.no_error_bit_is_set 30 (omega arith) (omega arith)) ∙ fault)
+      never_failed (inl fatal) = let high = fatal.to in false≢true (sym (shown_none.bits_27_to_30_are_clear fatal.place fatal.from (omega (arith, high))) ∙ fatal.cause_is_set)
+      never_failed (inr fault) = false≢true (sym (shown_none.bits_27_to_30_are_clear 30 (omega arith) (omega arith)) ∙ fault)
 
       -- nor a change of its link
       pub never_changed : ShowsLinkChange (old.device.port port.0) → ⊥
@@ -137,9 +137,9 @@ module _ (laws : PrerequisiteLaws) where
 
       pub trouble_shown : (evidence : Evidence) (ports : Ports) → LosesNoPortError evidence old ports new port
       trouble_shown evidence ports = record {
-        errors_are_handled_or_shown = λ ready port_error. inr (⊎_elim (λ shows. absurd (never_failed shows)) (λ gains. ⊎_elim (λ g. inr (fault_shown g)) (λ g. inl (fatal_shown g)) gains) port_error);
-        changes_are_handled_or_shown = λ tended port_error. inr (⊎_elim (λ shows. absurd (never_changed shows)) (λ g. inl (disk_shown g)) port_error);
-        new_fault_is_shown = λ ready g. fault_shown (gained_running (IsFaultOf port.0) port.0 old.device new g);
-        new_fatal_is_shown = λ ready g. fatal_shown (gained_running (IsFatalErrorOf port.0) port.0 old.device new g);
-        new_plug_event_is_shown = λ ready g. disk_shown (gained_running (IsPlugEvent port.0) port.0 old.device new g);
+        ready_errors_are_handled_or_shown = λ ready port_error. inr (⊎_elim (λ shows. absurd (never_failed shows)) (λ gains. ⊎_elim (λ g. inr (fault_shown g)) (λ g. inl (fatal_shown g)) gains) port_error);
+        changes_are_handled_or_shown_unless_dead = λ tended port_error. inr (⊎_elim (λ shows. absurd (never_changed shows)) (λ g. inl (disk_shown g)) port_error);
+        ready_shows_fault_since_start = λ ready g. fault_shown (gained_running (IsFaultOf port.0) port.0 old.device new g);
+        ready_shows_fatal_since_start = λ ready g. fatal_shown (gained_running (IsFatalErrorOf port.0) port.0 old.device new g);
+        ready_shows_plug_event_since_start = λ ready g. disk_shown (gained_running (IsPlugEvent port.0) port.0 old.device new g);
       }

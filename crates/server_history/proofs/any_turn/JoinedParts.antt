@@ -205,8 +205,8 @@ serviced_lift a b c d one other q x y alike i = (
   (λ lives. let w = i.1 (λ dead. lives (sym x.1 ∙ dead)) in (
     record {
       served_is_unchanged = y.0 ∙ w.0.served_is_unchanged ∙ x.0;
-      dead_is_stuck = (λ dead. alike.stuck.0 (w.0.dead_is_stuck.0 (sym y.1 ∙ dead)), λ named. y.1 ∙ w.0.dead_is_stuck.1 (alike.stuck.1 named));
-      disk_is_remembered = λ unready. same_disk a b c d q x y (w.0.disk_is_remembered (λ ready. unready (y.1 ∙ ready)));
+      dead_exactly_if_stuck = (λ dead. alike.stuck.0 (w.0.dead_exactly_if_stuck.0 (sym y.1 ∙ dead)), λ named. y.1 ∙ w.0.dead_exactly_if_stuck.1 (alike.stuck.1 named));
+      disk_is_remembered_unless_ready = λ unready. same_disk a b c d q x y (w.0.disk_is_remembered_unless_ready (λ ready. unready (y.1 ∙ ready)));
     },
     ⊎_elim (λ same. inl (same_then a c d q (same_then a b c q x same) y)) (λ int. inr (⊎_elim (λ s. inl (alike.stopped.0 s)) (λ t. inr (alike.stuck.0 t)) int)) w.1,
   )),

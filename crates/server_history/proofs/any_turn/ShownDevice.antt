@@ -104,7 +104,7 @@ module _ (laws : PrerequisiteLaws) (port : Port) where
         grows.1,
         ⊎_elim
             (λ found. found)
-            (λ none. absurd (false≢true (sym (stays_so laws port (λ p. p.present ≡ false) (laws.absent_disk_stays_out port) accesses old seen does (record { new_entries = grows.0; tape_is = grows.1; no_such_entry = none }) out) ∙ own)))
+            (λ none. absurd (false≢true (sym (stays_so laws port (λ p. p.present ≡ false) (laws.absent_disk_stays_out_if_no_disk_comes port) accesses old seen does (record { new_entries = grows.0; tape_is = grows.1; no_such_entry = none }) out) ∙ own)))
             (one_or_none (IsDiskComing port.0) (is_coming port.0) grows.0),
       ))
       (cases_Bool ((old.port port.0).present))

@@ -22,7 +22,7 @@ use Rattle.server_history.proofs.state.ListMembers.{contains_there}
 use Rattle.driver_history.specs.Evidence.{TapeGainsEntry, ShowsLinkChange, ShowsFailure}
 use Rattle.error_recovery.specs.Evidence.{ShowsFatal}
 use Rattle.error_recovery.specs.declared.Recovered.{Recovered}
-use Rattle.port_boot.specs.States.{StaysRunning}
+use Rattle.port_boot.specs.States.{StaysRunningIfUndisturbed}
 use Rattle.port_control.specs.PortEvents.{TakesEvent, port_event_of}
 use Rattle.port_control.specs.declared.events.PortEvent.{PortEvent}
 use Rattle.port_control.specs.declared.events.PortEvent.TheVariants.{FatalError, TaskFileError, LinkChanged, NoEvent}
@@ -122,7 +122,7 @@ module _ (laws : PrerequisiteLaws) (port : Port) (look : PortEvent) (old seen : 
   grows : TapeGrows old l.after_is_read
   grows = laws.port_event_laws.tape.access_grows (Reading (Px port Is) l.causes) old l.after_is_read l.reads
 
-  goes : StaysRunning port.0 old l.after_is_read
+  goes : StaysRunningIfUndisturbed port.0 old l.after_is_read
   goes = laws.runs_on_after_accesses port (Reading (Px port Is) l.causes ∷ []) old l.after_is_read on (l.after_is_read, l.reads, refl) (All-cons (DoesNotWrite Ghc) (Reading (Px port Is) l.causes) [] tt (All-nil (DoesNotWrite Ghc)))
       (All-cons (DoesNotWrite (Px port Sctl)) (Reading (Px port Is) l.causes) [] tt (All-nil (DoesNotWrite (Px port Sctl)))) (All-cons (DoesNotWrite (Px port Cmd)) (Reading (Px port Is) l.causes) [] tt (All-nil (DoesNotWrite (Px port Cmd))))
 
@@ -149,7 +149,7 @@ module _ (laws : PrerequisiteLaws) (port : Port) (look : PortEvent) (old seen : 
         (λ (is : (old.port port.0).is 30 ≡ true). inl is)
         (λ (clear : (old.port port.0).is 30 ≡ false). inr (⊎_elim
         (λ found. gains_more (IsFaultOf port.0) old l.after_is_read new later (record { new_entries = grows.0; tape_is = grows.1; entry = found.0; entry_is_new = found.1; entry_is_of_kind = found.2 }))
-        (λ none. absurd (false≢true (sym (goes.bits_rise_with_cause.changes_by_errors.fault (record { new_entries = grows.0; tape_is = grows.1; no_such_entry = none }) clear) ∙ sym (shown_at 30 refl) ∙ told.0)))
+        (λ none. absurd (false≢true (sym (goes.bits_rise_with_cause.error_bits_rise_by_errors.fault (record { new_entries = grows.0; tape_is = grows.1; no_such_entry = none }) clear) ∙ sym (shown_at 30 refl) ∙ told.0)))
         (one_or_none (IsFaultOf port.0) (is_fault port.0) grows.0)))
         (cases_Bool ((old.port port.0).is 30))
 
@@ -167,7 +167,7 @@ module _ (laws : PrerequisiteLaws) (port : Port) (look : PortEvent) (old seen : 
             (λ (is : (old.port port.0).is place ≡ true). inl (record { place = place; from = from; to = to; cause_is_set = is }))
             (λ (clear : (old.port port.0).is place ≡ false). inr (⊎_elim
             (λ found. gains_more (IsFatalErrorOf port.0) old l.after_is_read new later (record { new_entries = grows.0; tape_is = grows.1; entry = found.0; entry_is_new = found.1; entry_is_of_kind = found.2 }))
-            (λ none. absurd (false≢true (sym (goes.bits_rise_with_cause.changes_by_errors.fatal (record { new_entries = grows.0; tape_is = grows.1; no_such_entry = none }) place from to clear) ∙ sym plain ∙ sym (shown_at place cause) ∙ set)))
+            (λ none. absurd (false≢true (sym (goes.bits_rise_with_cause.error_bits_rise_by_errors.fatal (record { new_entries = grows.0; tape_is = grows.1; no_such_entry = none }) place from to clear) ∙ sym plain ∙ sym (shown_at place cause) ∙ set)))
             (one_or_none (IsFatalErrorOf port.0) (is_fatal port.0) grows.0)))
             (cases_Bool ((old.port port.0).is place))
 
@@ -181,7 +181,7 @@ module _ (laws : PrerequisiteLaws) (port : Port) (look : PortEvent) (old seen : 
     -- nor was a device missing, unless a disk came
     pub not_missing : (new : Device) → TapeGrows seen new → (old.port port.0).link_due ≡ false → (old.port port.0).ssts_det ≢ 3 → NoDiskComes port.0 old new → ⊥
     not_missing new later undue missing none =
-        not_lost (laws.look_laws.look_tells_missing_device port look old seen on l missing undue (laws.port_event_laws.tape.no_disk_comes_in_parts port.0 old seen new looked.0 later.0 looked.1 later.1 none).0)
+        not_lost (laws.look_laws.look_tells_missing_device_if_none_comes port look old seen on l missing undue (laws.port_event_laws.tape.no_disk_comes_in_parts port.0 old seen new looked.0 later.0 looked.1 later.1 none).0)
 
   -- where it told of no loss, a device showed
   pub shows_link : look ≢ LinkChanged → l.status % 16 ≡ 3

@@ -7,7 +7,7 @@ use Rattle.std.proofs.lemmas.List.Sums.{sum_by-cons}
 use Rattle.ata_types.specs.declared.Port.{Port}
 use Rattle.ata_types.specs.declared.request.Outcome.{Outcome}
 use Rattle.ata_types.specs.declared.request.RequestId.{RequestId}
-use Rattle.refinement.specs.SparedBook.{KeepsBookAndLoans}
+use Rattle.refinement.specs.SparedBook.{KeepsLoansAndBookOnlyAdvances}
 use Rattle.block_machine.specs.Events.{AllEnabled, IsByDevice, IsIssuedIn, handles_id, issues_id}
 use Rattle.block_machine.specs.Histories.{IsReachable}
 use Rattle.block_machine.specs.Expected.{after}
@@ -59,14 +59,14 @@ module _ (laws : PrerequisiteLaws) (port : Port) (m : Machine) where
 
   device_before : (step : Step) (before : List Step) → IsByDevice step → (z : Pending) → Contains (after m (step ∷ before)).book z → (x : Pending) × Contains (after m before).book x × IsSame x z
   device_before step before is z here =
-      let spares : KeepsBookAndLoans (after m before) (after_step (after m before) step) = laws.steps_and_accesses.device_steps_spare_book (after m before) (step ∷ []) (tt, is) in
-      let l = laws.steps_and_accesses.found_before (after m before).book (after m (step ∷ before)).book z spares.book here in
+      let spares : KeepsLoansAndBookOnlyAdvances (after m before) (after_step (after m before) step) = laws.steps_and_accesses.device_steps_spare_book (after m before) (step ∷ []) (tt, is) in
+      let l = laws.steps_and_accesses.entry_is_found_in_earlier_book (after m before).book (after m (step ∷ before)).book z spares.book here in
       (l.0, l.1, record { request = l.2.request; issued = l.2.issued; ended = l.2.ended })
 
   device_later : (step : Step) (before : List Step) → IsByDevice step → (y : Pending) → Contains (after m before).book y → (x : Pending) × Contains (after m (step ∷ before)).book x × IsSame y x
   device_later step before is y here =
-      let spares : KeepsBookAndLoans (after m before) (after_step (after m before) step) = laws.steps_and_accesses.device_steps_spare_book (after m before) (step ∷ []) (tt, is) in
-      let l = laws.steps_and_accesses.found_later (after m before).book (after m (step ∷ before)).book y spares.book here in
+      let spares : KeepsLoansAndBookOnlyAdvances (after m before) (after_step (after m before) step) = laws.steps_and_accesses.device_steps_spare_book (after m before) (step ∷ []) (tt, is) in
+      let l = laws.steps_and_accesses.entry_is_found_in_later_book (after m before).book (after m (step ∷ before)).book y spares.book here in
       (l.0, l.1, record { request = l.2.request; issued = l.2.issued; ended = l.2.ended })
 
   changed_before : (id : RequestId) (change : Pending → Pending) → Keeps change → (book : List Pending) (z : Pending) → Contains (map (update_pending id change) book) z → StandsIn book z

@@ -15,7 +15,7 @@ use Rattle.block_machine.specs.Expected.{after}
 use Rattle.block_machine.specs.Ports.{Evidence, Ports}
 use Rattle.block_machine.specs.State.{Machine, Pending}
 use Rattle.block_machine.specs.Steps.{Step, WaitAgain, Answer, Issue, Replace, Unplug}
-use Rattle.driver_history.specs.EvidenceHandling.{OnlyFailedPortsRequeueOrFault}
+use Rattle.driver_history.specs.EvidenceHandling.{OnlyFailedPortsRequeueAbortRevokeOrFault}
 use Rattle.server_history.specs.Turns.{IsTurnOrDeviceStep, IsByDeviceOrOnSuchPort}
 use Rattle.server_history.proofs.any_turn.TurnSteps.{IsSame, StandsIn, handled_own, issued_before, others_left, others_were, same_as, same_more, stood}
 use Rattle.server_history.proofs.plain_calls.IssueRounds.{issued_parts}
@@ -68,7 +68,7 @@ lawful_on old new evidence other ports later (WaitAgain e ∷ steps) each again 
 lawful_on old new evidence other ports later (step ∷ steps) each again a =
     lawful_on old new evidence other ports later steps (λ x y h. each x y (Contains-append_right (step ∷ []) steps (Answer x y) h)) (λ x h. again x (Contains-append_right (step ∷ []) steps (WaitAgain x) h)) a
 
-pub grounded_join : (evidence : Evidence) (late early : List Step) → OnlyFailedPortsRequeueOrFault evidence late → OnlyFailedPortsRequeueOrFault evidence early → OnlyFailedPortsRequeueOrFault evidence (late ++ early)
+pub grounded_join : (evidence : Evidence) (late early : List Step) → OnlyFailedPortsRequeueAbortRevokeOrFault evidence late → OnlyFailedPortsRequeueAbortRevokeOrFault evidence early → OnlyFailedPortsRequeueAbortRevokeOrFault evidence (late ++ early)
 grounded_join evidence [] early a b = b
 grounded_join evidence (WaitAgain e ∷ late) early a b = (grounded_join evidence late early a.0 b, a.1)
 grounded_join evidence (Answer e Aborted ∷ late) early a b = (grounded_join evidence late early a.0 b, a.1)
@@ -79,7 +79,7 @@ grounded_join evidence (Answer e Unplugged ∷ late) early a b = grounded_join e
 grounded_join evidence (Answer e PortDead ∷ late) early a b = grounded_join evidence late early a b
 grounded_join evidence (step ∷ late) early a b = grounded_join evidence late early a b
 
-pub grounded_on : (evidence other : Evidence) → ((q : Port) → Contains evidence.showing_error q → Contains other.showing_error q) → (steps : List Step) → OnlyFailedPortsRequeueOrFault evidence steps → OnlyFailedPortsRequeueOrFault other steps
+pub grounded_on : (evidence other : Evidence) → ((q : Port) → Contains evidence.showing_error q → Contains other.showing_error q) → (steps : List Step) → OnlyFailedPortsRequeueAbortRevokeOrFault evidence steps → OnlyFailedPortsRequeueAbortRevokeOrFault other steps
 grounded_on evidence other more [] a = tt
 grounded_on evidence other more (WaitAgain e ∷ steps) a = (grounded_on evidence other more steps a.0, more e.request.port a.1)
 grounded_on evidence other more (Answer e Aborted ∷ steps) a = (grounded_on evidence other more steps a.0, more e.request.port a.1)

@@ -15,7 +15,7 @@ use Rattle.block_machine.specs.Ports.{Evidence, Ports}
 use Rattle.block_machine.specs.State.{Pending}
 use Rattle.block_machine.specs.Steps.{Step, WaitAgain, Answer, Issue}
 use Rattle.block_machine.specs.declared.due.QueueMode.{QueueMode}
-use Rattle.driver_history.specs.EvidenceHandling.{OnlyFailedPortsRequeueOrFault}
+use Rattle.driver_history.specs.EvidenceHandling.{OnlyFailedPortsRequeueAbortRevokeOrFault}
 use Rattle.server_history.proofs.state.ListMembers.{contains_cases, contains_there}
 use Rattle.request_queue.specs.BookEntries.{BookEntry}
 use Rattle.request_queue.specs.Dispositions.{BookAndLoans, AreResolved, IsResolved, disposition_of, disposition_of_unfailed}
@@ -168,7 +168,7 @@ module _ (port : Port) where
 
   -- a request that goes again, or is aborted, told Revoked or told a fault in its place, is of a port that failed
   pub deciding_grounded : (evidence : Evidence) (steps : List Step) → All (IsResolveStep port) steps → ((e : Pending) → Contains steps (WaitAgain e) → Contains evidence.showing_error port)
-      → ((e : Pending) (o : Outcome) → Contains steps (Answer e o) → RestsOnFailure o → Contains evidence.showing_error port) → OnlyFailedPortsRequeueOrFault evidence steps
+      → ((e : Pending) (o : Outcome) → Contains steps (Answer e o) → RestsOnFailure o → Contains evidence.showing_error port) → OnlyFailedPortsRequeueAbortRevokeOrFault evidence steps
   deciding_grounded evidence [] all again answer = tt
   deciding_grounded evidence (WaitAgain e ∷ steps) all again answer = (
     deciding_grounded evidence steps (All-tail (IsResolveStep port) (WaitAgain e) steps all) (λ x there. again x (contains_there (WaitAgain e) steps (WaitAgain x) there)) (λ x o there. answer x o (contains_there (WaitAgain e) steps (Answer x o) there)),

@@ -239,7 +239,7 @@ module _ (laws : PrerequisiteLaws) (port : Port) (disposition : PendingRequest �
         parked = r.parked;
         steps_are_enabled = laws.steps_and_accesses.enabled_lists_join m r.steps (step ∷ []) (tt, comes) r.steps_are_enabled;
         steps_are_of_port = All-append (IsResolveStep port) r.steps (step ∷ []) r.steps_are_of_port (All-cons (IsResolveStep port) step [] of_port (All-nil (IsResolveStep port)));
-        backed = λ d. laws.backed_parts d d d m (step ∷ []) r.steps (laws.backed_own d m step own) (r.backed d);
+        backed = λ d. laws.backed_parts_join d d d m (step ∷ []) r.steps (laws.drivers_own_step_is_backed d m step own) (r.backed d);
         driver_relation = subst (λ (n : Machine). DriverRelation n (record k { awaiting_disposition = r.parked })) (sym whole_is) r.driver_relation;
         parked_of_others_is_kept = λ q ne. r.parked_of_others_is_kept q ne ∙ elsewhere q ne;
         parked_was_parked_and_not_freed = still_by;
@@ -466,7 +466,7 @@ module _ (laws : PrerequisiteLaws) (port : Port) (disposition : PendingRequest �
       goes : AreResolvable port disposition rest (record now { book = map (update_if_id request.request.id requeued_request) now.book }) (left_known request rest now mid k m may) (after_step m (WaitAgain x))
       goes = record {
         reached = laws.steps_and_accesses.reachable_stays_reachable m (WaitAgain x ∷ []) may.reached (tt, comes);
-        driver_relation = laws.slots.again_agrees k m x (decided k.awaiting_disposition port.0 request.request.id) may.reached may.driver_relation comes.0 (unserved request rest now mid k m may (ap (λ (f : Disposition). keeps_frames_lent f request.request) is)) (forgets request rest now mid k m may);
+        driver_relation = laws.slots.wait_again_agrees k m x (decided k.awaiting_disposition port.0 request.request.id) may.reached may.driver_relation comes.0 (unserved request rest now mid k m may (ap (λ (f : Disposition). keeps_frames_lent f request.request) is)) (forgets request rest now mid k m may);
         book_relation = subst (λ (id : RequestId). BookRelation (map (update_if_id id requeued_request) now.book) (after_step m (WaitAgain x)).book) (id_is request rest now mid k m may) (laws.requeue_keeps_book_relation now.book m x may.book_relation);
         loans_agree = may.loans_agree;
         book_is_well_formed = laws.requeueing_keeps_book_well_formed now.book request.request.id may.book_is_well_formed (request, here request rest now mid k m may, refl, its_issue.0, few);
@@ -490,7 +490,7 @@ meet laws port disposition [] fit replies old new k m may (none, is) = record {
   parked = k.awaiting_disposition;
   steps_are_enabled = tt;
   steps_are_of_port = All-nil (IsResolveStep port);
-  backed = λ d. laws.backed_none d m;
+  backed = λ d. laws.empty_steps_are_backed d m;
   driver_relation = may.driver_relation;
   parked_of_others_is_kept = λ q ne. refl;
   parked_was_parked_and_not_freed = λ id here. (here, λ e none goes same. nowhere e none);

@@ -34,7 +34,7 @@ use Rattle.block_machine.specs.State.{Pending}
 use Rattle.block_machine.specs.Steps.{Step, Age, WaitAgain, Answer, Load, Store, aged_pending}
 use Rattle.server_history.proofs.state.ListMembers.{contains_cases}
 use Rattle.dma_frames.specs.FrameTables.{lent_to, owner_of}
-use Rattle.driver_history.specs.AccessTrace.{UsesPortsAndNotGhc, LeavesEngine}
+use Rattle.driver_history.specs.AccessTrace.{UsesPortsAndNotGhc, WritesNeitherCmdNorSctl}
 use Rattle.server_history.specs.Prerequisites.{PrerequisiteLaws}
 use Rattle.server_history.specs.Histories.{ExtendsHistory, ExtendsStuck, LeadsToServer, load_result, store_result}
 use Rattle.server_history.specs.ServerState.{ServerState, MachineRelation, ports_of, admission_context}
@@ -178,12 +178,12 @@ module _ (laws : PrerequisiteLaws) (s : ServerState) (t : StuckInvariant s) wher
         only_timed_out_are_answered = λ e o here. absurd (none_answered e o here);
         answers_ended = λ port hung. absurd (not_hung port hung);
         none_stays_issued = λ port hung. absurd (not_hung port hung);
-        timed_out_iff_interrupted = λ port. (λ hung. absurd (not_hung port hung), λ i. absurd (uninterrupted s.device old.ports port i));
+        timed_out_iff_stopped_or_stuck = λ port. (λ hung. absurd (not_hung port hung), λ i. absurd (uninterrupted s.device old.ports port i));
         unplugged_lost_disk = λ e here. absurd (none_answered e _ here);
         shown_disk_was_in_or_came = λ port hung. absurd (not_hung port hung);
       };
       unplugged_empties_port = record { none_is_left = λ e other here. absurd (none_answered e _ here); none_is_told_dead = λ e other here. absurd (none_answered e _ here) };
-      none_is_due = λ port ready. absurd (never_ready s t.served_ports_are_dead port.0 ready);
+      none_is_due_where_ready = λ port ready. absurd (never_ready s t.served_ports_are_dead port.0 ready);
       was_ready_empty_unless_ready = λ port ready. absurd (was_never port ready);
     }
 
@@ -193,18 +193,18 @@ module _ (laws : PrerequisiteLaws) (s : ServerState) (t : StuckInvariant s) wher
         tt
         []
         (refl, All-nil (UsesPortsAndNotGhc (TimesOutAtTick old)))
-        (λ port. All-nil (LeavesEngine port))
+        (λ port. All-nil (WritesNeitherCmdNorSctl port))
         (λ port ready. absurd (never_ready s t.served_ports_are_dead port.0 ready))
         (λ port. record {
           finds_done = λ hung. absurd (not_hung port hung);
-          plain_faults_are_told = tt;
+          lone_plain_faults_are_told_unless_dead = tt;
           probes_disk = tt;
           boots_anew = λ hung. absurd (not_hung port hung);
           loses_no_error = never_troubled s t.served_ports_are_dead (told_by s.device old.ports) (record { device = s.device; abstract = old }) (ports_of s) s.device port leads.state_is_at_history_end.ports_are (never_ready s t.served_ports_are_dead port.0);
           runs_well_anew = λ i. absurd (uninterrupted s.device old.ports port i);
           handles_evidence = tt;
         })
-        (laws.backed_own s.device old.machine (Age (λ port. false)) (λ none. none))
+        (laws.drivers_own_step_is_backed s.device old.machine (Age (λ port. false)) (λ none. none))
         (subst (λ (book : List Pending). MachineRelation s (record (old.machine) { book = book })) (sym (none_older old.machine.book)) leads.state_is_at_history_end.machine_stands_for_it)
 
   pub stalled_tick : ExtendsStuck s s Tick (Replied [])

@@ -65,11 +65,11 @@ module _ (s : ServerState) (dead : ServedPortsAreDead s.probe_results) where
   pub never_troubled : (evidence : Evidence) (old : JointState Device) (ports : Ports) (new : Device) (port : Port) → old.abstract.ports ≡ ports_of s → ports.state port ≢ ReadyState
       → LosesNoPortError evidence old ports new port
   never_troubled evidence old ports new port were now = record {
-    errors_are_handled_or_shown = λ ready. absurd (never_ready port.0 (ap (λ (p : Ports). p.state port) (sym were) ∙ ready));
-    changes_are_handled_or_shown = λ tends. absurd (never_tended port (subst (λ (p : Ports). IsServedAndNotDead p port) were tends));
-    new_fault_is_shown = λ ready. absurd (now ready);
-    new_fatal_is_shown = λ ready. absurd (now ready);
-    new_plug_event_is_shown = λ ready. absurd (now ready);
+    ready_errors_are_handled_or_shown = λ ready. absurd (never_ready port.0 (ap (λ (p : Ports). p.state port) (sym were) ∙ ready));
+    changes_are_handled_or_shown_unless_dead = λ tends. absurd (never_tended port (subst (λ (p : Ports). IsServedAndNotDead p port) were tends));
+    ready_shows_fault_since_start = λ ready. absurd (now ready);
+    ready_shows_fatal_since_start = λ ready. absurd (now ready);
+    ready_shows_plug_event_since_start = λ ready. absurd (now ready);
   }
 
   pub dead_fit : ((port : ℕ) → is_served (probe_result_of s.probe_results port) ≡ true → port < 4) → PortsWellFormed (ports_of s)
@@ -107,7 +107,7 @@ module _ (s : ServerState) (b : ServerInvariant s) (dead : ServedPortsAreDead s.
       subst (HoldsAs port) (sym unserved) (record {
         state_is_absent = ap state_of unserved;
         port_is_idle = b.unserved_are_idle port.0 low unserved;
-        has_nothing_in_slots = record { all_are_free = λ slot. is.are_uses_of port.0 slot alive ∙ ap slot_state_of (b.unserved_use_no_slot port.0 slot unserved); none_is_parked = is.only_dead_ports_park port.0 alive };
+        has_nothing_in_slots = record { all_are_free = λ slot. is.slot_uses_agree_unless_dead port.0 slot alive ∙ ap slot_state_of (b.unserved_use_no_slot port.0 slot unserved); none_is_parked = is.only_dead_ports_park port.0 alive };
         has_no_unanswered = nobody_waits port unserved;
         none_is_quarantined = none_kept s m port is alive;
       })
@@ -129,17 +129,17 @@ holds_off s b dead off m reached is = (slots s b dead off m is, holds_with_off s
 -- ---- what accesses leave
 
 -- an access that touches no register of a port: GHC is read or written, or bytes are loaded or stored
-abbrev pub LeavesPorts : Access → Type 0
-LeavesPorts (Reading Ghc v) = Unit {0}
-LeavesPorts (Writing Ghc v) = Unit {0}
-LeavesPorts (Loading at bytes) = Unit {0}
-LeavesPorts (Storing at bytes) = Unit {0}
-LeavesPorts access = ⊥
+abbrev pub OnlyDeviceChangesPorts : Access → Type 0
+OnlyDeviceChangesPorts (Reading Ghc v) = Unit {0}
+OnlyDeviceChangesPorts (Writing Ghc v) = Unit {0}
+OnlyDeviceChangesPorts (Loading at bytes) = Unit {0}
+OnlyDeviceChangesPorts (Storing at bytes) = Unit {0}
+OnlyDeviceChangesPorts access = ⊥
 
 module _ (laws : PrerequisiteLaws) where
   pub steps_idle : (old new : Device) → Steps old new → (port : ℕ) → IsIdlePort (old.port port) → IsIdlePort (new.port port)
   steps_idle old new steps port idle =
-      let keeps = (laws.steps_and_accesses.steps_keep_adapter_and_notes old new steps).ports_are_kept port in
+      let keeps = (laws.steps_and_accesses.steps_keep_adapter_and_notes old new steps).port_bits_only_fall port in
       record {
         st_is_clear = keeps.st_stays_clear idle.st_is_clear;
         cr_is_clear = keeps.cr_stays_clear idle.cr_is_clear;
@@ -147,10 +147,10 @@ module _ (laws : PrerequisiteLaws) where
         fr_is_clear = keeps.fr_stays_clear idle.fr_is_clear;
         ci_is_clear = λ slot. keeps.ci_stays_clear slot (idle.ci_is_clear slot);
         sact_is_clear = λ slot. keeps.sact_stays_clear slot (idle.sact_is_clear slot);
-        none_is_taken = keeps.stays_without_commands idle.cr_is_clear idle.none_is_taken;
+        none_is_taken = keeps.none_stays_taken_while_cr_is_clear idle.cr_is_clear idle.none_is_taken;
       }
 
-  pub access_idle : (access : Access) → LeavesPorts access → (old new : Device) → Does access old new → (port : ℕ) → IsIdlePort (old.port port) → IsIdlePort (new.port port)
+  pub access_idle : (access : Access) → OnlyDeviceChangesPorts access → (old new : Device) → Does access old new → (port : ℕ) → IsIdlePort (old.port port) → IsIdlePort (new.port port)
   access_idle (Reading Ghc v) its old new does port idle = subst (λ (d : Device). IsIdlePort (d.port port)) (sym does.effect) (steps_idle old does.at_access does.steps port idle)
   access_idle (Writing Ghc v) its old new does port idle = subst (λ (d : Device). IsIdlePort (d.port port)) (sym does.effect) (steps_idle old does.at_access does.steps port idle)
   access_idle (Loading at bytes) its old new does port idle = steps_idle old new does.steps port idle
@@ -158,10 +158,10 @@ module _ (laws : PrerequisiteLaws) where
   access_idle (Reading r v) its old new does port idle = absurd its
   access_idle (Writing r v) its old new does port idle = absurd its
 
-  pub accesses_idle : (accesses : List Access) → All LeavesPorts accesses → (old new : Device) → DoesAll accesses old new → (port : ℕ) → IsIdlePort (old.port port) → IsIdlePort (new.port port)
+  pub accesses_idle : (accesses : List Access) → All OnlyDeviceChangesPorts accesses → (old new : Device) → DoesAll accesses old new → (port : ℕ) → IsIdlePort (old.port port) → IsIdlePort (new.port port)
   accesses_idle [] its old new same port idle = subst (λ (d : Device). IsIdlePort (d.port port)) (sym same) idle
   accesses_idle (access ∷ accesses) its old new (mid, does, more) port idle =
-      accesses_idle accesses (All-tail LeavesPorts access accesses its) mid new more port (access_idle access (All-head LeavesPorts access accesses its) old mid does port idle)
+      accesses_idle accesses (All-tail OnlyDeviceChangesPorts access accesses its) mid new more port (access_idle access (All-head OnlyDeviceChangesPorts access accesses its) old mid does port idle)
 
   pub steps_same : (old new : Device) → Steps old new → SameAdapter old new
   steps_same old new steps = let keeps = laws.steps_and_accesses.steps_keep_adapter_and_notes old new steps in record { telling = keeps.telling_is_kept; memory_size = keeps.memory_size_is_kept; cap = keeps.cap_is_kept; pi = keeps.pi_is_kept }

@@ -22,7 +22,7 @@ use Rattle.block_machine.specs.State.{Machine}
 use Rattle.block_machine.specs.Steps.{Step}
 use Rattle.driver_history.specs.Evidence.{IsEvidencedOf}
 use Rattle.driver_history.specs.Histories.{PortCorresponds}
-use Rattle.driver_history.specs.AccessTrace.{LeavesEngine}
+use Rattle.driver_history.specs.AccessTrace.{WritesNeitherCmdNorSctl}
 use Rattle.host_boot.specs.Resets.{IsResetAccess}
 use Rattle.host_boot.specs.TakeOver.{probe_result_of}
 use Rattle.host_boot.specs.declared.ProbeResult.{ProbeResult}
@@ -37,13 +37,13 @@ use Rattle.server_history.specs.StuckServer.{ServedPortsAreDead, ResetGetsStuck,
 use Rattle.server_history.proofs.state.DeviceSteps.{devices_belong, devices_last, devices_lawful}
 use Rattle.server_history.proofs.state.HistorySteps.{happening_with, lead_with, machine_on, with_device}
 use Rattle.server_history.proofs.state.FirstMembers.{nowhere}
-use Rattle.server_history.proofs.failed_reset.StuckInstant.{LeavesPorts, accesses_idle, booked_on, dead_fit, dead_if_served, holds_off, never_ready}
+use Rattle.server_history.proofs.failed_reset.StuckInstant.{OnlyDeviceChangesPorts, accesses_idle, booked_on, dead_fit, dead_if_served, holds_off, never_ready}
 use Rattle.server_history.proofs.state.CallEvidence.{chosen, chosen_is, evidenced_of, four, in_four, is_chosen, told_by}
 
 -- ---- a reset's accesses
 
 -- they leave each port
-leaves_ports : (access : Access) → IsResetAccess access → LeavesPorts access
+leaves_ports : (access : Access) → IsResetAccess access → OnlyDeviceChangesPorts access
 leaves_ports (Reading Ghc v) its = tt
 leaves_ports (Writing Ghc v) its = tt
 leaves_ports (Reading r v) its = absurd its
@@ -52,7 +52,7 @@ leaves_ports (Loading at bytes) its = absurd its
 leaves_ports (Storing at bytes) its = absurd its
 
 -- so none stops one
-leaves_engine : (port : Port) (access : Access) → IsResetAccess access → LeavesEngine port access
+leaves_engine : (port : Port) (access : Access) → IsResetAccess access → WritesNeitherCmdNorSctl port access
 leaves_engine port (Reading Ghc v) its = (tt, tt)
 leaves_engine port (Writing Ghc v) its = ((λ e. let z : Ghc ≡ Px port Cmd = e in cc), (λ e. let z : Ghc ≡ Px port Sctl = e in cc))
 leaves_engine port (Reading r v) its = absurd its
@@ -116,9 +116,9 @@ module _ (laws : PrerequisiteLaws) (s new : ServerState) (b : ServerInvariant s)
   stands_then : (m : Machine) → MachineRelation (record s { device = new.device }) m → MachineRelation n m
   stands_then m is = record {
     uses = is.uses;
-    are_uses_of = λ port slot alive.
+    slot_uses_agree_unless_dead = λ port slot alive.
         let unserved = alive_unserved port alive in
-        is.are_uses_of port slot (unserved_alive port unserved) ∙ ap slot_state_of (b.unserved_use_no_slot port slot unserved) ∙ sym (ap slot_state_of (g.no_slot_is_used port slot));
+        is.slot_uses_agree_unless_dead port slot (unserved_alive port unserved) ∙ ap slot_state_of (b.unserved_use_no_slot port slot unserved) ∙ sym (ap slot_state_of (g.no_slot_is_used port slot));
     awaiting_disposition = is.awaiting_disposition;
     only_dead_ports_park = λ port alive. is.only_dead_ports_park port (unserved_alive port (alive_unserved port alive));
     driver_relation = is.driver_relation;
@@ -154,7 +154,7 @@ module _ (laws : PrerequisiteLaws) (s new : ServerState) (b : ServerInvariant s)
   booked_then : (m : Machine) → IsReachable m → MachineRelation (record s { device = new.device }) m → ServerInvariant n
   booked_then m reached is =
       let on = booked_on s new.device b g.reset_stays_pending.adapter_is_kept
-      (λ port idle. accesses_idle laws its_accesses (All-weaker IsResetAccess LeavesPorts leaves_ports its_accesses g.reset_stays_pending.followed.is_driven.accesses_are_of_kind) s.device new.device g.reset_stays_pending.followed.is_driven.all_are_done port idle)
+      (λ port idle. accesses_idle laws its_accesses (All-weaker IsResetAccess OnlyDeviceChangesPorts leaves_ports its_accesses g.reset_stays_pending.followed.is_driven.accesses_are_of_kind) s.device new.device g.reset_stays_pending.followed.is_driven.all_are_done port idle)
       m reached is in
       record {
         driver_memory_fits = on.driver_memory_fits;
@@ -230,18 +230,18 @@ module _ (laws : PrerequisiteLaws) (s new : ServerState) (b : ServerInvariant s)
     evidenced_port : (port : Port) → IsEvidencedOf Reset (WasReset None) its_accesses began (ports_of n) new.device evidence port
     unfolding evidence
     evidenced_port port =
-        let leaves = All-weaker IsResetAccess (LeavesEngine port) (leaves_engine port) its_accesses g.reset_stays_pending.followed.is_driven.accesses_are_of_kind in
+        let leaves = All-weaker IsResetAccess (WritesNeitherCmdNorSctl port) (leaves_engine port) its_accesses g.reset_stays_pending.followed.is_driven.accesses_are_of_kind in
         let base = evidenced_of four Reset (WasReset None) its_accesses began (ports_of n) new.device port (λ ready. in_four port (laws.steps_and_accesses.ready_ports_are_served old.abstract.ports port fit ready).1) leaves in
         record {
-          lost_only = base.lost_only;
-          link_changed_all = base.link_changed_all;
-          link_changed_only = base.link_changed_only;
-          showing_error_all = base.showing_error_all;
-          showing_error_only = base.showing_error_only;
-          showing_fatal_error_all = base.showing_fatal_error_all;
-          showing_fatal_error_only = base.showing_fatal_error_only;
+          named_lost_may_have_lost_disk = base.named_lost_may_have_lost_disk;
+          shown_loss_of_ready_is_named = base.shown_loss_of_ready_is_named;
+          named_link_changed_had_change_or_no_device = base.named_link_changed_had_change_or_no_device;
+          shown_failure_of_ready_is_named = base.shown_failure_of_ready_is_named;
+          named_showing_error_had_error = base.named_showing_error_had_error;
+          shown_fatal_of_ready_is_named = base.shown_fatal_of_ready_is_named;
+          named_showing_fatal_had_fatal = base.named_showing_fatal_had_fatal;
           engine_is_left_or_stopped = inl leaves;
-          stopped_only = base.stopped_only;
+          named_stopped_was_stopped_or_reset = base.named_stopped_was_stopped_or_reset;
           stuck_only = λ here. inr (tt, ap (λ (p : Ports). p.served port) ports_are ∙ chosen_is its_served four port here);
         }
 
@@ -253,15 +253,15 @@ module _ (laws : PrerequisiteLaws) (s new : ServerState) (b : ServerInvariant s)
     unfolding evidence
     part steps port = record {
       finds_done = tt;
-      plain_faults_are_told = tt;
+      lone_plain_faults_are_told_unless_dead = tt;
       probes_disk = tt;
       boots_anew = tt;
       loses_no_error = record {
-        errors_are_handled_or_shown = λ ready shown. inl (inr (stuck_named port (was_served port (laws.steps_and_accesses.ready_ports_are_served old.abstract.ports port fit ready).0)));
-        changes_are_handled_or_shown = λ tends shown. inl (inr (stuck_named port (was_served port tends.0)));
-        new_fault_is_shown = λ ready. absurd (never_ready n dead port.0 ready);
-        new_fatal_is_shown = λ ready. absurd (never_ready n dead port.0 ready);
-        new_plug_event_is_shown = λ ready. absurd (never_ready n dead port.0 ready);
+        ready_errors_are_handled_or_shown = λ ready shown. inl (inr (stuck_named port (was_served port (laws.steps_and_accesses.ready_ports_are_served old.abstract.ports port fit ready).0)));
+        changes_are_handled_or_shown_unless_dead = λ tends shown. inl (inr (stuck_named port (was_served port tends.0)));
+        ready_shows_fault_since_start = λ ready. absurd (never_ready n dead port.0 ready);
+        ready_shows_fatal_since_start = λ ready. absurd (never_ready n dead port.0 ready);
+        ready_shows_plug_event_since_start = λ ready. absurd (never_ready n dead port.0 ready);
       };
       runs_well_anew = λ i ready. absurd (never_ready n dead port.0 ready);
       handles_evidence = tt;

@@ -36,7 +36,7 @@ use Rattle.request_queue.specs.declared.disposition.Revalidation.TheVariants.{Sa
 use Rattle.server_history.specs.Histories.{ExtendsStuck, LeadsToServer}
 use Rattle.block_machine.specs.Ports.{IsServiced, Ports, SamePort}
 use Rattle.driver_history.specs.Histories.{IsForeignOrUnfit, IsServedAndNotDead, ProbesDisk}
-use Rattle.driver_history.specs.AccessTrace.{UsesPortsAndNotGhc, LeavesEngine}
+use Rattle.driver_history.specs.AccessTrace.{UsesPortsAndNotGhc, WritesNeitherCmdNorSctl}
 use Rattle.server_history.proofs.state.HistorySteps.{lead_by, ports_same}
 use Rattle.server_history.proofs.healthy_turn.CallPart.{none_last}
 use Rattle.server_history.proofs.state.CallEvidence.{no_evidence, told_by, uninterrupted}
@@ -103,7 +103,7 @@ module _ (laws : PrerequisiteLaws) (s : ServerState) (t : StuckInvariant s) wher
     steps = [];
     may = tt;
     stands = is;
-    backed = laws.backed_none s.device m;
+    backed = laws.empty_steps_are_backed s.device m;
     deaths = All-nil (IsAnswerOf (IsDeath (ports_of s)));
     told = record { answers = []; permuted = IsPermutation-refl []; ordered = λ i j d lt below. absurd (omega (arith, lt, below)); low = All-nil (λ a. a.0.request.port.0 < 0); told = refl };
     settle = may_settle s b;
@@ -252,7 +252,7 @@ module _ (laws : PrerequisiteLaws) (s : ServerState) (t : StuckInvariant s) wher
     stands_then : MachineRelation new z
     stands_then = record {
       uses = p.stands.uses;
-      are_uses_of = p.stands.are_uses_of;
+      slot_uses_agree_unless_dead = p.stands.slot_uses_agree_unless_dead;
       awaiting_disposition = met.parked;
       only_dead_ports_park = λ q alive. ⊎_elim
           (λ (same : q ≡ n). ap met.parked same ∙ none_left (λ dead. alive (ap (probe_result_of s.probe_results) same ∙ dead)))
@@ -297,7 +297,7 @@ module _ (laws : PrerequisiteLaws) (s : ServerState) (t : StuckInvariant s) wher
       steps = met.steps ++ p.steps;
       may = laws.steps_and_accesses.enabled_lists_join m met.steps p.steps p.may met.steps_are_enabled;
       stands = subst (MachineRelation new) (sym (laws.steps_and_accesses.after_joins m met.steps p.steps)) stands_then;
-      backed = laws.backed_parts s.device s.device s.device m p.steps met.steps p.backed (met.backed s.device);
+      backed = laws.backed_parts_join s.device s.device s.device m p.steps met.steps p.backed (met.backed s.device);
       deaths = All-append (IsAnswerOf (IsDeath (ports_of s))) met.steps p.steps its_deaths p.deaths;
       told = told_then n p.steps met.steps before its p.told met.replies_match (λ e o here. All-contains (IsResolveStep (port_at n)) met.steps (Answer e o) met.steps_are_of_port here);
       settle = subst MayResolve one.server_is (settles_on laws c mid (port_at n) its low p.settle one);
@@ -444,8 +444,8 @@ module _ (laws : PrerequisiteLaws) (s : ServerState) (t : StuckInvariant s) wher
             (λ alive. (
               record {
                 served_is_unchanged = same.0;
-                dead_is_stuck = (λ dead. absurd (alive (sym same.1 ∙ dead)), λ here. absurd (nowhere port here));
-                disk_is_remembered = λ unready. (same.2, same.3);
+                dead_exactly_if_stuck = (λ dead. absurd (alive (sym same.1 ∙ dead)), λ here. absurd (nowhere port here));
+                disk_is_remembered_unless_ready = λ unready. (same.2, same.3);
               },
               inl same,
             )),
@@ -459,7 +459,7 @@ module _ (laws : PrerequisiteLaws) (s : ServerState) (t : StuckInvariant s) wher
         replies_match = record { answers = x.told.answers; is_permutation = x.told.permuted; ordered = x.told.ordered; replies_are_of_answers = x.told.told };
         dead_ports_tell_only_port_dead = λ e o here is. (answer_told (IsDeath (ports_of s)) x.steps x.deaths e o here).0;
         unplugged_empties_port = deaths_unplug_none (ports_of s) x.steps x.deaths (after old.machine x.steps);
-        none_is_due = λ port ready. absurd (never_ready s t.served_ports_are_dead port.0 ready);
+        none_is_due_where_ready = λ port ready. absurd (never_ready s t.served_ports_are_dead port.0 ready);
         empty_unless_ready = λ port unready. nobody_waits port;
         answers_ended = λ port ready. absurd (never_ready s t.served_ports_are_dead port.0 ((same_ports port).1 ∙ ready));
         port_is_serviced = becomes;
@@ -469,10 +469,10 @@ module _ (laws : PrerequisiteLaws) (s : ServerState) (t : StuckInvariant s) wher
       -- what isn't dead isn't served, so that no disk is tried
       probes : (port : Port) → old.ports.served port ≡ true → ProbesDisk [] (record { device = s.device; abstract = old }) (ports_of s) s.device port
       probes port its = record {
-        absent_with_device_is_booted = λ absent. absurd (let y : Dead ≡ Absent = sym (is_dead port its) ∙ absent in cc);
-        absent_gets_first_fis = λ absent. absurd (let y : Dead ≡ Absent = sym (is_dead port its) ∙ absent in cc);
-        missing_disk_makes_absent = λ bad. absurd (not_bad port its bad);
-        changed_disk_is_booted = λ bad. absurd (not_bad port its bad);
+        absent_with_device_is_booted_dead_or_has_plug_event = λ absent. absurd (let y : Dead ≡ Absent = sym (is_dead port its) ∙ absent in cc);
+        absent_gets_first_fis_or_dead_or_no_device = λ absent. absurd (let y : Dead ≡ Absent = sym (is_dead port its) ∙ absent in cc);
+        missing_disk_makes_absent_or_dead = λ bad. absurd (not_bad port its bad);
+        changed_disk_is_booted_or_absent_or_dead = λ bad. absurd (not_bad port its bad);
       }
         where
           is_dead : (port : Port) → old.ports.served port ≡ true → old.ports.state port ≡ Dead
@@ -490,11 +490,11 @@ module _ (laws : PrerequisiteLaws) (s : ServerState) (t : StuckInvariant s) wher
           (deaths_grounded (ports_of s) (told_by s.device old.ports) x.steps x.deaths)
           []
           (refl, All-nil (UsesPortsAndNotGhc (IsServedAndNotDead old.ports)))
-          (λ port. All-nil (LeavesEngine port))
+          (λ port. All-nil (WritesNeitherCmdNorSctl port))
           (λ port ready. absurd (never_ready s t.served_ports_are_dead port.0 ready))
           (λ port. record {
             finds_done = λ ready. absurd (was_never port ready);
-            plain_faults_are_told = λ alone. absurd (was_never port alone.ready);
+            lone_plain_faults_are_told_unless_dead = λ alone. absurd (was_never port alone.ready);
             probes_disk = λ its none. probes port its;
             boots_anew = ((λ ready. absurd (was_never port ready)), inl (same_ports port));
             loses_no_error = never_troubled s t.served_ports_are_dead (told_by s.device old.ports) (record { device = s.device; abstract = old }) (ports_of s) s.device port leads.state_is_at_history_end.ports_are (never_ready s t.served_ports_are_dead port.0);

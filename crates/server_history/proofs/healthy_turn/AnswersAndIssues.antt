@@ -85,7 +85,7 @@ module _ (laws : PrerequisiteLaws) (port : Port) (done : ℕ) where
     ended = [];
     each = tt;
     may = tt;
-    backed = subst (λ (n : ServerState). TapeBacksSteps old.device n.device m []) (sym none) (laws.backed_none old.device m);
+    backed = subst (λ (n : ServerState). TapeBacksSteps old.device n.device m []) (sym none) (laws.empty_steps_are_backed old.device m);
     stands = subst (λ (n : ServerState). MachineRelation n m) (sym none) is;
   }
   each_answered (e ∷ requests) old new k ready over (mid, one, its, more) m reached is =
@@ -97,8 +97,8 @@ module _ (laws : PrerequisiteLaws) (port : Port) (done : ℕ) where
         ended = y.done ∷ z.ended;
         each = (y.has, z.each);
         may = laws.steps_and_accesses.enabled_lists_join m (ok_answers_of z.ended) first (tt, (y.here, tt)) z.may;
-        backed = laws.backed_parts old.device mid.device new.device m first (ok_answers_of z.ended)
-            (subst (λ (d : Device). TapeBacksSteps old.device d m first) (sym (ap (λ (n : ServerState). n.device) one.server_is)) (laws.backed_own old.device m (Answer y.done Ok) (λ none. none))) z.backed;
+        backed = laws.backed_parts_join old.device mid.device new.device m first (ok_answers_of z.ended)
+            (subst (λ (d : Device). TapeBacksSteps old.device d m first) (sym (ap (λ (n : ServerState). n.device) one.server_is)) (laws.drivers_own_step_is_backed old.device m (Answer y.done Ok) (λ none. none))) z.backed;
         stands = subst (MachineRelation new) (sym (laws.steps_and_accesses.after_joins m (ok_answers_of z.ended) first)) z.stands;
       }
 

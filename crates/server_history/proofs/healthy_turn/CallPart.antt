@@ -24,7 +24,7 @@ use Rattle.block_machine.specs.Ports.{Evidence, IsServiced, Ports, SamePort}
 use Rattle.block_machine.specs.State.{Machine, Pending}
 use Rattle.block_machine.specs.Steps.{Step, WaitAgain, Answer, Issue}
 use Rattle.block_machine.specs.declared.due.QueueMode.{QueueMode}
-use Rattle.driver_history.specs.EvidenceHandling.{OnlyFailedPortsRequeueOrFault}
+use Rattle.driver_history.specs.EvidenceHandling.{OnlyFailedPortsRequeueAbortRevokeOrFault}
 use Rattle.driver_history.specs.Evidence.{IsEvidencedOf}
 use Rattle.driver_history.specs.Histories.{IssuesDue}
 use Rattle.host_boot.specs.TakeOver.{probe_result_of}
@@ -34,7 +34,7 @@ use Rattle.slots.specs.declared.SlotUse.{SlotUse}
 use Rattle.server_history.specs.Prerequisites.{PrerequisiteLaws}
 use Rattle.server_history.specs.IssuingAndAnswering.{StepsAnswer, TurnAnswers, HasEnded, PollsInTurnWithoutEvent, IsAnsweredIn, AllByDeviceOrIssue, SameButDeviceLoansSlotsBook, ok_answers_of}
 use Rattle.server_history.specs.ServerState.{ServerState, MachineRelation, SettledInvariant, mode_in, ports_of, remembered_at, slots_at, state_of, used_for}
-use Rattle.server_history.specs.Turns.{ServingReady, ServicesPort, IsTurnOrDeviceStep, LeavesOthers, SimulatesTurn, PortListsNameOnly, joint_state_of, abstract_state_of}
+use Rattle.server_history.specs.Turns.{ServingReady, ServicesPort, IsTurnOrDeviceStep, LeavesOtherPortsGrantsAndLastId, SimulatesTurn, PortListsNameOnly, joint_state_of, abstract_state_of}
 use Rattle.server_history.proofs.state.AnswerSteps.{answered_in, ended_stood, issuing_answers, may_parts, no_answer, no_answer_issuing, told_so, with_ok}
 use Rattle.server_history.proofs.state.TurnAccesses.{TurnList, turn_list}
 use Rattle.server_history.proofs.healthy_turn.AnswersAndIssues.{turn_apart, turn_settings, turn_slots}
@@ -94,7 +94,7 @@ device_lawful old evidence ports (WaitAgain e) base is l = absurd is
 device_lawful old evidence ports (Answer e o) base is l = absurd is
 device_lawful old evidence ports step base is l = l
 
-pub device_grounded : (evidence : Evidence) (step : Step) (base : List Step) → IsByDevice step → OnlyFailedPortsRequeueOrFault evidence base → OnlyFailedPortsRequeueOrFault evidence (step ∷ base)
+pub device_grounded : (evidence : Evidence) (step : Step) (base : List Step) → IsByDevice step → OnlyFailedPortsRequeueAbortRevokeOrFault evidence base → OnlyFailedPortsRequeueAbortRevokeOrFault evidence (step ∷ base)
 device_grounded evidence (WaitAgain e) base is g = absurd is
 device_grounded evidence (Answer e o) base is g = absurd is
 device_grounded evidence step base is g = g
@@ -168,7 +168,7 @@ module _ (laws : PrerequisiteLaws) (port : Port) (replies : List Reply) (old new
   abbrev its : Evidence
   its = no_evidence
 
-  others : LeavesOthers port old new
+  others : LeavesOtherPortsGrantsAndLastId port old new
   others = record {
     grants = ap (λ (n : ServerState). n.grants) same;
     wanted = ap (λ (n : ServerState). n.wanted) same;
@@ -238,14 +238,14 @@ module _ (laws : PrerequisiteLaws) (port : Port) (replies : List Reply) (old new
     ok_lawful : (e : Pending) → Contains b.ended e → IsLawfulAnswer began its (ports_of new) e Ok
     ok_lawful e here =
         let y = ended_by e here in
-        let l = laws.steps_and_accesses.found_before m.book (after m b.before).book e (laws.steps_and_accesses.device_steps_spare_book m b.before b.device_steps_come_first).book (ended_stood laws (after m b.before) b.ended early_may.1 e here) in
+        let l = laws.steps_and_accesses.entry_is_found_in_earlier_book m.book (after m b.before).book e (laws.steps_and_accesses.device_steps_spare_book m b.before b.device_steps_come_first).book (ended_stood laws (after m b.before) b.ended early_may.1 e here) in
         (record { pending = l.0; is_in_book = l.1; id_is = ap (λ r. r.id) (sym l.2.request); issued = sym l.2.issued ∙ y.2.issued }, y.2.issued, y.2.touched, y.2.ended)
 
     lawful : AnswersAndWaitsLawful began its (ports_of new) x.steps
     lawful = all_steps (AnswersAndWaitsLawful began its (ports_of new)) tt (device_lawful began its (ports_of new)) (λ e base here rest. (rest, ok_lawful e here)) (λ e base its_port rest. rest)
 
-    grounded : OnlyFailedPortsRequeueOrFault its x.steps
-    grounded = all_steps (OnlyFailedPortsRequeueOrFault its) tt (device_grounded its) (λ e base here rest. rest) (λ e base its_port rest. rest)
+    grounded : OnlyFailedPortsRequeueAbortRevokeOrFault its x.steps
+    grounded = all_steps (OnlyFailedPortsRequeueAbortRevokeOrFault its) tt (device_grounded its) (λ e base here rest. rest) (λ e base its_port rest. rest)
 
     -- each answer is one of these
     only_ok : (e : Pending) (o : Outcome) → Contains x.steps (Answer e o) → Contains b.ended e × (o ≡ Ok)
@@ -276,8 +276,8 @@ module _ (laws : PrerequisiteLaws) (port : Port) (replies : List Reply) (old new
       λ lives. (
         record {
           served_is_unchanged = port_same.0;
-          dead_is_stuck = (λ dead. absurd (lives (sym port_same.1 ∙ dead)), λ stuck. absurd (nowhere port stuck));
-          disk_is_remembered = λ _. (port_same.2, port_same.3);
+          dead_exactly_if_stuck = (λ dead. absurd (lives (sym port_same.1 ∙ dead)), λ stuck. absurd (nowhere port stuck));
+          disk_is_remembered_unless_ready = λ _. (port_same.2, port_same.3);
         },
         inl port_same,
       ),
@@ -286,15 +286,15 @@ module _ (laws : PrerequisiteLaws) (port : Port) (replies : List Reply) (old new
     -- no trouble was shown
     evidenced : IsEvidencedOf Service (Replied replies) list.driven.accesses (joint_state_of old m) (ports_of new) new.device its port
     evidenced = record {
-      lost_only = λ here. absurd (nowhere port here);
-      link_changed_all = λ _ loss. absurd (never_lost laws port replies old new t ready turn list port_same m reached is x.steps x.may b answered loss);
-      link_changed_only = λ here. absurd (nowhere port here);
-      showing_error_all = λ _ failure. absurd (unfailing laws port replies old new t ready turn list port_same m reached is x.steps x.may b answered failure);
-      showing_error_only = λ here. absurd (nowhere port here);
-      showing_fatal_error_all = λ _ fatal. absurd (unfailing laws port replies old new t ready turn list port_same m reached is x.steps x.may b answered (inl fatal));
-      showing_fatal_error_only = λ here. absurd (nowhere port here);
+      named_lost_may_have_lost_disk = λ here. absurd (nowhere port here);
+      shown_loss_of_ready_is_named = λ _ loss. absurd (never_lost laws port replies old new t ready turn list port_same m reached is x.steps x.may b answered loss);
+      named_link_changed_had_change_or_no_device = λ here. absurd (nowhere port here);
+      shown_failure_of_ready_is_named = λ _ failure. absurd (unfailing laws port replies old new t ready turn list port_same m reached is x.steps x.may b answered failure);
+      named_showing_error_had_error = λ here. absurd (nowhere port here);
+      shown_fatal_of_ready_is_named = λ _ fatal. absurd (unfailing laws port replies old new t ready turn list port_same m reached is x.steps x.may b answered (inl fatal));
+      named_showing_fatal_had_fatal = λ here. absurd (nowhere port here);
       engine_is_left_or_stopped = inl list.leaves;
-      stopped_only = λ here. absurd (nowhere port here);
+      named_stopped_was_stopped_or_reset = λ here. absurd (nowhere port here);
       stuck_only = λ here. absurd (nowhere port here);
     }
 
@@ -336,7 +336,7 @@ module _ (laws : PrerequisiteLaws) (port : Port) (replies : List Reply) (old new
         accesses_are_of_port = list.of;
         accesses_are_drivers_own = list.own;
         leaves_others = others;
-        others_get_no_log = λ q other lives. silent q lives;
+        others_get_no_log_unless_dead = λ q other lives. silent q lives;
         simulates_turn = λ m reached is. makes m reached is (adds m reached is) answered;
       };
     }

@@ -18,7 +18,7 @@ use Rattle.block_machine.specs.State.{Machine, Pending}
 use Rattle.block_machine.specs.Steps.{Answer, HoldsFrames, after_step, is_lent_to, unlend}
 use Rattle.server_history.proofs.state.ListMembers.{contains_cases}
 use Rattle.refinement.specs.Fragments.{driver_state_of}
-use Rattle.refinement.specs.Driver.{ForgetsAtMost, HasNoSlot, DriverState, with_slot_parked}
+use Rattle.refinement.specs.Driver.{ForgetsAtMost, HasNoSlot, DriverState, with_slot_freed_and_request_parked}
 use Rattle.refinement.specs.Slots.{Free, Serves, SlotStates, set_slot_state, IsDropped, IsEnded, IsOver, ServesRequest}
 use Rattle.dma_frames.specs.FrameTables.{OwnersAndLoans, lent_to, SetsLoanOnly}
 use Rattle.host_boot.specs.TakeOver.{probe_result_of}
@@ -62,7 +62,7 @@ given_back laws m e x old new reached lives entry same lent lends f = by (m.lent
             false≢true (sym q ∙ eq-eqb o.0 x.request.id.0 (ap (λ (i : RequestId). i.0) (sym w ∙ sym entry.id)))))
 
 -- what is parked last is forgotten
-forgets_one : (uses : SlotStates) (parked : ℕ → List RequestId) (d : Device) (port slot : ℕ) (id : RequestId) → ForgetsAtMost id (with_slot_parked (driver_state_of uses parked d) port slot id).awaiting_disposition parked
+forgets_one : (uses : SlotStates) (parked : ℕ → List RequestId) (d : Device) (port slot : ℕ) (id : RequestId) → ForgetsAtMost id (with_slot_freed_and_request_parked (driver_state_of uses parked d) port slot id).awaiting_disposition parked
 unfolding changed
 forgets_one uses parked d port slot id q other =
     elim (eqb_tells q port) [
@@ -130,7 +130,7 @@ module _ (laws : PrerequisiteLaws) (s new : ServerState) (port : Port) (e : Book
     answered = after_step m (Answer done outcome.Ok)
 
     abbrev taken : DriverState
-    taken = with_slot_parked (driver_state_of is.uses is.awaiting_disposition s.device) port.0 slot id
+    taken = with_slot_freed_and_request_parked (driver_state_of is.uses is.awaiting_disposition s.device) port.0 slot id
 
     no_slot : HasNoSlot taken.slot_states done.request.id
     no_slot = subst (HasNoSlot taken.slot_states) (sym x.id_is) (laws.slots.parked_frees (driver_state_of is.uses is.awaiting_disposition s.device) port.0 slot id is.driver_relation.state_relation.serve_distinct_requests serves)
@@ -141,7 +141,7 @@ module _ (laws : PrerequisiteLaws) (s new : ServerState) (port : Port) (e : Book
     stands : MachineRelation left answered
     stands = record {
       uses = set_slot_state is.uses port.0 slot Free;
-      are_uses_of = placed_uses s.slots port.0 slot None (let l = low in let f = k.slots_are_of_four_ports in omega (arith, l, f)) (let h = (k.slots_invariant port.0 low).has_32_slots in let small = one.slot_is_below_32 in omega (arith, h, small)) laws s.probe_results is.uses is.are_uses_of;
+      slot_uses_agree_unless_dead = placed_uses s.slots port.0 slot None (let l = low in let f = k.slots_are_of_four_ports in omega (arith, l, f)) (let h = (k.slots_invariant port.0 low).has_32_slots in let small = one.slot_is_below_32 in omega (arith, h, small)) laws s.probe_results is.uses is.slot_uses_agree_unless_dead;
       awaiting_disposition = is.awaiting_disposition;
       only_dead_ports_park = is.only_dead_ports_park;
       driver_relation = laws.slots.answered_agrees taken m done outcome.Ok is.awaiting_disposition reached (laws.slots.parked_agrees (driver_state_of is.uses is.awaiting_disposition s.device) m is.driver_relation port.0 slot over id serves) r.here refl no_slot forgets;
@@ -186,7 +186,7 @@ module _ (laws : PrerequisiteLaws) (s new : ServerState) (port : Port) (e : Book
       (λ q n used h is there same. k.slots_queue_as_asked q n used h (freed_was s.slots port.0 slot in_list in_places q.0 n used is) ((laws.removal_keeps_other_entries s.book id h).0 there).0 same)
       (λ q n used is. k.slots_store_commands q n used (freed_was s.slots port.0 slot in_list in_places q n used is))
       (λ q n used is plain.
-      let a = k.plain_stands_alone q n used (freed_was s.slots port.0 slot in_list in_places q n used is) plain in
+      let a = k.plain_is_alone_in_slot_0 q n used (freed_was s.slots port.0 slot in_list in_places q n used is) plain in
       (a.0, λ other ne. still_none q other (a.1 other ne)))
       (laws.answering_keeps_well_formed s.table new.table s.book e one.is_in_book one.lends_only k.entries_are_well_formed)
       (laws.removing_keeps_book_well_formed s.book id k.book_is_well_formed)

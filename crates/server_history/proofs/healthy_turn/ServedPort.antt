@@ -132,7 +132,7 @@ module _ (s : ServerState) (port : Port) (k : InCallInvariant s) (ready : state_
 
       by : IsInSomeStage s.device.memory (s.device.port port.0) port.0 slot x.pending x.command x.places → IsOver (s.device.port port.0) slot
       by (inl w) = absurd (false≢true (sym ci ∙ w.issued))
-      by (inr (inl t)) = absurd (never_both (s.device.port port.0).st (is_queued x.command.operation) _ _ ((k.port_invariant port.0 found.0).ready_engine_runs ready).st_is_set t.ci_is_set_while_plain t.sact ci sact)
+      by (inr (inl t)) = absurd (never_both (s.device.port port.0).st (is_queued x.command.operation) _ _ ((k.port_invariant port.0 found.0).ready_engine_runs ready).st_is_set t.ci_is_set_iff_st_and_plain t.sact ci sact)
       by (inr (inr (inl e))) = record { is_not_issued = e.is_not_issued; is_not_taken = e.is_not_taken }
       by (inr (inr (inr d))) = record { is_not_issued = d.is_not_issued; is_not_taken = d.is_not_taken }
 
@@ -303,7 +303,7 @@ module _ (s : ServerState) (seen : Device) (port : Port) (t : SettledInvariant s
           steps = z.steps ++ base;
           may = laws.steps_and_accesses.enabled_lists_join m z.steps base base_may z.may;
           stands = subst (MachineRelation new) (sym (laws.steps_and_accesses.after_joins m z.steps base)) z.stands;
-          backed = laws.backed_parts s.device a.server_after_answers.device new.device m base z.steps base_backed z.backed;
+          backed = laws.backed_parts_join s.device a.server_after_answers.device new.device m base z.steps base_backed z.backed;
           answers = record {
             requests = a.requests;
             replies_are = a.replies_are;
@@ -342,7 +342,7 @@ module _ (s : ServerState) (seen : Device) (port : Port) (t : SettledInvariant s
             base_may = laws.steps_and_accesses.enabled_lists_join m (ok_answers_of y.ended) x.0 x.1 y.may
 
             base_backed : TapeBacksSteps s.device a.server_after_answers.device m base
-            base_backed = laws.backed_parts s.device found a.server_after_answers.device m x.0 (ok_answers_of y.ended) x.3 y.backed
+            base_backed = laws.backed_parts_join s.device found a.server_after_answers.device m x.0 (ok_answers_of y.ended) x.3 y.backed
 
             none_in_base : (id : RequestId) → list_any (issues_id id) base ≡ false
             none_in_base id = any_append (issues_id id) (ok_answers_of y.ended) x.0 ∙ ap (λ (b : Bool). b || list_any (issues_id id) x.0) (answers_issue_none id y.ended) ∙ devices_issue_none id x.0 x.4

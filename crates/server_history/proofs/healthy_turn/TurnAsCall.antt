@@ -122,7 +122,7 @@ module _ (laws : PrerequisiteLaws) (port : Port) (replies : List Reply) (old new
         let d = at_left (HasEnded port) b.requests b.ended b.each_has_ended r.0 r.1 in
         let id_is : d.0.request.id ≡ e.request.id = d.2.entry.id ∙ sym (ap (λ (y : Reply). y.id) r.2) ∙ told.2 ∙ (has_slot e own).id_is in
         let w = ended_stood laws (after m b.before) b.ended early_may.1 d.0 d.1 in
-        let l = laws.steps_and_accesses.found_before m.book (after m b.before).book d.0 (laws.steps_and_accesses.device_steps_spare_book m b.before b.device_steps_come_first).book w in
+        let l = laws.steps_and_accesses.entry_is_found_in_earlier_book m.book (after m b.before).book d.0 (laws.steps_and_accesses.device_steps_spare_book m b.before b.device_steps_come_first).book w in
         let one : e ≡ l.0 = one_of e l.0 own.is_in_book l.1 (ap (λ (i : RequestId). i.0) (sym id_is ∙ ap (λ r. r.id) l.2.request)) in (
           d.0,
           l.2.request ∙ ap (λ (y : Pending). y.request) (sym one),
@@ -293,7 +293,7 @@ module _ (laws : PrerequisiteLaws) (port : Port) (replies : List Reply) (old new
       link_change_leaves_none = λ gone. absurd (nowhere port gone);
       link_change_tells_alike = λ gone. absurd (nowhere port gone);
       trouble_interrupts = λ port_error. absurd (⊎_elim (nowhere port) (nowhere port) port_error);
-      trouble_leaves_none_issued = λ port_error. absurd (⊎_elim (nowhere port) (nowhere port) port_error);
+      error_or_stop_leaves_no_old_issue = λ port_error. absurd (⊎_elim (nowhere port) (nowhere port) port_error);
       one_fault_at_most = let none = counts_none (tells_fault port) steps (tells_none port steps (λ e o here. (turn_ended e o here).1)) in omega (arith, none);
       fatal_tells_no_fault = λ here. absurd (nowhere port here);
       shown_disk_was_in_or_came = λ shows. had;
@@ -303,12 +303,12 @@ module _ (laws : PrerequisiteLaws) (port : Port) (replies : List Reply) (old new
     pub ties : TurnCorresponds ServingReady port replies list.driven.accesses old new m its steps
     ties = record {
       finds_done = λ is e own. finding turn.look_is_no_event e own;
-      plain_faults_are_told = λ alone. absurd (unfailing (inr alone.shows_only_tfes.tfes_is_set));
+      lone_plain_faults_are_told_unless_dead = λ alone. absurd (unfailing (inr alone.shows_only_tfes.tfes_is_set));
       probes_disk = λ served coming. record {
-        absent_with_device_is_booted = λ absent det. absurd (not_absent absent);
-        absent_gets_first_fis = λ absent det fresh. absurd (not_absent absent);
-        missing_disk_makes_absent = λ bad. absurd (not_bad bad);
-        changed_disk_is_booted = λ bad. absurd (not_bad bad);
+        absent_with_device_is_booted_dead_or_has_plug_event = λ absent det. absurd (not_absent absent);
+        absent_gets_first_fis_or_dead_or_no_device = λ absent det fresh. absurd (not_absent absent);
+        missing_disk_makes_absent_or_dead = λ bad. absurd (not_bad bad);
+        changed_disk_is_booted_or_absent_or_dead = λ bad. absurd (not_bad bad);
       };
       boots_anew = (λ is port_error. absurd (⊎_elim (λ fatal. unfailing (inl fatal)) never_lost port_error), inl same);
       loses_no_error = trouble_shown laws port (slots_at old.slots port.0) replies (joint_state_of old m) new.device turn kept.adapter_is_on turn.look_is_no_event its (ports_of new);

@@ -169,7 +169,7 @@ module _ (s : ServerState) (r : Request) (acc : IsAcceptable (admission_context 
         client_is_at_least_1 = subst (λ (c : ClientId). 1 ≤ c.0) granted.is_named.1.0 row_is.client_is_valid.0;
         client_is_at_most_8 = subst (λ (c : ClientId). c.0 ≤ 8) granted.is_named.1.0 row_is.client_is_valid.1;
         count_is_allowed = count;
-        range_is_below_2_48 = below;
+        range_is_below_2_48_unless_flush = below;
         frame_count_is = ⊎_elim (λ (same : length r.frames.items ≡ frame_count_for r.op r.count). same) (λ other. absurd (acc (Rule FrameCount) other)) (cases_eq (length r.frames.items) (frame_count_for r.op r.count));
         frames_are_not_drivers = λ i d small. (k.owned_frames_are_clients (get_or r.frames.items i d) r.client (own i d small)).0;
         frames_are_own = λ i d small. ap (λ (owners : List (Option ClientId)). get_or owners (get_or r.frames.items i d).0 None) lends.owners_are_kept ∙ own i d small;

@@ -32,7 +32,7 @@ use Rattle.host_boot.specs.TakeOver.{probe_result_of}
 use Rattle.host_boot.specs.declared.ProbeResult.{ProbeResult}
 use Rattle.request_queue.specs.BookEntries.{BookEntry, IsWellFormedEntry, IsEarlier, as_unanswered, unanswered_of, due_ids}
 use Rattle.driver_history.specs.Histories.{IssuesDue, IsIssuingAccess}
-use Rattle.driver_history.specs.AccessTrace.{ClearsNoError, LeavesEngine}
+use Rattle.driver_history.specs.AccessTrace.{ClearsNoError, WritesNeitherCmdNorSctl}
 use Rattle.refinement.specs.PreservedParts.{DoesNotWrite}
 use Rattle.hba_regs.specs.declared.reg.Reg.TheVariants.{Ghc, Px}
 use Rattle.hba_regs.specs.declared.reg.PortReg.TheVariants.{Ci, Sact}
@@ -146,7 +146,7 @@ module _ (laws : PrerequisiteLaws) (s : ServerState) (k : InCallInvariant s) (r 
     stands_next : MachineRelation more next
     stands_next = record {
       uses = is.uses;
-      are_uses_of = is.are_uses_of;
+      slot_uses_agree_unless_dead = is.slot_uses_agree_unless_dead;
       awaiting_disposition = is.awaiting_disposition;
       only_dead_ports_park = is.only_dead_ports_park;
       driver_relation = laws.slots.accepted_agrees (driver_state_of is.uses is.awaiting_disposition s.device) m request is.driver_relation;
@@ -175,7 +175,7 @@ module _ (laws : PrerequisiteLaws) (s : ServerState) (k : InCallInvariant s) (r 
   its_mark = record { revoked_mark_agrees = (λ plain. (row, named.0, named.1), λ has. refl); waiting_is_unmarked = λ waits. refl }
 
   pub accept_kept : InCallInvariant more
-  accept_kept = kept_then s s.device s.grants table s.slots (s.book ++ e ∷ []) (s.last_id + 1) k k.rows_are_valid k.adapter_is_on (record { telling = refl; memory_size = refl; cap = refl; pi = refl }) k.port_invariant lends.owners_are_kept k.slots_are_of_four_ports k.slots_invariant kinds_then k.slots_store_commands k.plain_stands_alone accepted
+  accept_kept = kept_then s s.device s.grants table s.slots (s.book ++ e ∷ []) (s.last_id + 1) k k.rows_are_valid k.adapter_is_on (record { telling = refl; memory_size = refl; cap = refl; pi = refl }) k.port_invariant lends.owners_are_kept k.slots_are_of_four_ports k.slots_invariant kinds_then k.slots_store_commands k.plain_is_alone_in_slot_0 accepted
       (laws.appending_keeps_book_well_formed s.book e k.book_is_well_formed earlier (refl, refl, refl, refl) its.client_is_at_least_1 its.client_is_at_most_8 (has_room s r acc row named port port_is))
       (All-push (RevokedMarkInvariant s.grants) s.book e k.revoked_marks_agree its_mark)
       (All-push (λ (x : BookEntry). x.request.id.0 ≤ s.last_id + 1) s.book e (All-weaker (λ (x : BookEntry). x.request.id.0 ≤ s.last_id) (λ (x : BookEntry). x.request.id.0 ≤ s.last_id + 1) (λ x low. omega (arith, low)) s.book k.ids_were_handed_out) (omega (arith, id_is)))
@@ -216,10 +216,10 @@ module _ (laws : PrerequisiteLaws) (s : ServerState) (k : InCallInvariant s) (r 
         tt
         driven.accesses
         (driven.all_are_done, (row, its_row, All-weaker (IsBatchAccess port) (IsIssuingAccess row.port) (λ access here. subst (λ (p : Port). IsIssuingAccess p access) (sym port_is) (issuing_is port port_low access here)) driven.accesses driven.accesses_are_of_kind))
-        (λ other. All-weaker (IsBatchAccess port) (LeavesEngine other) (issuing_leaves laws port other) driven.accesses driven.accesses_are_of_kind)
+        (λ other. All-weaker (IsBatchAccess port) (WritesNeitherCmdNorSctl other) (issuing_leaves laws port other) driven.accesses driven.accesses_are_of_kind)
         (λ other is_ready. due_now other)
-        (λ other. record { finds_done = tt; plain_faults_are_told = tt; probes_disk = tt; boots_anew = tt; loses_no_error = laws.calls.ordinary_accesses_lose_no_error other (with_device s.device old) new.device driven.accesses (told_by s.device old.abstract.ports) (ports_of new) k.adapter_is_on driven.all_are_done (All-weaker (IsBatchAccess port) (DoesNotWrite Ghc) (issuing_spares_host port) driven.accesses driven.accesses_are_of_kind) (All-weaker (IsBatchAccess port) (ClearsNoError other) (issuing_clears_none port other) driven.accesses driven.accesses_are_of_kind); runs_well_anew = λ i. absurd (uninterrupted s.device old.abstract.ports other i); handles_evidence = uninterrupted s.device old.abstract.ports other })
-        (laws.backed_parts s.device s.device new.device m early x.steps (laws.backed_own s.device m (Accept asked) (λ no. no)) x.backed)
+        (λ other. record { finds_done = tt; lone_plain_faults_are_told_unless_dead = tt; probes_disk = tt; boots_anew = tt; loses_no_error = laws.calls.ordinary_accesses_lose_no_error other (with_device s.device old) new.device driven.accesses (told_by s.device old.abstract.ports) (ports_of new) k.adapter_is_on driven.all_are_done (All-weaker (IsBatchAccess port) (DoesNotWrite Ghc) (issuing_spares_host port) driven.accesses driven.accesses_are_of_kind) (All-weaker (IsBatchAccess port) (ClearsNoError other) (issuing_clears_none port other) driven.accesses driven.accesses_are_of_kind); runs_well_anew = λ i. absurd (uninterrupted s.device old.abstract.ports other i); handles_evidence = uninterrupted s.device old.abstract.ports other })
+        (laws.backed_parts_join s.device s.device new.device m early x.steps (laws.drivers_own_step_is_backed s.device m (Accept asked) (λ no. no)) x.backed)
         stands
       where
         old : JointState Device

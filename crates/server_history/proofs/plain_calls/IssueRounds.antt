@@ -190,7 +190,7 @@ module _ (laws : PrerequisiteLaws) (port : Port) where
   each_issued [] old new k none m reached is = record {
     steps = [];
     may = tt;
-    backed = subst (λ (n : ServerState). TapeBacksSteps old.device n.device m []) (sym none) (laws.backed_none old.device m);
+    backed = subst (λ (n : ServerState). TapeBacksSteps old.device n.device m []) (sym none) (laws.empty_steps_are_backed old.device m);
     stands = subst (λ (n : ServerState). MachineRelation n m) (sym none) is;
     only = tt;
     named = λ id i. absurd (false≢true i);
@@ -404,7 +404,7 @@ module _ (laws : PrerequisiteLaws) (port : Port) where
     was =
         ap (map (mark x.steps)) (same_book new.book (after m x.steps).book x.stands.book ∙ each_asks ids old new issues ∙ each_marks ids (unanswered_of old.book))
         ∙ unmarked_all (mark x.steps) (mark_each ids) (unanswered_of old.book)
-        (λ r here. unmarked ids x.steps r x.named x.all (λ there. not_true r.issued (and_parts _ _ (is_due r here there).0.nothing_blocks).0))
+        (λ r here. unmarked ids x.steps r x.named x.all (λ there. not_true r.issued (and_parts _ _ (is_due r here there).0.waits_and_nothing_blocks).0))
 
     pub dues : (q : Port) → (q ≢ port → NoneDue (mode_in old q) (unanswered_of old.book) q) → IssuesDue (mode_in old q) x.steps (after m x.steps) q
     dues q none = subst (λ (us : List Unanswered). (r : Unanswered) → Contains us r → r.port ≡ q → IsIssuedIn r.id x.steps ↔ IsDue (mode_in old q) us r) (sym was) exact

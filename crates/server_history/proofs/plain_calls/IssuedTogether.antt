@@ -35,10 +35,10 @@ use Rattle.refinement.specs.Acts.{ActsReach, DriverSlots, driver_state_of_slots}
 use Rattle.refinement.specs.Fragments.{IsDrivenBy, GainsNoMove, SparesOtherPorts}
 use Rattle.refinement.specs.Driver.{EndsInSteps, TapeBacksSteps}
 use Rattle.refinement.specs.PreservedParts.{DoesNotWrite}
-use Rattle.refinement.specs.ReadySlots.{IsStored}
+use Rattle.refinement.specs.ReadySlots.{IsStoredOnPortWithStSet}
 use Rattle.refinement.specs.Relation.{port_at}
 use Rattle.refinement.specs.Slots.{Serves, client_operation_of, set_slot_state}
-use Rattle.refinement.specs.SparedBook.{KeepsBookAndLoans}
+use Rattle.refinement.specs.SparedBook.{KeepsLoansAndBookOnlyAdvances}
 use Rattle.request_queue.specs.BookEntries.{BookEntry, unanswered_of, issued_request, update_if_id}
 use Rattle.request_queue.specs.BookRelation.{BookRelation, EntryRelation}
 use Rattle.slots.specs.declared.SlotUse.{SlotUse}
@@ -105,7 +105,7 @@ module _ (laws : PrerequisiteLaws) (s mid : ServerState) (port : Port) (id : Req
     due,
     (λ other here own. not_dead s port.0 (put_ready laws s mid port id t k one) (ap (λ (q : Port). probe_result_of s.probe_results q.0) (sym (own ∙ its_port)) ∙ is.kept.quarantine_ports_are_dead other here)),
     (let mark = All-contains (RevokedMarkInvariant s.grants) s.book request k.marked one.is_in_book in
-        unmarked_has m request its x.2 (tells_of m.rows s.grants request.request is.rows mark.revoked_mark_agrees) (mark.waiting_is_unmarked (not_true request.request.issued (and_parts _ _ one.due.nothing_blocks).0))),
+        unmarked_has m request its x.2 (tells_of m.rows s.grants request.request is.rows mark.revoked_mark_agrees) (mark.waiting_is_unmarked (not_true request.request.issued (and_parts _ _ one.due.waits_and_nothing_blocks).0))),
   )
 
   its_task : IsTaskOf port t.slot t.task t.frames takes its
@@ -291,7 +291,7 @@ module _ (laws : PrerequisiteLaws) (s new : ServerState) (port : Port) (first : 
     ends : EndsInSteps (driver_state_of_slots its_slots s.device) m (issues_of (mode_in s port) requests) (driver_state_of_slots slots_then new.device)
     ends = laws.batch_issue_is_simulated port tasks (mode_in s port) requests s.device new.device its_slots m i.issued.issues found.1.tasks_are reached is.driver_relation serves
 
-    spares : KeepsBookAndLoans m (after m ends.steps)
+    spares : KeepsLoansAndBookOnlyAdvances m (after m ends.steps)
     spares = laws.steps_and_accesses.device_steps_spare_book m ends.steps ends.all_steps_are_devices
 
     abbrev own : List Step
@@ -303,7 +303,7 @@ module _ (laws : PrerequisiteLaws) (s new : ServerState) (port : Port) (first : 
     stands : MachineRelation later (after m (own ++ ends.steps))
     stands = record {
       uses = slots_then.slot_states;
-      are_uses_of = issues_uses laws port s.probe_results all_ids tasks s i.server_with_slots book_was i.puts requests found.1.ids_are its_slots is.are_uses_of;
+      slot_uses_agree_unless_dead = issues_uses laws port s.probe_results all_ids tasks s i.server_with_slots book_was i.puts requests found.1.ids_are its_slots is.slot_uses_agree_unless_dead;
       awaiting_disposition = slots_then.awaiting_disposition;
       only_dead_ports_park = λ q alive. ap (λ (of : ℕ → List RequestId). of q) (parked_same laws port tasks requests its_slots) ∙ is.only_dead_ports_park q alive;
       driver_relation = ends.driver_relation;
@@ -332,7 +332,7 @@ module _ (laws : PrerequisiteLaws) (s new : ServerState) (port : Port) (first : 
   together_silent q o own_op other =
       laws.batch_issue_moves_no_page port tasks (mode_in s port) (requests k.machine k.reached k.machine_relation) s.device new.device (its_slots k.machine k.reached k.machine_relation) k.machine i.issued.issues (found k.machine k.reached k.machine_relation).1.tasks_are
       k.reached k.machine_relation.driver_relation (serves k.machine k.reached k.machine_relation) q o own_op
-      (not_own (probe_result_of s.probe_results q) (used_for s.slots q 0) (k.machine_relation.uses q 0) o other (k.machine_relation.are_uses_of q 0))
+      (not_own (probe_result_of s.probe_results q) (used_for s.slots q 0) (k.machine_relation.uses q 0) o other (k.machine_relation.slot_uses_agree_unless_dead q 0))
 
   served : IsDrivenBy IsServiceAccess s.device new.device
   served = driven_as (IsBatchAccess port) IsServiceAccess s.device new.device (issuing_serves port) i.issued.issues.driven
@@ -362,7 +362,7 @@ module _ (laws : PrerequisiteLaws) (s new : ServerState) (port : Port) (first : 
       record {
         command = h.command;
         places = h.places;
-        stored = laws.slots.stored_stays_over_acts (port_at q) n h.command h.places comes.acts (driver_state_of_slots (its_slots k.machine k.reached k.machine_relation) s.device) _ k.machine k.reached k.machine_relation.driver_relation comes.acts_are_done
+        stored = laws.slots.stored_stays_over_acts_that_leave_it (port_at q) n h.command h.places comes.acts (driver_state_of_slots (its_slots k.machine k.reached k.machine_relation) s.device) _ k.machine k.reached k.machine_relation.driver_relation comes.acts_are_done
             (λ a d small.
             batch_leaves_stored laws port (port_at q) tasks n low there.0 there.1 (λ t here. (All-contains (λ (x : PlacedTask). x.slot < 32) tasks t i.issued.issues.slots_in_range here, was.1 t here)) _
             (subst (All (IsBatchAccess port)) (sym comes.accesses_match_acts) i.issued.issues.driven.accesses_are_of_kind a d small)
@@ -371,7 +371,7 @@ module _ (laws : PrerequisiteLaws) (s new : ServerState) (port : Port) (first : 
       })
       (λ (its : (q ≡ port.0) × ((t : PlacedTask) × Contains tasks t × (t.slot ≡ n) × (t.task.queued ≡ used.queued))).
       let t = its.1.0 in
-      let stored = All-contains (λ (x : PlacedTask). IsStored new.device port.0 x.slot (meaning_of x.task) (piece_addresses_of port.0 x.task.op x.task.range.count x.frames)) tasks t i.issued.stored its.1.1 in
+      let stored = All-contains (λ (x : PlacedTask). IsStoredOnPortWithStSet new.device port.0 x.slot (meaning_of x.task) (piece_addresses_of port.0 x.task.op x.task.range.count x.frames)) tasks t i.issued.stored its.1.1 in
       subst (λ (queued : Bool). HasStoredCommand queued new.device q n) its.1.3
       (subst (λ (p : ℕ). HasStoredCommand t.task.queued new.device p n) (sym its.0) (subst (λ (slot : ℕ). HasStoredCommand t.task.queued new.device port.0 slot) its.1.2
       (record { command = _; places = _; stored = stored; is_queued_as_given = kind_of t its.1.1 }))))

@@ -12,7 +12,7 @@ use Rattle.adapter.specs.Device.{Device}
 use Rattle.adapter.specs.declared.command.Operation.{Operation}
 use Rattle.adapter.specs.declared.command.Operation.TheVariants.{Identify}
 use Rattle.refinement.specs.Relation.{port_at}
-use Rattle.refinement.specs.Fragments.{AnySlotStates, IsDrivenBy, IsSimulated, SparesOtherPorts, LeavesPort, NoneWrites, GainsNoMove}
+use Rattle.refinement.specs.Fragments.{AnySlotStates, IsDrivenBy, IsSimulated, SparesOtherPorts, OnlyDeviceChangesPort, NoneWrites, GainsNoMove}
 use Rattle.refinement.specs.Halting.{HaltOfTakenIfSt}
 use Rattle.refinement.specs.Slots.{IsOver, SlotStates, client_operation_of}
 use Rattle.server_history.proofs.state.FollowedAccesses.{followed_adds, followed_silent}
@@ -40,7 +40,7 @@ use Rattle.server_history.proofs.state.TransferAccesses.{finding_serves}
 -- Accesses that serve a ready port leave what stands behind each, where the others are left to the device, no page comes but on
 -- dead ones, and halts are of taken commands still.
 pub behind_served : PrerequisiteLaws → (s : ServerState) (new : Device) (port : Port) → InCallInvariant s → state_of (probe_result_of s.probe_results port.0) ≡ ReadyState → IsDrivenBy IsServiceAccess s.device new
-    → ((q : ℕ) → q < 4 → q ≢ port.0 → LeavesPort (s.device.port q) (new.port q)) → ((q : ℕ) → probe_result_of s.probe_results q ≢ Unready Dead → GainsNoMove q Identify s.device new)
+    → ((q : ℕ) → q < 4 → q ≢ port.0 → OnlyDeviceChangesPort (s.device.port q) (new.port q)) → ((q : ℕ) → probe_result_of s.probe_results q ≢ Unready Dead → GainsNoMove q Identify s.device new)
     → ((q : ℕ) → HaltOfTakenIfSt (s.device.port q) → HaltOfTakenIfSt (new.port q)) → (q : ℕ) → q < 4 → PortInvariant s.wanted s.probe_results q new
 behind_served laws s new port k ready driven left silent halts q low =
     port_on laws s.wanted s.probe_results q s.device new (laws.look_laws.service_keeps_adapter s.device new driven) k.adapter_is_on driven
@@ -62,7 +62,7 @@ module _ (s : ServerState) (new : Device) (port : Port) (k : InCallInvariant s) 
       → (q : ℕ) (o : Operation) → client_operation_of o ≡ None → probe_result_of s.probe_results q ≢ Unready Dead → GainsNoMove q o s.device new
   silent_over laws May none followed q o own other =
       followed_silent laws followed k.machine_relation.uses k.machine_relation.awaiting_disposition k.machine tt k.reached k.machine_relation.driver_relation (port_at q) o own (none (port_at q)).0 (none (port_at q)).1
-      (not_own (probe_result_of s.probe_results q) (used_for s.slots q 0) (k.machine_relation.uses q 0) o other (k.machine_relation.are_uses_of q 0))
+      (not_own (probe_result_of s.probe_results q) (used_for s.slots q 0) (k.machine_relation.uses q 0) o other (k.machine_relation.slot_uses_agree_unless_dead q 0))
 
   -- followed accesses that serve the port, and write no PxCI, where what stands behind each port goes on
   kept_by : PrerequisiteLaws → (May : Access → Type 0) → ((access : Access) → May access → IsServiceAccess access) → ((access : Access) (at : ℕ) (bytes : List ℕ) → May access → access ≡ Storing at bytes → ⊥) → ((q : Port) → NoneWrites May (Px q Ci) × NoneWrites May (Px q Sact)) → ((q : Port) → NoneWrites May (Px q Cmd))
@@ -80,7 +80,7 @@ module _ (s : ServerState) (new : Device) (port : Port) (k : InCallInvariant s) 
       record {
         command = h.command;
         places = h.places;
-        stored = below.slots.stored_stays_over_acts (port_at q) n h.command h.places acts.acts (driver_state_of_slots (record { slot_states = uses; awaiting_disposition = k.machine_relation.awaiting_disposition }) s.device) (driver_state_of_slots (record { slot_states = uses; awaiting_disposition = k.machine_relation.awaiting_disposition }) new) k.machine k.reached k.machine_relation.driver_relation acts.acts_are_done
+        stored = below.slots.stored_stays_over_acts_that_leave_it (port_at q) n h.command h.places acts.acts (driver_state_of_slots (record { slot_states = uses; awaiting_disposition = k.machine_relation.awaiting_disposition }) s.device) (driver_state_of_slots (record { slot_states = uses; awaiting_disposition = k.machine_relation.awaiting_disposition }) new) k.machine k.reached k.machine_relation.driver_relation acts.acts_are_done
             (λ i d small.
             let its = subst (All May) (sym acts.accesses_match_acts) followed.is_driven.accesses_are_of_kind i d small in
             service_leaves_stored below (port_at q) n _ (service _ its) (λ a bytes place e x from to. storeless _ a bytes its e)) k.adapter_is_on h.stored;
@@ -111,7 +111,7 @@ module _ (s : ServerState) (new : Device) (port : Port) (k : InCallInvariant s) 
 
 module _ (s : ServerState) (new : Device) (port : Port) (k : InCallInvariant s) (ready : state_of (probe_result_of s.probe_results port.0) ≡ ReadyState) where
   kept_over : PrerequisiteLaws → (May : Access → Type 0) → ((access : Access) → May access → IsServiceAccess access) → ((access : Access) (at : ℕ) (bytes : List ℕ) → May access → access ≡ Storing at bytes → ⊥) → ((q : Port) → NoneWrites May (Px q Ci) × NoneWrites May (Px q Sact)) → ((q : Port) → NoneWrites May (Px q Cmd))
-      → ((q : ℕ) → q < 4 → q ≢ port.0 → LeavesPort (s.device.port q) (new.port q)) → IsSimulated May AnySlotStates s.device new → InCallInvariant (record s { device = new })
+      → ((q : ℕ) → q < 4 → q ≢ port.0 → OnlyDeviceChangesPort (s.device.port q) (new.port q)) → IsSimulated May AnySlotStates s.device new → InCallInvariant (record s { device = new })
   kept_over below May service storeless none commandless left followed =
       kept_by s new port k below May service storeless none commandless
       (behind_served below s new port k ready (driven_as May IsServiceAccess s.device new service followed.is_driven) left
@@ -156,7 +156,7 @@ no_issue port access is v same = by (subst (IsEventAccess port) same is)
 
 pub still_over : PrerequisiteLaws → (port : Port) (slot : ℕ) (old new : Device) → IsDrivenBy (IsEventAccess port) old new → IsOver (old.port port.0) slot → IsOver (new.port port.0) slot
 still_over laws port slot old new driven = accesses_keep (λ d. IsOver (d.port port.0) slot) (IsEventAccess port)
-    (λ access a b is does. laws.slots.over_stays_over_access port slot access a b (λ v same. absurd (no_issue port access is v same)) does) old new driven
+    (λ access a b is does. laws.slots.over_stays_unless_ci_bit_is_written port slot access a b (λ v same. absurd (no_issue port access is v same)) does) old new driven
 
 -- PxCI and PxSACT, which are read after a look, show the bits of a slot clear that had no command before
 pub both_clear : PrerequisiteLaws → (port : Port) (slot issued active : ℕ) (old seen read new : Device) → slot < 32 → IsDrivenBy (IsEventAccess port) old seen → Reads (Px port Ci) issued seen read

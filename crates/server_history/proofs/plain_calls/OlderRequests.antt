@@ -69,7 +69,7 @@ module _ (memory : ℕ → ℕ) (p : DevicePort) (port slot : ℕ) where
     meaning = t.meaning;
     places_are = t.places_are;
     running = t.running;
-    ci_is_set_while_plain = t.ci_is_set_while_plain;
+    ci_is_set_iff_st_and_plain = t.ci_is_set_iff_st_and_plain;
     sact = t.sact;
     progress = progress_on e.request.asked.op e age t.command t.progress;
     unended = t.unended;
@@ -115,7 +115,7 @@ module _ (laws : PrerequisiteLaws) (s : ServerState) where
   pub older_stands : (m : Machine) → MachineRelation s m → MachineRelation (a_tick_older s) (after_step m (Age ready))
   older_stands m is = record {
     uses = is.uses;
-    are_uses_of = is.are_uses_of;
+    slot_uses_agree_unless_dead = is.slot_uses_agree_unless_dead;
     awaiting_disposition = is.awaiting_disposition;
     only_dead_ports_park = is.only_dead_ports_park;
     driver_relation = laws.ages.aging_keeps_driver_relation (driver_state_of is.uses is.awaiting_disposition s.device) m ready is.driver_relation;
@@ -155,7 +155,7 @@ module _ (laws : PrerequisiteLaws) (s : ServerState) where
           let same_op = ap (λ (x : BookEntry). x.request.op) w.2 ∙ entry_by (λ r. r.op ≡ w.0.request.op) ready w.0.request refl (λ age. refl) in
           k.slots_queue_as_asked port slot used w.0 its w.1 (sym same_id ∙ id) ∙ ap (λ (op : Op). not (is_plain (mode_in s port) op)) (sym same_op);
       slots_store_commands = k.slots_store_commands;
-      plain_stands_alone = k.plain_stands_alone;
+      plain_is_alone_in_slot_0 = k.plain_is_alone_in_slot_0;
       rows_are_valid = k.rows_are_valid;
       owned_frames_are_clients = k.owned_frames_are_clients;
       entries_are_well_formed = laws.ages.aging_keeps_well_formed_entries s.table s.book ready k.entries_are_well_formed;

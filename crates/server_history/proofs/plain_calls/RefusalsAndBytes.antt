@@ -22,7 +22,7 @@ use Rattle.refinement.specs.Driver.{EndsInOneStep}
 use Rattle.refinement.specs.PreservedParts.{SameAdapter, DoesNotWrite}
 use Rattle.hba_regs.specs.declared.reg.PortReg.TheVariants.{Cmd}
 use Rattle.hba_regs.specs.declared.reg.Reg.TheVariants.{Ghc, Px}
-use Rattle.refinement.specs.SparedBook.{KeepsBookAndLoans}
+use Rattle.refinement.specs.SparedBook.{KeepsLoansAndBookOnlyAdvances}
 use Rattle.server_history.proofs.state.DrivenAccesses.{by_one}
 use Rattle.block_machine.specs.Events.{AbstractCall, Submit, StoreAt, LoadAt, Service, Tick, Reset, RevokeOf, State, AllEnabled, StepDevice as Told, AbstractCallResult, Submitted, PortStateShown, Stepped, ResultMatchesSteps, AbstractState, WasRevoked}
 use Rattle.block_machine.specs.Rules.{HasRow}
@@ -41,14 +41,14 @@ use Rattle.ata_types.specs.declared.PortState.TheVariants.{Dead}
 use Rattle.ata_types.specs.declared.memory.TheConstants.{DRIVER_BYTES, DRIVER_FRAMES}
 use Rattle.port_control.specs.ServiceAccesses.{IsServiceAccess}
 use Rattle.server_history.specs.Prerequisites.{PrerequisiteLaws}
-use Rattle.driver_history.specs.EvidenceHandling.{OnlyFailedPortsRequeueIn}
+use Rattle.driver_history.specs.EvidenceHandling.{OnlyFailedPortsRequeueIfService}
 use Rattle.driver_history.specs.Histories.{ExplainsAccesses, IssuesAllDue, IssuesDue, LosesNoPortError, PortCorresponds}
-use Rattle.driver_history.specs.AccessTrace.{ClearsNoError, LeavesEngine}
+use Rattle.driver_history.specs.AccessTrace.{ClearsNoError, WritesNeitherCmdNorSctl}
 use Rattle.server_history.specs.Histories.{ExtendsSettled, ExtendsHistory, LeadsToServer, ServerRelation, load_result, store_result}
-use Rattle.server_history.specs.ServerState.{HasStoredCommand, ServerState, InCallInvariant, MachineRelation, PortInvariant, SettledInvariant, OwnedFramesAreInMemory, mode_in, ports_of, admission_context, used_for}
+use Rattle.server_history.specs.ServerState.{HasStoredCommand, ServerState, InCallInvariant, MachineRelation, PortInvariant, SettledInvariant, OwnedFramesAreClientsAndInMemory, mode_in, ports_of, admission_context, used_for}
 use Rattle.slots.specs.declared.SlotUse.{SlotUse}
 use Rattle.refinement.specs.Relation.{port_at}
-use Rattle.refinement.specs.MemoryLayout.{IsHeaderOrTableByte}
+use Rattle.refinement.specs.MemoryLayout.{IsTableOrHeaderByteButPrdbc}
 use Rattle.server_history.proofs.state.StoredCommands.{service_leaves_stored}
 use Rattle.server_history.proofs.state.DueRequests.{none_issued}
 use Rattle.server_history.proofs.state.DeviceSteps.{devices_belong, devices_last, devices_lawful, devices_transfer}
@@ -76,7 +76,7 @@ loads_above : (at : ℕ) (bytes : List ℕ) → StoresAbove (Loading at bytes)
 loads_above at bytes from stored is = let x : Loading at bytes ≡ Storing from stored = is in absurd cc
 
 -- header and table of a slot lie below that
-above_table : (port slot place : ℕ) → port < 4 → slot < 32 → IsHeaderOrTableByte port slot place → DRIVER_BYTES ≤ place → ⊥
+above_table : (port slot place : ℕ) → port < 4 → slot < 32 → IsTableOrHeaderByteButPrdbc port slot place → DRIVER_BYTES ≤ place → ⊥
 above_table port slot place low small (inl t) high = omega (arith, low, small, t.1, high)
 above_table port slot place low small (inr (inl t)) high = omega (arith, low, small, t.1, high)
 above_table port slot place low small (inr (inr t)) high = omega (arith, low, small, t.1, high)
@@ -142,7 +142,7 @@ module _ (laws : PrerequisiteLaws) where
   store_ends s new client frame offset bytes opens stores m r is =
       let x : EndsInOneStep (driver_state_of is.uses is.awaiting_disposition s.device) m (Store client frame offset bytes) (driver_state_of is.uses is.awaiting_disposition new) =
       laws.client_stores (driver_state_of is.uses is.awaiting_disposition s.device) m client frame offset bytes new r is.driver_relation (as_told s m is (λ owner lent. MayAccessFrame owner lent client frame offset (length bytes)) opens) stores in
-      let spares : KeepsBookAndLoans m (after m x.steps) = laws.steps_and_accesses.device_steps_spare_book m x.steps x.all_steps_are_devices in (
+      let spares : KeepsLoansAndBookOnlyAdvances m (after m x.steps) = laws.steps_and_accesses.device_steps_spare_book m x.steps x.all_steps_are_devices in (
         x,
         machine_with laws s new m (after m (Store client frame offset bytes ∷ x.steps)) is
             (record { rows = spares.rows; owner = spares.owner; lent = spares.lent; next_id = spares.next_id; book = spares.book; kept = spares.kept }) x.driver_relation,
@@ -151,7 +151,7 @@ module _ (laws : PrerequisiteLaws) where
   -- ---- calls that do nothing
 
   -- where there is no step, nothing needs a ground
-  none_grounded : (ask : AbstractCall DeviceStep) (evidence : Evidence) → OnlyFailedPortsRequeueIn ask evidence []
+  none_grounded : (ask : AbstractCall DeviceStep) (evidence : Evidence) → OnlyFailedPortsRequeueIfService ask evidence []
   none_grounded Service evidence = tt
   none_grounded (Submit r) evidence = tt
   none_grounded (StoreAt client frame offset bytes) evidence = tt
@@ -170,20 +170,20 @@ module _ (laws : PrerequisiteLaws) where
   nothing_event s ask said goes came answered issues parts first past leads =
       let old : JointState Device = joint_state_after first past in
       lead_by laws first past s s ask said [] refl refl leads goes.holds tt tt tt tt (answered old leads.state_is_at_history_end (told_by s.device old.abstract.ports)) (none_grounded ask (told_by s.device old.abstract.ports)) [] (came old.abstract)
-      (λ port. All-nil (LeavesEngine port)) (issues old (reached laws first past s leads) leads.state_is_at_history_end) (parts old.abstract leads.state_is_at_history_end.ports_are) (laws.backed_none s.device old.abstract.machine) leads.state_is_at_history_end.machine_stands_for_it
+      (λ port. All-nil (WritesNeitherCmdNorSctl port)) (issues old (reached laws first past s leads) leads.state_is_at_history_end) (parts old.abstract leads.state_is_at_history_end.ports_are) (laws.empty_steps_are_backed s.device old.abstract.machine) leads.state_is_at_history_end.machine_stands_for_it
 
   module _ (s : ServerState) (goes : GoesTo s s.device) where
     pub undone_event : (step : DeviceStep) → ExtendsHistory s s (Told step) (Stepped false)
     undone_event step =
         nothing_event s (Told step) (Stepped false) goes (λ m. (refl, refl))
         (λ old at evidence. (refl, ports_same old.abstract.ports (ports_of s) at.ports_are)) (λ old was at port. tt)
-        (λ m are port. record { finds_done = tt; plain_faults_are_told = tt; probes_disk = tt; boots_anew = tt; loses_no_error = goes.port_error m are port; runs_well_anew = λ i. absurd (uninterrupted s.device m.ports port i); handles_evidence = uninterrupted s.device m.ports port })
+        (λ m are port. record { finds_done = tt; lone_plain_faults_are_told_unless_dead = tt; probes_disk = tt; boots_anew = tt; loses_no_error = goes.port_error m are port; runs_well_anew = λ i. absurd (uninterrupted s.device m.ports port i); handles_evidence = uninterrupted s.device m.ports port })
 
     pub state_event : (port : Port) → ExtendsHistory s s (State port) (PortStateShown ((ports_of s).state port))
     state_event port =
         nothing_event s (State port) (PortStateShown ((ports_of s).state port)) goes (λ m. (refl, refl))
         (λ old at evidence. (ap (λ (ports : Ports). ports.state port) (sym at.ports_are), refl, ports_same old.abstract.ports (ports_of s) at.ports_are)) (λ old was at q. tt)
-        (λ m are q. record { finds_done = tt; plain_faults_are_told = tt; probes_disk = tt; boots_anew = tt; loses_no_error = goes.port_error m are q; runs_well_anew = λ i. absurd (uninterrupted s.device m.ports q i); handles_evidence = uninterrupted s.device m.ports q })
+        (λ m are q. record { finds_done = tt; lone_plain_faults_are_told_unless_dead = tt; probes_disk = tt; boots_anew = tt; loses_no_error = goes.port_error m are q; runs_well_anew = λ i. absurd (uninterrupted s.device m.ports q i); handles_evidence = uninterrupted s.device m.ports q })
 
     pub store_refused_event : (client : ClientId) (frame : Frame) (offset : ℕ) (bytes : List ℕ) (fault : MemFault)
         → IsFirstMemFault (owner_of s.table) (lent_to s.table) client frame offset (length bytes) fault → ExtendsHistory s s (StoreAt client frame offset bytes) (store_result (Err fault))
@@ -191,7 +191,7 @@ module _ (laws : PrerequisiteLaws) where
         nothing_event s (StoreAt client frame offset bytes) (store_result (Err fault)) goes (λ m. (refl, refl))
         (λ old at evidence. (ports_same old.abstract.ports (ports_of s) at.ports_are, as_told s old.abstract.machine at.machine_stands_for_it (λ owner lent. IsFirstMemFault owner lent client frame offset (length bytes) fault) is, refl))
         (λ old was at port. tt)
-        (λ m are port. record { finds_done = tt; plain_faults_are_told = tt; probes_disk = tt; boots_anew = tt; loses_no_error = goes.port_error m are port; runs_well_anew = λ i. absurd (uninterrupted s.device m.ports port i); handles_evidence = uninterrupted s.device m.ports port })
+        (λ m are port. record { finds_done = tt; lone_plain_faults_are_told_unless_dead = tt; probes_disk = tt; boots_anew = tt; loses_no_error = goes.port_error m are port; runs_well_anew = λ i. absurd (uninterrupted s.device m.ports port i); handles_evidence = uninterrupted s.device m.ports port })
 
     pub load_refused_event : (client : ClientId) (frame : Frame) (offset count : ℕ) (bytes : List ℕ) (fault : MemFault)
         → IsFirstMemFault (owner_of s.table) (lent_to s.table) client frame offset count fault → ExtendsHistory s s (LoadAt client frame offset count) (load_result (Err fault) bytes)
@@ -199,7 +199,7 @@ module _ (laws : PrerequisiteLaws) where
         nothing_event s (LoadAt client frame offset count) (load_result (Err fault) bytes) goes (λ m. (refl, refl))
         (λ old at evidence. (ports_same old.abstract.ports (ports_of s) at.ports_are, as_told s old.abstract.machine at.machine_stands_for_it (λ owner lent. IsFirstMemFault owner lent client frame offset count fault) is, refl))
         (λ old was at port. tt)
-        (λ m are port. record { finds_done = tt; plain_faults_are_told = tt; probes_disk = tt; boots_anew = tt; loses_no_error = goes.port_error m are port; runs_well_anew = λ i. absurd (uninterrupted s.device m.ports port i); handles_evidence = uninterrupted s.device m.ports port })
+        (λ m are port. record { finds_done = tt; lone_plain_faults_are_told_unless_dead = tt; probes_disk = tt; boots_anew = tt; loses_no_error = goes.port_error m are port; runs_well_anew = λ i. absurd (uninterrupted s.device m.ports port i); handles_evidence = uninterrupted s.device m.ports port })
 
     -- where nothing is due on a ready port
     pub submit_refused_event : (r : Request) (refusal : Refusal) → IsFirstRefusal (admission_context s) r refusal
@@ -208,7 +208,7 @@ module _ (laws : PrerequisiteLaws) where
         nothing_event s (Submit r) (Submitted (Err refusal)) goes (λ m. (refl, refl))
         (λ old at evidence. (subst (λ (x : AdmissionContext). IsFirstRefusal x r refusal) (sym (situation_is s old at)) is, refl, ports_same old.abstract.ports (ports_of s) at.ports_are))
         (λ old was at port ready. undue old.abstract.machine at.machine_stands_for_it port ready)
-        (λ m are port. record { finds_done = tt; plain_faults_are_told = tt; probes_disk = tt; boots_anew = tt; loses_no_error = goes.port_error m are port; runs_well_anew = λ i. absurd (uninterrupted s.device m.ports port i); handles_evidence = uninterrupted s.device m.ports port })
+        (λ m are port. record { finds_done = tt; lone_plain_faults_are_told_unless_dead = tt; probes_disk = tt; boots_anew = tt; loses_no_error = goes.port_error m are port; runs_well_anew = λ i. absurd (uninterrupted s.device m.ports port i); handles_evidence = uninterrupted s.device m.ports port })
 
     pub revoke_refused_event : (client : ClientId) (number : ℕ) → (HasRow client number s.grants → ⊥)
         → ((m : Machine) → MachineRelation s m → (port : Port) → (ports_of s).state port ≡ ReadyState → IssuesDue (mode_in s port) [] m port) → ExtendsHistory s s (RevokeOf client number) (WasRevoked None)
@@ -216,7 +216,7 @@ module _ (laws : PrerequisiteLaws) where
         nothing_event s (RevokeOf client number) (WasRevoked None) goes (λ m. (refl, refl))
         (λ old at evidence. (λ has. none (subst (HasRow client number) at.machine_stands_for_it.rows has), refl, ports_same old.abstract.ports (ports_of s) at.ports_are))
         (λ old was at port ready. undue old.abstract.machine at.machine_stands_for_it port ready)
-        (λ m are port. record { finds_done = tt; plain_faults_are_told = tt; probes_disk = tt; boots_anew = tt; loses_no_error = goes.port_error m are port; runs_well_anew = λ i. absurd (uninterrupted s.device m.ports port i); handles_evidence = uninterrupted s.device m.ports port })
+        (λ m are port. record { finds_done = tt; lone_plain_faults_are_told_unless_dead = tt; probes_disk = tt; boots_anew = tt; loses_no_error = goes.port_error m are port; runs_well_anew = λ i. absurd (uninterrupted s.device m.ports port i); handles_evidence = uninterrupted s.device m.ports port })
 
   -- ---- calls that lead to another device
 
@@ -237,9 +237,9 @@ module _ (laws : PrerequisiteLaws) where
         tt
         []
         (refl, asked)
-        (λ port. All-nil (LeavesEngine port))
+        (λ port. All-nil (WritesNeitherCmdNorSctl port))
         (λ port. tt)
-        (λ port. record { finds_done = tt; plain_faults_are_told = tt; probes_disk = tt; boots_anew = tt; loses_no_error = goes.port_error old.abstract at.ports_are port; runs_well_anew = λ i. absurd (uninterrupted s.device old.abstract.ports port i); handles_evidence = uninterrupted s.device old.abstract.ports port })
+        (λ port. record { finds_done = tt; lone_plain_faults_are_told_unless_dead = tt; probes_disk = tt; boots_anew = tt; loses_no_error = goes.port_error old.abstract at.ports_are port; runs_well_anew = λ i. absurd (uninterrupted s.device old.abstract.ports port i); handles_evidence = uninterrupted s.device old.abstract.ports port })
         x.3.is_backed
         (machine_on laws s new old.abstract.machine steps m x.3.all_steps_are_devices x.2)
 
@@ -257,9 +257,9 @@ module _ (laws : PrerequisiteLaws) where
           tt
           (Loading (4096 * frame.0 + offset) bytes ∷ [])
           ((new, loads, refl), refl)
-          (λ port. All-cons (LeavesEngine port) (Loading (4096 * frame.0 + offset) bytes) [] (tt, tt) (All-nil (LeavesEngine port)))
+          (λ port. All-cons (WritesNeitherCmdNorSctl port) (Loading (4096 * frame.0 + offset) bytes) [] (tt, tt) (All-nil (WritesNeitherCmdNorSctl port)))
           (λ port. tt)
-          (λ port. record { finds_done = tt; plain_faults_are_told = tt; probes_disk = tt; boots_anew = tt; loses_no_error = goes.port_error old.abstract at.ports_are port; runs_well_anew = λ i. absurd (uninterrupted s.device old.abstract.ports port i); handles_evidence = uninterrupted s.device old.abstract.ports port })
+          (λ port. record { finds_done = tt; lone_plain_faults_are_told_unless_dead = tt; probes_disk = tt; boots_anew = tt; loses_no_error = goes.port_error old.abstract at.ports_are port; runs_well_anew = λ i. absurd (uninterrupted s.device old.abstract.ports port i); handles_evidence = uninterrupted s.device old.abstract.ports port })
           x.0.is_backed x.1
 
       pub store_event : Stores (4096 * frame.0 + offset) bytes s.device new → ExtendsHistory s (record s { device = new }) (StoreAt client frame offset bytes) (store_result (Ok tt))
@@ -275,9 +275,9 @@ module _ (laws : PrerequisiteLaws) where
           tt
           (Storing (4096 * frame.0 + offset) bytes ∷ [])
           ((new, stores, refl), refl)
-          (λ port. All-cons (LeavesEngine port) (Storing (4096 * frame.0 + offset) bytes) [] (tt, tt) (All-nil (LeavesEngine port)))
+          (λ port. All-cons (WritesNeitherCmdNorSctl port) (Storing (4096 * frame.0 + offset) bytes) [] (tt, tt) (All-nil (WritesNeitherCmdNorSctl port)))
           (λ port. tt)
-          (λ port. record { finds_done = tt; plain_faults_are_told = tt; probes_disk = tt; boots_anew = tt; loses_no_error = goes.port_error old.abstract at.ports_are port; runs_well_anew = λ i. absurd (uninterrupted s.device old.abstract.ports port i); handles_evidence = uninterrupted s.device old.abstract.ports port })
+          (λ port. record { finds_done = tt; lone_plain_faults_are_told_unless_dead = tt; probes_disk = tt; boots_anew = tt; loses_no_error = goes.port_error old.abstract at.ports_are port; runs_well_anew = λ i. absurd (uninterrupted s.device old.abstract.ports port i); handles_evidence = uninterrupted s.device old.abstract.ports port })
           x.0.is_backed x.1
 
   -- ---- clients' bytes
@@ -286,7 +286,7 @@ module _ (laws : PrerequisiteLaws) where
   pub open_owned : (owner : Frame → Option ClientId) (lent : Frame → Option RequestId) (client : ClientId) (frame : Frame) (offset count : ℕ) → MayAccessFrame owner lent client frame offset count → owner frame ≡ Some client
   open_owned = laws.accessible_frame_is_owned
 
-  pub open_free : (s : ServerState) (client : ClientId) (frame : Frame) (offset count : ℕ) → OwnedFramesAreInMemory s.table s.device.memory_size → (m : Machine) → IsReachable m → MachineRelation s m
+  pub open_free : (s : ServerState) (client : ClientId) (frame : Frame) (offset count : ℕ) → OwnedFramesAreClientsAndInMemory s.table s.device.memory_size → (m : Machine) → IsReachable m → MachineRelation s m
       → MayAccessFrame (owner_of s.table) (lent_to s.table) client frame offset count → IsStable (IsUnowned (4096 * frame.0 + offset) count) s.device
   open_free s client frame offset count owners m was is opens =
       laws.accessible_bytes_are_unowned is.uses m s.device was is.driver_relation.state_relation client frame offset count (owners frame client (open_owned (owner_of s.table) (lent_to s.table) client frame offset count opens)).1
@@ -319,13 +319,13 @@ module _ (laws : PrerequisiteLaws) where
     silent : (port : ℕ) → probe_result_of s.probe_results port ≢ Unready Dead → GainsNoMove port Identify s.device new
     silent port other =
         let grows = laws.port_event_laws.tape.access_grows access s.device new does in
-        let none = not_own (probe_result_of s.probe_results port) (used_for s.slots port 0) (k.machine_relation.uses port 0) Identify other (k.machine_relation.are_uses_of port 0) in
+        let none = not_own (probe_result_of s.probe_results port) (used_for s.slots port 0) (k.machine_relation.uses port 0) Identify other (k.machine_relation.slot_uses_agree_unless_dead port 0) in
         (grows.0, grows.1, laws.slots.page_needs_a_command k.machine_relation.uses k.machine access s.device new port Identify grows.0 k.reached k.machine_relation.driver_relation.state_relation does grows.1 refl (λ own. absurd (none own)))
 
     ports_on : (port : ℕ) → port < 4 → PortInvariant s.wanted s.probe_results port new
     ports_on port below =
         port_on laws s.wanted s.probe_results port s.device new same k.adapter_is_on served (λ unready. bytes_leave laws access s.device new its k.adapter_is_on does port) (silent port)
-        (laws.port_error.halt_of_taken_stays_over_access k.machine_relation.uses k.machine (port_at port) access s.device new k.reached k.machine_relation.driver_relation.state_relation (bytes_spare_commands (port_at port) access its) does) (k.port_invariant port below)
+        (laws.port_error.halt_of_taken_stays_but_for_cmd_write k.machine_relation.uses k.machine (port_at port) access s.device new k.reached k.machine_relation.driver_relation.state_relation (bytes_spare_commands (port_at port) access its) does) (k.port_invariant port below)
 
     -- what is stored for slots stays
     commands_on : (port slot : ℕ) (used : SlotUse) → used_for s.slots port slot ≡ Some used → HasStoredCommand used.queued new port slot
@@ -336,7 +336,7 @@ module _ (laws : PrerequisiteLaws) where
         record {
           command = h.command;
           places = h.places;
-          stored = laws.slots.stored_stays_over_access k.machine_relation.uses k.machine (port_at port) slot h.command h.places access s.device new k.reached k.machine_relation.driver_relation.state_relation k.adapter_is_on.no_reset leaves.st_is_not_cleared leaves.clb_is_not_written leaves.table_is_not_stored_to does h.stored;
+          stored = laws.slots.stored_stays_over_access_that_leaves_it k.machine_relation.uses k.machine (port_at port) slot h.command h.places access s.device new k.reached k.machine_relation.driver_relation.state_relation k.adapter_is_on.no_reset leaves.st_is_not_cleared leaves.clb_is_not_written leaves.table_is_not_stored_to does h.stored;
           is_queued_as_given = h.is_queued_as_given;
         }
 

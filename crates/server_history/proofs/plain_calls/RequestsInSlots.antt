@@ -77,7 +77,7 @@ book_and_slots laws s k = record {
   four = k.slots_are_of_four_ports;
   slots = k.slots_invariant;
   kinds = k.slots_queue_as_asked;
-  alone = k.plain_stands_alone;
+  alone = k.plain_is_alone_in_slot_0;
   served = λ port slot used is.
       let ready = used_ready s port slot used k is in
       let x = served_request s k.machine port slot k.machine_relation ready used.id (serves_used s k.machine port k.machine_relation ready slot used is) in
@@ -94,7 +94,7 @@ book_and_slots laws s k = record {
     as_many port ready =
         serving_alike (slot_uses s.slots) k.machine_relation.uses port.0 (λ slot. sym (ready_use s k.machine port.0 k.machine_relation ready slot)) (mode_in s port).usable_slots
         ∙ laws.recovery.serving_slots_are_issued_count k.machine_relation.uses k.machine s.device k.reached k.machine_relation.driver_relation.state_relation port (none_kept s k.machine port k.machine_relation (not_dead s port.0 ready)) (mode_in s port).usable_slots
-        (subst (λ (ids : List RequestId). HaveSlotsUnlessParked k.machine_relation.uses k.machine port.0 ids) (k.machine_relation.only_dead_ports_park port.0 (not_dead s port.0 ready)) (k.machine_relation.driver_relation.have_slots port.0))
+        (subst (λ (ids : List RequestId). HaveSlotsUnlessParked k.machine_relation.uses k.machine port.0 ids) (k.machine_relation.only_dead_ports_park port.0 (not_dead s port.0 ready)) (k.machine_relation.driver_relation.have_slots_unless_parked port.0))
         (λ slot id serves.
         let u = used_serves s k.machine port.0 k.machine_relation ready slot id serves in
         subst (λ (n : ℕ). slot < n) (usable_ready s port.0 k ready) (used_low s port.0 slot u.0 k (ready_found s port.0 k ready).0 u.1))
@@ -129,7 +129,7 @@ module _ (s : ServerState) (port : Port) (k : BookAndSlotsInvariant s) (e : Book
   due_low = (k.modes port.0 due_ready).0
 
   pub due_waits : e.request.issued ≡ false
-  due_waits = not_true e.request.issued (and_parts _ _ due.nothing_blocks).0
+  due_waits = not_true e.request.issued (and_parts _ _ due.waits_and_nothing_blocks).0
 
   -- an issued request of the port holds it back, if either is plain
   holds : (other : Unanswered) → other.port.0 ≡ port.0 → other.issued ≡ true → (is_plain due_mode e.request.op ≡ true) ⊎ (is_plain due_mode other.op ≡ true) → waits_for due_mode (as_unanswered e.request) other ≡ true
@@ -149,7 +149,7 @@ module _ (s : ServerState) (port : Port) (k : BookAndSlotsInvariant s) (e : Book
 
   -- so no slot of the port is used for a plain request, and none at all where this one is plain
   pub none_beside : (n : ℕ) (u : SlotUse) → used_for s.slots port.0 n ≡ Some u → (is_plain due_mode e.request.op ≡ true) ⊎ (u.queued ≡ false) → ⊥
-  none_beside n u used plain = false≢true (sym (not_true _ (and_parts _ _ due.nothing_blocks).1) ∙ some_in (waits_for due_mode (as_unanswered e.request)) (unanswered_of s.book) (as_unanswered x.request.request)
+  none_beside n u used plain = false≢true (sym (not_true _ (and_parts _ _ due.waits_and_nothing_blocks).1) ∙ some_in (waits_for due_mode (as_unanswered e.request)) (unanswered_of s.book) (as_unanswered x.request.request)
       (into_map (λ (h : BookEntry). as_unanswered h.request) s.book x.request x.there)
       (holds (as_unanswered x.request.request) x.port_is x.issued (⊎_elim (λ it. inl it) (λ its. inr (plain_of its)) plain)))
     where
@@ -576,7 +576,7 @@ module _ (laws : PrerequisiteLaws) (port : Port) where
   puts_wait (first ∷ ids) (t ∷ tasks) s new k (mid, one, more) id there e here its = ⊎_elim
       (λ (same : id ≡ first).
       let it : one.request ≡ e = laws.an_id_is_one_entry s.book one.request e k.ordered one.is_in_book here (one.id_is ∙ sym same ∙ sym its) in
-      subst (λ (x : BookEntry). x.request.issued ≡ false) it (not_true one.request.request.issued (and_parts _ _ one.due.nothing_blocks).0))
+      subst (λ (x : BookEntry). x.request.issued ≡ false) it (not_true one.request.request.issued (and_parts _ _ one.due.waits_and_nothing_blocks).0))
       (λ (later : Contains ids id).
       let moved : Contains mid.book (update_if_id first issued_request e) = subst (λ (n : ServerState). Contains n.book (update_if_id first issued_request e)) (sym one.server_is) (into_map (update_if_id first issued_request) s.book e here) in
       let waits : (update_if_id first issued_request e).request.issued ≡ false = puts_wait ids tasks mid new (put_keeps laws s mid port first t k one) more id later (update_if_id first issued_request e) moved (id_same laws s mid port first t k one e ∙ its) in

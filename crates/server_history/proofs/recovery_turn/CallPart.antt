@@ -120,7 +120,7 @@ module _ (laws : PrerequisiteLaws) (port : Port) (replies : List Reply) (old new
     accesses_are_of_port = e.of;
     accesses_are_drivers_own = e.own;
     leaves_others = e.others;
-    others_get_no_log = e.silent;
+    others_get_no_log_unless_dead = e.silent;
     simulates_turn = made;
   }
 

@@ -15,7 +15,7 @@ use Rattle.ata_types.specs.declared.request.RequestId.{RequestId}
 use Rattle.adapter.specs.declared.access.DeviceStep.{DeviceStep}
 use Rattle.refinement.specs.Fragments.{AnySlotStates, IsSimulated}
 use Rattle.refinement.specs.Driver.{TapeBacksSteps}
-use Rattle.block_machine.specs.Events.{AllByDevice, AnswersAndWaitsLawful, AllEnabled, AreStepsOfCall, IsOfUndoneRequest, IsIssuedIn, IsLawfulAnswer, IssueIsLastOfRequest, IsToldBefore, AbstractState, Service, RepliesMatch, UnpluggedEmptiesPort, IsIssuedInBook, answers_of, issues_id, reply_of, IsReadyAgain}
+use Rattle.block_machine.specs.Events.{AllByDevice, AnswersAndWaitsLawful, AllEnabled, AreStepsOfCall, IsOfUndoneRequest, IsIssuedIn, IsLawfulAnswer, IssueIsLastOfRequest, IsToldBefore, AbstractState, Service, RepliesMatch, UnpluggedEmptiesPort, IsIssuedInBook, answers_of, issues_id, reply_of, IsReadyAgainWithSameDisk}
 use Rattle.block_machine.specs.Histories.{IsReachable}
 use Rattle.block_machine.specs.Expected.{after}
 use Rattle.block_machine.specs.Ports.{Evidence, Ports, SameSerialAndSize}
@@ -25,7 +25,7 @@ use Rattle.block_machine.specs.declared.due.QueueMode.{QueueMode}
 use Rattle.block_machine.specs.declared.due.Unanswered.{Unanswered}
 use Rattle.server_history.proofs.state.ListMembers.{contains_here, map_in, in_filter}
 use Rattle.block_machine.specs.DueRequests.{due_of}
-use Rattle.driver_history.specs.EvidenceHandling.{OnlyFailedPortsRequeueOrFault, ToldOkOr}
+use Rattle.driver_history.specs.EvidenceHandling.{OnlyFailedPortsRequeueAbortRevokeOrFault, ToldOkOr}
 use Rattle.driver_history.specs.Histories.{IssuesDue}
 use Rattle.driver_history.specs.PortInvariants.{HasNoUnanswered}
 use Rattle.identify.specs.declared.error_log.FailedSlot.{FailedSlot}
@@ -84,7 +84,7 @@ pub record DecidesTurn (port : Port) (replies : List Reply) (old new : ServerSta
   pub belong : AreStepsOfCall {D = DeviceStep} Service (ports_of new) steps
   pub last : IssueIsLastOfRequest steps
   pub lawful : AnswersAndWaitsLawful (abstract_state_of old m) evidence (ports_of new) steps
-  pub grounded : r.has_resolved.error_handled.port_error ≢ TimedOut → OnlyFailedPortsRequeueOrFault evidence steps
+  pub grounded : r.has_resolved.error_handled.port_error ≢ TimedOut → OnlyFailedPortsRequeueAbortRevokeOrFault evidence steps
   pub tells : RepliesMatch steps replies
   pub unplugs : UnpluggedEmptiesPort steps (after m steps)
   pub keeps : SameSerialAndSize (ports_of old) (ports_of new) port ⊎ HasNoUnanswered (after m steps) port
@@ -279,7 +279,7 @@ module _ (laws : PrerequisiteLaws) (port : Port) (replies : List Reply) (old new
         was : w.0.request.issued ≡ true → IsIssuedInBook m e.request.id
         was issued = subst (IsIssuedInBook m) (sym w.2.id) (was_issued w.0 there issued)
 
-        goes_on : a.revalidation ≡ Same → IsReadyAgain began evidence (ports_of new) e.request.port
+        goes_on : a.revalidation ≡ Same → IsReadyAgainWithSameDisk began evidence (ports_of new) e.request.port
         goes_on same = (
           ap (ports_of new).state its_port ∙ same_ready same,
           subst (Contains evidence.stopped) (sym its_port) (same_stopped same),
@@ -319,7 +319,7 @@ module _ (laws : PrerequisiteLaws) (port : Port) (replies : List Reply) (old new
     ok_lawful : (e : Pending) → Contains f.ended e → IsLawfulAnswer began evidence (ports_of new) e outcome.Ok
     ok_lawful e here =
         let y = ended_by e here in
-        let l = laws.steps_and_accesses.found_before m.book (after m f.first).book e (laws.steps_and_accesses.device_steps_spare_book m f.first f.first_only).book (ended_stood laws (after m f.first) f.ended early_may.1 e here) in
+        let l = laws.steps_and_accesses.entry_is_found_in_earlier_book m.book (after m f.first).book e (laws.steps_and_accesses.device_steps_spare_book m f.first f.first_only).book (ended_stood laws (after m f.first) f.ended early_may.1 e here) in
         (record { pending = l.0; is_in_book = l.1; id_is = ap (λ r. r.id) (sym l.2.request); issued = sym l.2.issued ∙ y.2.issued }, y.2.issued, y.2.touched, y.2.ended)
 
     lawful : AnswersAndWaitsLawful began evidence (ports_of new) (z.steps ++ base)
@@ -346,12 +346,12 @@ module _ (laws : PrerequisiteLaws) (port : Port) (replies : List Reply) (old new
         none lost (inr (inr (inr (inl x)))) = subst RestsOnFailure x.1 rests
         none lost (inr (inr (inr (inr x)))) = not_same lost x.0
 
-    grounded : a.error_handled.port_error ≢ TimedOut → OnlyFailedPortsRequeueOrFault evidence (z.steps ++ base)
+    grounded : a.error_handled.port_error ≢ TimedOut → OnlyFailedPortsRequeueAbortRevokeOrFault evidence (z.steps ++ base)
     grounded unhung =
-        issues_all (OnlyFailedPortsRequeueOrFault evidence) (mode_in r.server_after_resolving port) port (device_grounded evidence) (λ e steps own g. g) z.steps base z.only
+        issues_all (OnlyFailedPortsRequeueAbortRevokeOrFault evidence) (mode_in r.server_after_resolving port) port (device_grounded evidence) (λ e steps own g. g) z.steps base z.only
         (grounded_join evidence f.dispositions (f.middle ++ (ok_answers_of f.ended ++ f.first)) (deciding_grounded port evidence f.dispositions f.own (again_failed unhung) (answer_failed unhung))
-        (grounded_join evidence f.middle (ok_answers_of f.ended ++ f.first) (devices_all (OnlyFailedPortsRequeueOrFault evidence) (device_grounded evidence) tt f.middle f.middle_only)
-        (answers_all (OnlyFailedPortsRequeueOrFault evidence) f.ended f.first (λ e steps here g. g) (devices_all (OnlyFailedPortsRequeueOrFault evidence) (device_grounded evidence) tt f.first f.first_only))))
+        (grounded_join evidence f.middle (ok_answers_of f.ended ++ f.first) (devices_all (OnlyFailedPortsRequeueAbortRevokeOrFault evidence) (device_grounded evidence) tt f.middle f.middle_only)
+        (answers_all (OnlyFailedPortsRequeueAbortRevokeOrFault evidence) f.ended f.first (λ e steps here g. g) (devices_all (OnlyFailedPortsRequeueAbortRevokeOrFault evidence) (device_grounded evidence) tt f.first f.first_only))))
 
     -- ---- its steps
 
@@ -580,7 +580,7 @@ module _ (laws : PrerequisiteLaws) (port : Port) (replies : List Reply) (old new
       steps_are = refl;
       may = laws.steps_and_accesses.enabled_lists_join m z.steps base f.may z.may;
       stands = subst (MachineRelation new) (sym all_is) z.stands;
-      backed = laws.backed_parts old.device r.server_after_resolving.device new.device m base z.steps f.backed z.backed;
+      backed = laws.backed_parts_join old.device r.server_after_resolving.device new.device m base z.steps f.backed z.backed;
       own = own;
       belong = belong;
       last = last;

@@ -188,7 +188,7 @@ module _ (laws : PrerequisiteLaws) (port : Port) (replies : List Reply) (old new
         let done = tells ∙ and_from (not (bit x.reads_done.issued h.slot)) (not (bit x.reads_done.active h.slot)) (ap not clear.0) (ap not clear.1) in
         let w = was_told laws port low x.done x.requests from a.server_after_handling (found_kept laws port replies old new k ready r looks kept) ready (done_over laws port replies old new k ready r looks kept) x.answers_each h.slot h.used h.used_is (x.done_slots_are_free h.slot h.small done) in
         let y = at_left (HasEnded port) x.requests d.dispositions.ended d.dispositions.each w.0 w.1 in
-        let l = laws.steps_and_accesses.found_before m.book (after m d.dispositions.first).book y.0 (laws.steps_and_accesses.device_steps_spare_book m d.dispositions.first d.dispositions.first_only).book (ended_stood laws (after m d.dispositions.first) d.dispositions.ended early_may.1 y.0 y.1) in
+        let l = laws.steps_and_accesses.entry_is_found_in_earlier_book m.book (after m d.dispositions.first).book y.0 (laws.steps_and_accesses.device_steps_spare_book m d.dispositions.first d.dispositions.first_only).book (ended_stood laws (after m d.dispositions.first) d.dispositions.ended early_may.1 y.0 y.1) in
         let id_is : e.request.id ≡ y.0.request.id = sym h.id_is ∙ sym w.2 ∙ sym y.2.entry.id in
         let one : e ≡ l.0 = one_of e l.0 own.is_in_book l.1 (ap (λ (i : RequestId). i.0) (id_is ∙ ap (λ q. q.id) l.2.request)) in
         (y.0, l.2.request ∙ ap (λ (q : Pending). q.request) (sym one), ended_answered y.0 y.1)

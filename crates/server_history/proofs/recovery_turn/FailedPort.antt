@@ -86,7 +86,7 @@ pub fits_for : (s : ServerState) (port : Port) (queued : Bool) (k : InCallInvari
 fits_for s port queued k ready kinds = (
   k.machine_relation.uses,
   (λ plain slot other. ⊎_elim
-      (λ x. absurd (other (k.plain_stands_alone port.0 slot x.0 x.1 (kinds slot x.0 x.1 ∙ plain)).0))
+      (λ x. absurd (other (k.plain_is_alone_in_slot_0 port.0 slot x.0 x.1 (kinds slot x.0 x.1 ∙ plain)).0))
       (λ none. free_unused s k.machine port.0 k.machine_relation ready slot none)
       (used_or_not (used_for s.slots port.0 slot))),
   record { machine = k.machine; parked = k.machine_relation.awaiting_disposition; reached = k.reached; driver_relation = k.machine_relation.driver_relation },
@@ -102,7 +102,7 @@ one_plain s port slot other used its k is there plain = ⊎_elim
     (cases_eq other 0)
   where
     alone : IsLoneSlot0 s.slots port slot
-    alone = k.plain_stands_alone port slot used is plain
+    alone = k.plain_is_alone_in_slot_0 port slot used is plain
 
 -- the used slots of a port have queued commands, or plain ones
 pub are_alike : (s : ServerState) (port : Port) (slot : ℕ) (used : SlotUse) → InCallInvariant s → used_for s.slots port.0 slot ≡ Some used → AreAllQueuedAs used.queued (slots_at s.slots port.0)
@@ -119,4 +119,4 @@ pub is_alone : (s : ServerState) (port : Port) (queued : Bool) (outstanding : �
     → PlainIsSlot0 queued outstanding
 is_alone s port queued outstanding k its alike plain slot small is =
     let used = busy_used (used_for s.slots port.0 slot) (sym (its slot small) ∙ is) in
-    (k.plain_stands_alone port.0 slot used.0 used.1 (alike slot used.0 used.1 ∙ plain)).0
+    (k.plain_is_alone_in_slot_0 port.0 slot used.0 used.1 (alike slot used.0 used.1 ∙ plain)).0

@@ -24,7 +24,7 @@ use Rattle.host_boot.specs.declared.Booted.{Booted}
 use Rattle.host_boot.specs.declared.ProbeResult.{ProbeResult}
 use Rattle.host_boot.specs.declared.ProbeResult.TheVariants.{Ready, Unready, Unserved}
 use Rattle.identify.specs.declared.wanted.Wanted.{Wanted}
-use Rattle.port_boot.specs.States.{BacksState, EndsBeforeStart, EndsAfterStart, BringsReady, BringsUpPort, IsBeforeStart, IsAfterStart, IsBootAccess, ShownDiskIsIn, IsStateOfFault}
+use Rattle.port_boot.specs.States.{BacksState, EndsBeforeStart, EndsAfterStart, BringsReady, BringsUpPort, IsBeforeStart, IsStateStoppedAfterStart, IsBootAccess, ShownDiskIsIn, IsStateOfFault}
 use Rattle.identify.specs.Wanted.{serial_of}
 use Rattle.port_control.specs.Ports.{FindsLinkAndClearsErrors, HasLink, IsPlacingRegister, SeesResetFault, ReadsUntil}
 use Rattle.port_control.specs.declared.PortFault.{PortFault}
@@ -86,7 +86,7 @@ module _ (laws : PrerequisiteLaws) (port : Port) where
       by EngineStuck told l = absurd l
 
   -- a port that isn't ready, by the way that it went
-  pub unready_sees : (state : Shown) (old new : Device) → IsOn old → state ≢ ReadyState → (IsBeforeStart state → EndsBeforeStart port state old new) → (IsAfterStart state → EndsAfterStart port old new) → ShowsDisk state → SeesDevice port old new
+  pub unready_sees : (state : Shown) (old new : Device) → IsOn old → state ≢ ReadyState → (IsBeforeStart state → EndsBeforeStart port state old new) → (IsStateStoppedAfterStart state → EndsAfterStart port old new) → ShowsDisk state → SeesDevice port old new
   unready_sees Absent old new on other first last shows = absurd shows
   unready_sees Dead old new on other first last shows = absurd shows
   unready_sees ReadyState old new on other first last shows = absurd (other refl)
@@ -110,7 +110,7 @@ module _ (laws : PrerequisiteLaws) (port : Port) where
   pub boot_sees : (wanted : Wanted) (found : ProbeResult) (old new : Device) → IsOn old → BootsStopped wanted port found old new → ShowsDisk (state_of found) → SeesDevice port old new
   boot_sees wanted Unserved old new on none shows = absurd none
   boot_sees wanted (Ready info) old new on e shows = ready_sees old new on e.brings_ready
-  boot_sees wanted (Unready state) old new on e shows = unready_sees state old new on (λ is. subst (λ (x : Shown). BacksState (serial_of wanted) x port.0 new) is e.state_is_backed) e.ends_before_start e.ends_after_start shows
+  boot_sees wanted (Unready state) old new on e shows = unready_sees state old new on (λ is. subst (λ (x : Shown). BacksState (serial_of wanted) x port.0 new) is e.state_is_backed) e.unstarted_state_ends_before_start e.stopped_state_ends_after_start shows
 
 -- So it has since before the boot: by these accesses, of which some led to the boot.
 pub record SeesOver (port : Port) (old asked new : Device) : Type 0 where

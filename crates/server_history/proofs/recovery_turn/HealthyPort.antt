@@ -17,7 +17,7 @@ use Rattle.refinement.specs.Fragments.{AnySlotStates, TapeGrows, IsDrivenBy, IsS
 use Rattle.refinement.specs.Errors.{IsFatalErrorOf}
 use Rattle.refinement.specs.PortFacts.{IsFaultOf, RunsWell, Undisturbed}
 use Rattle.refinement.specs.PreservedParts.{NoPlugEvents, DoesNotWrite}
-use Rattle.refinement.specs.HaltRecovery.{IsLinked, WorksPlainly}
+use Rattle.refinement.specs.HaltRecovery.{IsLinked, WorksOnUnqueuedCommandsOnly}
 use Rattle.block_machine.specs.State.{Machine}
 use Rattle.driver_history.specs.Histories.{RunsWellAnew}
 use Rattle.driver_history.specs.AccessTrace.{ResetsLink}
@@ -78,7 +78,7 @@ module _ (laws : PrerequisiteLaws) (port : Port) where
       (⊎_elim
       (λ same. record { det = same.det ∙ up.det; fresh = same.fresh ∙ up.fresh; undue = same.due ∙ up.undue })
       (λ comes. absurd (false≢true (sym up.undue ∙ comes.link_was_due)))
-      (laws.port_event_laws.access_leaves_link port access old mid on.no_reset kind.0 does parts.0))
+      (laws.port_event_laws.link_stays_or_comes_up port access old mid on.no_reset kind.0 does parts.0))
 
   -- a port that runs well does so still
   all_well : (accesses : List Access) (old new : Device) → IsOn old → All (LeavesTrouble port) accesses → DoesAll accesses old new → Undisturbed port.0 old new → RunsWell (old.port port.0) → RunsWell (new.port port.0)
@@ -107,7 +107,7 @@ module _ (laws : PrerequisiteLaws) (port : Port) (old asked mid new : Device) (o
       let rest = laws.port_event_laws.tape.growth_is_transitive asked mid new whole last in
       let plugs = laws.port_event_laws.tape.no_plug_events_in_parts port.0 asked mid new whole.0 last.0 whole.1 last.1 (laws.port_event_laws.tape.no_plug_events_in_parts port.0 old asked new first.0 rest.0 first.1 rest.1 none).1 in
       let same = (shows_over laws port since.accesses way.up new (ready_up_on laws port old asked mid new on way later) since.accesses_are_of_kind since.all_are_done).same in
-      let set = way.brings_up.st_set_is_last in
+      let set = way.brings_up.tape_is_as_at_st_set in
       let calm = laws.calls.untroubled_since_st_is_calm port.0 old way.up new (laws.port_event_laws.tape.growth_is_transitive old asked way.up first up) (grows_over laws since.accesses way.up new since.all_are_done) (omega (arith, same, set)) none unfailed unbroken in
       let parts = laws.port_event_laws.tape.undisturbed_in_parts port.0 way.up mid new told.0 last.0 told.1 last.1 calm in
       well_over laws port mid new mid_on later parts.1 (way.port_runs_well plugs.0 parts.0)
@@ -130,7 +130,7 @@ never_reset port accesses all r = All-contains (DoesNotWrite (Px port Sctl)) acc
 
 module _ (laws : PrerequisiteLaws) (port : Port) (replies : List Reply) (old new : ServerState) (k : InCallInvariant old) (ready : state_of (probe_result_of old.probe_results port.0) ≡ ReadyState) (r : HandlesPortError port replies old new)
     (looks : IsSimulated (IsEventAccess port) AnySlotStates old.device r.has_resolved.error_handled.device_after_look) (kept : InCallInvariant r.server_after_resolving) (evident : IsEvident port replies old new r)
-    (plainly : r.has_resolved.error_handled.queued ≡ false → WorksPlainly (r.has_resolved.server_after_handling.device.port port.0)) where
+    (plainly : r.has_resolved.error_handled.queued ≡ false → WorksOnUnqueuedCommandsOnly (r.has_resolved.server_after_handling.device.port port.0)) where
   abbrev a : HasResolved port r.later_replies old r.server_after_resolving
   a = r.has_resolved
 
@@ -211,7 +211,7 @@ module _ (laws : PrerequisiteLaws) (port : Port) (replies : List Reply) (old new
         let known = runs.faults_are_on_record.st_set_is_on_tape in
         let calm = laws.calls.untroubled_since_st_is_calm port.0 old.device a.device_after_handling new.device (laws.port_event_laws.tape.growth_is_transitive old.device a.server_after_handling.device a.device_after_handling early_grows part_grows) late_grows (omega (arith, same, known)) none unfailed unbroken in
         well_over laws port a.device_after_handling new.device on last calm
-        (runs.port_runs_well plugs.0 (λ g. unbroken (laws.calls.fatal_in_part port.0 old.device a.server_after_handling.device a.device_after_handling new.device early_grows late_grows same g)) (linked none det fresh) plainly)
+        (runs.port_runs_well plugs.0 (λ g. unbroken (laws.calls.fatal_in_part_is_in_whole port.0 old.device a.server_after_handling.device a.device_after_handling new.device early_grows late_grows same g)) (linked none det fresh) plainly)
 
   -- ---- one that was booted
 
@@ -230,7 +230,7 @@ module _ (laws : PrerequisiteLaws) (port : Port) (replies : List Reply) (old new
       (λ shows. shows)
       (λ (missing : (old.device.port port.0).ssts_det ≢ 3).
       let failed : x.port_error ≢ TaskFileError = λ failed.
-      nowhere port (subst (λ (t : PortError). Contains (gone_of port t (old.device.port port.0)) port) failed ((evident.evidenced Service m).link_changed_all ready (inr (missing, none_comes port.0 old.device new.device none)))) in
+      nowhere port (subst (λ (t : PortError). Contains (gone_of port t (old.device.port port.0)) port) failed ((evident.evidenced Service m).shown_loss_of_ready_is_named ready (inr (missing, none_comes port.0 old.device new.device none)))) in
       absurd ((given_up x.port_error port x.outstanding x.queued x.result x.recovers_or_stops.accesses a.server_after_handling.device a.device_after_handling x.tells_error_handling failed).1 token is))
       (cases_eq (old.device.port port.0).ssts_det 3)
 

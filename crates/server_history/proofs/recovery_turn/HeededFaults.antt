@@ -80,7 +80,7 @@ issued_before laws mode port m (Issue its x ∷ steps) only e here issued =
     by true is = refl
     by false is = is
 issued_before laws mode port m (step ∷ steps) only e here issued =
-    let l = laws.steps_and_accesses.found_before (after m steps).book (after m (step ∷ steps)).book e (laws.steps_and_accesses.device_steps_spare_book (after m steps) (step ∷ []) (tt, only.0)).book here in
+    let l = laws.steps_and_accesses.entry_is_found_in_earlier_book (after m steps).book (after m (step ∷ steps)).book e (laws.steps_and_accesses.device_steps_spare_book (after m steps) (step ∷ []) (tt, only.0)).book here in
     ⊎_elim
     (λ (before : IsIssuedIn l.0.request.id steps). inl (by (issues_id e.request.id step) (subst (λ (id : RequestId). IsIssuedIn id steps) (sym (ap (λ q. q.id) l.2.request)) before)))
     (λ was. inr (was.0, was.1, was.2 ∙ sym l.2.request, was.3))
@@ -294,7 +294,7 @@ module _ (laws : PrerequisiteLaws) (port : Port) (replies : List Reply) (old new
     link_change_leaves_none = λ here. d.emptied (gone_is port shown a.error_handled.port_error unhung here);
     link_change_tells_alike = λ here. d.told (gone_is port shown a.error_handled.port_error unhung here);
     trouble_interrupts = λ _. interrupted laws port replies old new k ready r looks kept;
-    trouble_leaves_none_issued = λ _. anew;
+    error_or_stop_leaves_no_old_issue = λ _. anew;
     one_fault_at_most = single;
     fatal_tells_no_fault = fatal;
     shown_disk_was_in_or_came = evident.had m is d.steps d.backed;

@@ -107,7 +107,7 @@ module _ (laws : PrerequisiteLaws) (port : Port) (old asked mid new : Device) (o
       later)
 
   pub ready_shows : HidesNoTrouble port.0 old new
-  ready_shows = shown_since port.0 old way.up new (shows_over laws port ready_since.accesses way.up new ready_up_on ready_since.accesses_are_of_kind ready_since.all_are_done) way.brings_up.st_set_is_last
+  ready_shows = shown_since port.0 old way.up new (shows_over laws port ready_since.accesses way.up new ready_up_on ready_since.accesses_are_of_kind ready_since.all_are_done) way.brings_up.tape_is_as_at_st_set
 
 -- ---- a port that is ready once it was booted
 
@@ -201,9 +201,9 @@ module _ (laws : PrerequisiteLaws) (port : Port) (replies : List Reply) (old new
   -- the port was interrupted
   pub lasting : (m : Machine) → LosesNoPortError (evidence_by a) (joint_state_of old m) (ports_of new) new.device port
   lasting m = record {
-    errors_are_handled_or_shown = λ _ _. inl (interrupted laws port replies old new k ready r looks kept);
-    changes_are_handled_or_shown = λ _ _. inl (interrupted laws port replies old new k ready r looks kept);
-    new_fault_is_shown = λ is_ready g. (shows is_ready).fault_is_shown g;
-    new_fatal_is_shown = λ is_ready g. (shows is_ready).fatal_is_shown g;
-    new_plug_event_is_shown = λ is_ready g. (shows is_ready).plug_is_shown g;
+    ready_errors_are_handled_or_shown = λ _ _. inl (interrupted laws port replies old new k ready r looks kept);
+    changes_are_handled_or_shown_unless_dead = λ _ _. inl (interrupted laws port replies old new k ready r looks kept);
+    ready_shows_fault_since_start = λ is_ready g. (shows is_ready).fault_is_shown g;
+    ready_shows_fatal_since_start = λ is_ready g. (shows is_ready).fatal_is_shown g;
+    ready_shows_plug_event_since_start = λ is_ready g. (shows is_ready).plug_is_shown g;
   }

@@ -18,7 +18,7 @@ use Rattle.refinement.specs.PreservedParts.{DoesNotWrite}
 use Rattle.server_history.proofs.state.DrivenAccesses.{by_none, by_then, driven_as}
 use Rattle.disk_page.specs.PageRequests.{IsPageAccess}
 use Rattle.driver_history.specs.AccessTrace.{ResetsLink}
-use Rattle.error_recovery.specs.Recovery.{IsRecoveryRegister, IsRecoveryAccess}
+use Rattle.error_recovery.specs.Recovery.{IsCmdSerrOrIs, IsRecoveryAccess}
 use Rattle.port_boot.specs.States.{EndsBeforeStart, EndsAfterStart, BringsReady, BringsUpPort, IsBootRegister, IsBootAccess}
 use Rattle.port_control.specs.Ports.{ClearsErrors, FindsLinkAndClearsErrors, FindsSignature, IsPlacingRegister, SeesResetFault, IsVainReading, ReadsUntil, ReadsInVain, IsCommandRegister}
 use Rattle.port_control.specs.declared.PortFault.{PortFault}
@@ -211,9 +211,9 @@ module _ (laws : PrerequisiteLaws) (port : Port) where
 
   -- recovery leaves the link alone
   pub recovering_spares : (access : Access) → IsRecoveryAccess port access → DoesNotWrite (Px port Sctl) access
-  recovering_spares access (inl is) = control_spares IsRecoveryRegister no access is
+  recovering_spares access (inl is) = control_spares IsCmdSerrOrIs no access is
     where
-      no : (r : PortReg) → IsRecoveryRegister r → r ≢ Sctl
+      no : (r : PortReg) → IsCmdSerrOrIs r → r ≢ Sctl
       no r (inl x) same = let z : Cmd ≡ Sctl = sym x ∙ same in absurd cc
       no r (inr (inl x)) same = let z : Serr ≡ Sctl = sym x ∙ same in absurd cc
       no r (inr (inr x)) same = let z : Is ≡ Sctl = sym x ∙ same in absurd cc

@@ -16,7 +16,7 @@ use Rattle.refinement.specs.Acts.{DriverSlots, driver_state_of_slots}
 use Rattle.refinement.specs.Fragments.{AnySlotStates, IsSimulated}
 use Rattle.refinement.specs.Driver.{HasNoSlot, TapeBacksSteps}
 use Rattle.refinement.specs.Slots.{Serves}
-use Rattle.refinement.specs.SparedBook.{KeepsBookAndLoans}
+use Rattle.refinement.specs.SparedBook.{KeepsLoansAndBookOnlyAdvances}
 use Rattle.block_machine.specs.Events.{AllByDevice, AllEnabled}
 use Rattle.block_machine.specs.Histories.{IsReachable}
 use Rattle.block_machine.specs.Expected.{after}
@@ -43,7 +43,7 @@ use Rattle.request_queue.specs.declared.disposition.Revalidation.TheVariants.{Sa
 use Rattle.slots.specs.SlotUses.{PortSlots}
 use Rattle.server_history.specs.Prerequisites.{PrerequisiteLaws}
 use Rattle.server_history.specs.ResolvedRequests.{IsResolveStep, AreResolvable, AreResolvedInMachine, keeps_frames_lent}
-use Rattle.server_history.specs.ErrorHandling.{HasNoUsedSlot, IsFailedRequest, IsFoundAfterError, IsRevalidation, HasResolved, book_and_loans_of, requests_of, with_port_resolved}
+use Rattle.server_history.specs.ErrorHandling.{HasAllSlotsFreeAndCountOfMode, IsFailedRequest, IsFoundAfterError, IsRevalidation, HasResolved, book_and_loans_of, requests_of, with_port_resolved}
 use Rattle.server_history.specs.IssuingAndAnswering.{ok_answers_of}
 use Rattle.server_history.specs.ServerState.{QuarantineRelation, SlotUsesAgreeUnlessDead, InCallInvariant, MachineRelation, ServerState, is_served, quarantined_at, slots_at, state_of, RevokedMarkInvariant}
 use Rattle.server_history.proofs.state.HistorySteps.{book_on, still_kept}
@@ -131,7 +131,7 @@ module _ (laws : PrerequisiteLaws) (port : Port) (mid : ServerState) (k : InCall
   w_reached : IsReachable w
   w_reached = laws.steps_and_accesses.reachable_stays_reachable n passed.passes.steps reached passed.passes.may
 
-  spares : KeepsBookAndLoans n w
+  spares : KeepsLoansAndBookOnlyAdvances n w
   spares = laws.steps_and_accesses.device_steps_spare_book n passed.passes.steps passed.passes.only
 
   in_its : (e : BookEntry) → Contains mid.book e → e.request.port.0 ≡ port.0 → Contains its e
@@ -154,7 +154,7 @@ module _ (laws : PrerequisiteLaws) (port : Port) (mid : ServerState) (k : InCall
       served lives issued = ⊎_elim
           (λ (parked : Contains (is.awaiting_disposition port.0) entry.0.request.id). absurd (nowhere entry.0.request.id (subst (λ (ids : List RequestId). Contains ids entry.0.request.id) (is.only_dead_ports_park port.0 alive) parked)))
           (λ (slot : (slot : ℕ) × (is.uses port.0 slot ≡ Serves entry.0.request.id)). passed.left.unserved lives is.driver_relation.state_relation.serve_distinct_requests slot.0 e.request.id (slot.1 ∙ ap Serves entry.2.id))
-          (is.driver_relation.have_slots port.0 entry.0 (inl (entry.1, entry.2.issued ∙ issued)) (ap (λ (q : Port). q.0) (entry.2.port ∙ (of_its e here).1)))
+          (is.driver_relation.have_slots_unless_parked port.0 entry.0 (inl (entry.1, entry.2.issued ∙ issued)) (ap (λ (q : Port). q.0) (entry.2.port ∙ (of_its e here).1)))
 
       of : (x : Next) → way ≡ x → e.request.issued ≡ true → HasNoSlot t.slot_states e.request.id
       of (Running token) z issued = served (λ stuck. let y : Running token ≡ Stuck = sym z ∙ stuck in absurd cc) issued
@@ -167,7 +167,7 @@ module _ (laws : PrerequisiteLaws) (port : Port) (mid : ServerState) (k : InCall
 
       by : (b : Bool) → e.request.issued ≡ b → HasNoSlot t.slot_states e.request.id
       by false waits =
-          let l = laws.steps_and_accesses.found_later n.book w.book entry.0 spares.book entry.1 in
+          let l = laws.steps_and_accesses.entry_is_found_in_later_book n.book w.book entry.0 spares.book entry.1 in
           subst (HasNoSlot t.slot_states) (ap (λ r. r.id) l.2.request ∙ entry.2.id) (laws.slots.waiting_has_no_slot t.slot_states w device w_reached passed.passes.driver_relation.state_relation l.0 l.1 (l.2.issued ∙ entry.2.issued ∙ waits))
       by true issued = of way refl issued
 
@@ -224,7 +224,7 @@ module _ (laws : PrerequisiteLaws) (port : Port) (mid : ServerState) (k : InCall
     none_left : found ≢ Unready Dead → met.parked port.0 ≡ []
     none_left other = none_parked port disposition its (fits_each failed revalidation its) later (book_and_loans_of port mid) now (driver_state_of_slots t device) w met (quiet other) parked_by
 
-    module _ (mode : QueueMode) (slots : PortSlots) (unused : HasNoUsedSlot mode slots) where
+    module _ (mode : QueueMode) (slots : PortSlots) (unused : HasAllSlotsFreeAndCountOfMode mode slots) where
       abbrev new : ServerState
       new = with_port_resolved port device found was mode slots now mid
 
@@ -242,7 +242,7 @@ module _ (laws : PrerequisiteLaws) (port : Port) (mid : ServerState) (k : InCall
 
       used : SlotUsesAgreeUnlessDead new t.slot_states
       used = uses_then port.0 way found mid.probe_results mid.slots slots (record { slot_states = is.uses; awaiting_disposition = is.awaiting_disposition }) t (let f = (ready_found mid port.0 k ready).1 in in_ports mid.probe_results port.0 f.0 f.1)
-          (let f = k.slots_are_of_four_ports in let l = low in omega (arith, f, l)) unused.all_slots_are_free passed.left is.are_uses_of
+          (let f = k.slots_are_of_four_ports in let l = low in omega (arith, f, l)) unused.all_slots_are_free passed.left is.slot_uses_agree_unless_dead
 
       unparked : (q : ℕ) → probe_result_of new.probe_results q ≢ Unready Dead → met.parked q ≡ []
       unparked q lives = ⊎_elim
@@ -277,7 +277,7 @@ module _ (laws : PrerequisiteLaws) (port : Port) (mid : ServerState) (k : InCall
       pub stands : MachineRelation new z
       stands = record {
         uses = t.slot_states;
-        are_uses_of = used;
+        slot_uses_agree_unless_dead = used;
         awaiting_disposition = met.parked;
         only_dead_ports_park = unparked;
         driver_relation = met.driver_relation;
@@ -333,8 +333,8 @@ module _ (laws : PrerequisiteLaws) (port : Port) (later : List Reply) (old new :
     each = y.each;
     middle_only = p.passes.only;
     may = laws.steps_and_accesses.enabled_lists_join m f.steps (p.passes.steps ++ base) (laws.steps_and_accesses.enabled_lists_join m p.passes.steps base base_may p.passes.may) (subst (λ (s : Machine). AllEnabled s f.steps) (sym then_is) f.steps_are_enabled);
-    backed = laws.backed_parts old.device new.device new.device m (p.passes.steps ++ base) f.steps
-        (laws.backed_parts old.device a.server_after_handling.device new.device m base p.passes.steps base_backed p.passes.backed) (subst (λ (s : Machine). TapeBacksSteps new.device new.device s f.steps) (sym then_is) (f.backed new.device));
+    backed = laws.backed_parts_join old.device new.device new.device m (p.passes.steps ++ base) f.steps
+        (laws.backed_parts_join old.device a.server_after_handling.device new.device m base p.passes.steps base_backed p.passes.backed) (subst (λ (s : Machine). TapeBacksSteps new.device new.device s f.steps) (sym then_is) (f.backed new.device));
     stands = subst (MachineRelation new) (sym (laws.steps_and_accesses.after_joins m f.steps (p.passes.steps ++ base) ∙ ap (λ (s : Machine). after s f.steps) then_is))
         (subst (λ (s : ServerState). MachineRelation s (after (after n p.passes.steps) f.steps)) (sym a.server_is)
         (stands laws port a.server_after_handling mid_kept mid_ready n n_reached is_mid a.error_handled.result.next a.found new.device p a.failed a.revalidation a.error_handled.port_error a.disk_before a.is_revalidation unnamed later a.book_and_loans_after a.are_resolved a.mode a.slots a.has_no_used_slot));
@@ -356,7 +356,7 @@ module _ (laws : PrerequisiteLaws) (port : Port) (later : List Reply) (old new :
         finding.0 ++ looked.0,
         laws.steps_and_accesses.enabled_lists_join m finding.0 looked.0 looked.1 finding.1,
         subst (MachineRelation from) (sym (laws.steps_and_accesses.after_joins m finding.0 looked.0)) finding.2,
-        laws.backed_parts old.device a.error_handled.device_after_look a.error_handled.device_after_read m looked.0 finding.0 looked.3 finding.3,
+        laws.backed_parts_join old.device a.error_handled.device_after_look a.error_handled.device_after_read m looked.0 finding.0 looked.3 finding.3,
         devices_both finding.0 looked.0 finding.4 looked.4,
       )
 
@@ -376,7 +376,7 @@ module _ (laws : PrerequisiteLaws) (port : Port) (later : List Reply) (old new :
       base_may = laws.steps_and_accesses.enabled_lists_join m (ok_answers_of y.ended) x.0 x.1 y.may
 
       base_backed : TapeBacksSteps old.device a.server_after_handling.device m base
-      base_backed = laws.backed_parts old.device a.error_handled.device_after_read a.server_after_handling.device m x.0 (ok_answers_of y.ended) x.3 y.backed
+      base_backed = laws.backed_parts_join old.device a.error_handled.device_after_read a.server_after_handling.device m x.0 (ok_answers_of y.ended) x.3 y.backed
 
       n_reached : IsReachable n
       n_reached = laws.steps_and_accesses.reachable_stays_reachable m base reached base_may

@@ -220,8 +220,8 @@ module _ (laws : PrerequisiteLaws) (port : Port) (replies : List Reply) (old new
     λ lives. (
       record {
         served_is_unchanged = ap is_served found_new ∙ found_served (wanted_of old.wanted port.0) port x.port_error a.disk_before x.result.next a.device_after_handling r.server_after_resolving.device a.found a.is_found_after_error ∙ sym (ap is_served a.was_ready);
-        dead_is_stuck = (λ dead. subst (λ (p : Revalidation). Contains (stuck_of port p) port) (sym (found_prospect (dead_found dead))) ((0, omega arith, refl)), λ stuck. state_new ∙ ap state_of (dead_prospect (stuck_is port a.revalidation stuck)));
-        disk_is_remembered = λ other. same_disk (disk_is a.found (Some a.disk_before) (λ is. other (state_new ∙ is)));
+        dead_exactly_if_stuck = (λ dead. subst (λ (p : Revalidation). Contains (stuck_of port p) port) (sym (found_prospect (dead_found dead))) ((0, omega arith, refl)), λ stuck. state_new ∙ ap state_of (dead_prospect (stuck_is port a.revalidation stuck)));
+        disk_is_remembered_unless_ready = λ other. same_disk (disk_is a.found (Some a.disk_before) (λ is. other (state_new ∙ is)));
       },
       inr interrupted,
     ),

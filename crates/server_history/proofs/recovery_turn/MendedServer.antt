@@ -24,7 +24,7 @@ use Rattle.host_boot.specs.TakeOver.{IsServed, StillBacksProbeResult, probe_resu
 use Rattle.host_boot.specs.declared.ProbeResult.{ProbeResult}
 use Rattle.host_boot.specs.declared.ProbeResult.TheVariants.{Ready}
 use Rattle.identify.specs.declared.wanted.Wanted.{Wanted}
-use Rattle.port_boot.specs.States.{IsBootable}
+use Rattle.port_boot.specs.States.{IsOnWithPortMemoryAndFreeSlots}
 use Rattle.port_control.specs.Ports.{IsStopped}
 use Rattle.port_control.specs.declared.Running as running_token
 use Rattle.port_control.specs.declared.Stopped.{Stopped}
@@ -38,7 +38,7 @@ use Rattle.server_history.specs.ErrorHandling.{AreAllQueuedAs, IsFoundAfterError
 use Rattle.server_history.specs.ServerState.{ServerState, InCallInvariant, MachineRelation, is_served, quarantined_at, probed_mode, mode_in, slots_at, state_of, used_for}
 use Rattle.server_history.proofs.state.PortGrounds.{ready_on}
 use Rattle.server_history.proofs.recovery_turn.OtherPorts.{Passes, PassesTo, recovery_passes, after_passes, passes_none, slots_of}
-use Rattle.server_history.proofs.state.PlainHalts.{again_halts, works_plainly}
+use Rattle.server_history.proofs.state.PlainHalts.{again_halts, plain_port_stays_plain}
 use Rattle.server_history.proofs.state.FirstMembers.{nowhere}
 use Rattle.server_history.proofs.plain_calls.Looks.{finding_kept, found_over, looking_kept}
 use Rattle.server_history.proofs.state.IssueCounts.{places}
@@ -108,7 +108,7 @@ module _ (laws : PrerequisiteLaws) (port : Port) (old mid : ServerState) (device
       ∙ ap (λ (cap : ℕ). probed_mode cap (probe_result_of mid.probe_results port.0)) (sym same.cap) ∙ ap (λ (ports : List ProbeResult). probed_mode device.cap (probe_result_of ports port.0)) ports_same
 
   -- a port that has to be booted may be
-  pub bootable : (token : Stopped) → r.result.next ≡ next.Restart token → IsBootable port device × IsStopped (device.port port.0) × ((device.port port.0).notes.link_wait_count ≡ MOST_READINGS)
+  pub bootable : (token : Stopped) → r.result.next ≡ next.Restart token → IsOnWithPortMemoryAndFreeSlots port device × IsStopped (device.port port.0) × ((device.port port.0).notes.link_wait_count ≡ MOST_READINGS)
   bootable token is = (
     record {
       adapter_is_on = passed.1.on;
@@ -184,14 +184,14 @@ module _ (laws : PrerequisiteLaws) (port : Port) (later : List Reply) (old new :
         behind = ready_on laws wanted a.disk_before port.0 mid.device a.device_after_handling recovered_same l.sctl_det_is_kept l.ie_is_kept l.sctl_time_is_kept
             (l.no_identify_moves (
               m.machine_relation.uses,
-              (λ own. not_own (probe_result_of mid.probe_results port.0) (used_for mid.slots port.0 0) (m.machine_relation.uses port.0 0) Identify (not_dead mid port.0 its_ready) (m.machine_relation.are_uses_of port.0 0) own),
+              (λ own. not_own (probe_result_of mid.probe_results port.0) (used_for mid.slots port.0 0) (m.machine_relation.uses port.0 0) Identify (not_dead mid port.0 its_ready) (m.machine_relation.slot_uses_agree_unless_dead port.0 0) own),
               record { machine = m.machine; parked = m.machine_relation.awaiting_disposition; reached = m.reached; driver_relation = m.machine_relation.driver_relation },
             )) was_stands;
-        runs = λ _. record { st_is_set = g.runs.st_is_set; cr_is_set = g.runs.cr_is_set; fre_is_set = g.runs.fre_is_set; bases_are_programmed = g.runs.areas_are_in_place; device_was_seen = g.link_count_is_kept ∙ was.device_was_seen; faults_are_recorded = g.faults_are_on_record };
+        runs = λ _. record { st_is_set = g.runs.st_is_set; cr_is_set = g.runs.cr_is_set; fre_is_set = g.runs.fre_is_set; bases_are_programmed = g.runs.areas_are_in_place; device_was_seen = g.link_wait_count_is_kept ∙ was.device_was_seen; faults_are_recorded = g.faults_are_on_record };
         shown = λ bad. absurd bad;
         own = λ _. laws.recovery.shown_disk_stays_in port.0 done.1.driven.accesses mid.device a.device_after_handling done.1.driven.all_are_done ((m.port_invariant port.0 small).ready_has_disk_if_shown its_ready);
         halts = λ _. again_halts laws r.queued port.0 mid.device a.device_after_handling g
-            (λ plain. works_plainly laws mid m port its_ready (subst (λ (queued : Bool). AreAllQueuedAs queued (slots_at mid.slots port.0)) plain r.are_queued_alike) ((m.port_invariant port.0 small).queued_halt_has_taken_command its_ready));
+            (λ plain. plain_port_stays_plain laws mid m port its_ready (subst (λ (queued : Bool). AreAllQueuedAs queued (slots_at mid.slots port.0)) plain r.are_queued_alike) ((m.port_invariant port.0 small).ready_is_not_log_only_and_halt_is_of_taken its_ready));
       }
 
   its_stands : Stands a.found new.device

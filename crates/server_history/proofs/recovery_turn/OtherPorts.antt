@@ -30,7 +30,7 @@ use Rattle.block_machine.specs.Expected.{after}
 use Rattle.block_machine.specs.State.{Machine}
 use Rattle.command_table.specs.TableStores.{IsHeaderOrTableStore}
 use Rattle.disk_page.specs.PageRequests.{IsPageAccess}
-use Rattle.error_recovery.specs.Recovery.{IsRecoveryRegister, IsRecoveryAccess, SlotsAfterRecovery, RecoversOrStops, with_own}
+use Rattle.error_recovery.specs.Recovery.{IsCmdSerrOrIs, IsRecoveryAccess, SlotsAfterRecovery, RecoversOrStops, with_own_command_in_slot_0}
 use Rattle.error_recovery.specs.declared.Next.{Next}
 use Rattle.error_recovery.specs.declared.Next.TheVariants as next
 use Rattle.error_recovery.specs.declared.Recovered.{Recovered}
@@ -79,7 +79,7 @@ looking_stores port access is at bytes e = absurd (subst (IsEventAccess port) e 
 
 module _ (laws : PrerequisiteLaws) where
   recovering_mild : (port : Port) (access : Access) → IsRecoveryAccess port access → IsMild port access
-  recovering_mild port access is = (laws.recovery_access_is_of_port port access is, λ at bytes e. stored_in IsRecoveryRegister port at bytes (subst (IsRecoveryAccess port) e is))
+  recovering_mild port access is = (laws.recovery_access_is_of_port port access is, λ at bytes e. stored_in IsCmdSerrOrIs port at bytes (subst (IsRecoveryAccess port) e is))
 
   booting_mild : (port : Port) (access : Access) → IsBootAccess port access → IsMild port access
   booting_mild port access is = (laws.boot_access_is_of_port port access is, λ at bytes e. stored_in IsBootRegister port at bytes (subst (IsBootAccess port) e is))
@@ -120,7 +120,7 @@ passes_none s port k = record {
   machine = k.machine;
   reached = k.reached;
   driver_relation = k.machine_relation.driver_relation;
-  clients = λ q o other alive. not_own (probe_result_of s.probe_results q) (used_for s.slots q 0) (k.machine_relation.uses q 0) o alive (k.machine_relation.are_uses_of q 0);
+  clients = λ q o other alive. not_own (probe_result_of s.probe_results q) (used_for s.slots q 0) (k.machine_relation.uses q 0) o alive (k.machine_relation.slot_uses_agree_unless_dead q 0);
   silent = λ q o own other alive. silent_none q o s.device;
   halts = λ q other h. h;
   commands = λ q slot used other is. k.slots_store_commands q slot used is;
@@ -151,7 +151,7 @@ module _ (laws : PrerequisiteLaws) (s : ServerState) (port : Port) (k : InCallIn
           record {
             command = h.command;
             places = h.places;
-            stored = laws.slots.stored_stays_over_acts (port_at q) slot h.command h.places c.acts (driver_state_of_slots slots d) (driver_state_of_slots then new) p.machine p.reached p.driver_relation c.acts_are_done
+            stored = laws.slots.stored_stays_over_acts_that_leave_it (port_at q) slot h.command h.places c.acts (driver_state_of_slots slots d) (driver_state_of_slots then new) p.machine p.reached p.driver_relation c.acts_are_done
                 (subst (All (KeepsStoredCommand (port_at q) slot)) (sym c.accesses_match_acts)
                 (All-weaker (IsMild port) (KeepsStoredCommand (port_at q) slot) (mild_leaves laws port (port_at q) slot other low there.0 there.1) accesses only))
                 p.on h.stored;
@@ -191,7 +191,7 @@ module _ (laws : PrerequisiteLaws) (s : ServerState) (port : Port) (k : InCallIn
 
     silent : (q : ℕ) (o : Operation) → client_operation_of o ≡ None → q ≢ port.0 → probe_result_of s.probe_results q ≢ Unready DeadState → GainsNoMove q o d new
     silent q o own other alive =
-        r.leaves.other_ports_move_no_page (port_at q) o other own (slots.slot_states, first.clients q o other alive, record { machine = first.machine; parked = slots.awaiting_disposition; reached = first.reached; driver_relation = first.driver_relation })
+        r.leaves.other_ports_move_no_unasked_page (port_at q) o other own (slots.slot_states, first.clients q o other alive, record { machine = first.machine; parked = slots.awaiting_disposition; reached = first.reached; driver_relation = first.driver_relation })
 
     given_others : (q : ℕ) → q ≢ port.0 → (slots_with_all_parked port.0 slots).slot_states q ≡ slots.slot_states q
     given_others q other = (laws.slots.giving_up_spares_other_ports (driver_state_of_slots slots d) port.0 q other).0
@@ -210,8 +210,8 @@ module _ (laws : PrerequisiteLaws) (s : ServerState) (port : Port) (k : InCallIn
     by_next next.Dead (inl p) = (slots, passes_on slots slots d new first r.accesses p.accesses_are_done mild _ (p.acts_reach slots first.machine first.reached first.driver_relation tt) first.clients silent, λ alive. absurd (alive refl))
     by_next next.Dead (inr (inl p)) = (slots_with_all_parked port.0 slots, given _ p.accesses_are_done (p.acts_reach slots first.machine first.reached first.driver_relation tt), λ alive. given_free)
     by_next next.Dead (inr (inr p)) = (
-      with_own port.0 ReadLog (slots_with_all_parked port.0 slots),
-      passes_on slots (with_own port.0 ReadLog (slots_with_all_parked port.0 slots)) d new first r.accesses p.accesses_are_done mild _ (p.acts_reach slots first.machine first.reached first.driver_relation tt)
+      with_own_command_in_slot_0 port.0 ReadLog (slots_with_all_parked port.0 slots),
+      passes_on slots (with_own_command_in_slot_0 port.0 ReadLog (slots_with_all_parked port.0 slots)) d new first r.accesses p.accesses_are_done mild _ (p.acts_reach slots first.machine first.reached first.driver_relation tt)
           (λ q o other alive is. first.clients q o other alive (ap (λ (f : ℕ → SlotState). f 0) (sym (given_others q other)) ∙ sym (laws.recovery.setting_slot_keeps_others (slots_with_all_parked port.0 slots).slot_states port.0 0 (Own ReadLog) q 0 (λ same _. other same)) ∙ is)) silent,
       λ alive. absurd (alive refl),
     )

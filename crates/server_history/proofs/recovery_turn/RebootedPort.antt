@@ -14,7 +14,7 @@ use Rattle.refinement.specs.PreservedParts.{SameAdapter}
 use Rattle.block_machine.specs.Events.{Replied, Service}
 use Rattle.block_machine.specs.Ports.{SamePort}
 use Rattle.block_machine.specs.State.{Machine}
-use Rattle.driver_history.specs.Histories.{BootsAnew}
+use Rattle.driver_history.specs.Histories.{BootsAnewWhereRequired}
 use Rattle.driver_history.specs.AccessTrace.{ResetsLink}
 use Rattle.error_recovery.specs.declared.Next.{Next}
 use Rattle.error_recovery.specs.declared.Next.TheVariants as next
@@ -140,11 +140,11 @@ module _ (laws : PrerequisiteLaws) (port : Port) (replies : List Reply) (old new
   pub restarts : x.port_error ≢ TaskFileError → x.port_error ≢ LinkChanged → ((ports_of new).state port ≡ DeadState) ⊎ ResetsLink port evident.accesses
   restarts other there = ⊎_elim (λ dead. inl dead) (λ more. inr (⊎_elim (λ absent. absurd (there absent.0)) (λ resets. resets) more)) (unless_failed other)
 
-  pub reboots : (m : Machine) → BootsAnew Service (Replied replies) evident.accesses (joint_state_of old m) (ports_of new) new.device port
+  pub reboots : (m : Machine) → BootsAnewWhereRequired Service (Replied replies) evident.accesses (joint_state_of old m) (ports_of new) new.device port
   reboots m = (
     (λ is_ready port_error. rebooted (unless_failed (λ failed. ⊎_elim
-        (λ fatal. nowhere port (subst (λ (t : PortError). Contains (fatal_of port t (old.device.port port.0)) port) failed ((evident.evidenced Service m).showing_fatal_error_all is_ready fatal)))
-        (λ loss. nowhere port (subst (λ (t : PortError). Contains (gone_of port t (old.device.port port.0)) port) failed ((evident.evidenced Service m).link_changed_all is_ready loss)))
+        (λ fatal. nowhere port (subst (λ (t : PortError). Contains (fatal_of port t (old.device.port port.0)) port) failed ((evident.evidenced Service m).shown_fatal_of_ready_is_named is_ready fatal)))
+        (λ loss. nowhere port (subst (λ (t : PortError). Contains (gone_of port t (old.device.port port.0)) port) failed ((evident.evidenced Service m).shown_loss_of_ready_is_named is_ready loss)))
         port_error))),
     ⊎_elim (λ same. inl same) (λ stops. inr (rebooted stops)) ends,
   )

@@ -13,7 +13,7 @@ use Rattle.adapter.specs.Access.{Access}
 use Rattle.adapter.specs.Device.{Device}
 use Rattle.adapter.specs.declared.command.Operation.{Operation}
 use Rattle.adapter.specs.declared.command.Operation.TheVariants.{Identify, ReadLog}
-use Rattle.refinement.specs.Acts.{AnySlots, ActsByDeviceAlone, DriverSlots, Performs, driver_state_of_slots, act_steps}
+use Rattle.refinement.specs.Acts.{AnySlots, ActsByDeviceAlone, DriverSlots, AccessesAreSimulatedByActs, driver_state_of_slots, act_steps}
 use Rattle.refinement.specs.Relation.{ServeDistinctRequests}
 use Rattle.refinement.specs.Fragments.{IsSimulated, IsSimulatedChangingUses}
 use Rattle.refinement.specs.Driver.{AllFree, HasNoSlot, TapeBacksSteps, DriverState, DriverRelation}
@@ -25,7 +25,7 @@ use Rattle.block_machine.specs.Histories.{IsReachable}
 use Rattle.block_machine.specs.Expected.{after}
 use Rattle.block_machine.specs.State.{Machine}
 use Rattle.block_machine.specs.Steps.{Step}
-use Rattle.error_recovery.specs.Recovery.{SlotsAfterRecovery, with_own}
+use Rattle.error_recovery.specs.Recovery.{SlotsAfterRecovery, with_own_command_in_slot_0}
 use Rattle.error_recovery.specs.declared.Next.{Next}
 use Rattle.error_recovery.specs.declared.Next.TheVariants.{Running, Restart, Dead as Stuck}
 use Rattle.host_boot.specs.Reboots.{RebootsPort, BootsStopped, IsCapPiOrBootAccess}
@@ -62,7 +62,7 @@ passes_then laws a b c m x y = record {
   steps = y.steps ++ x.steps;
   only = devices_both y.steps x.steps y.only x.only;
   may = laws.steps_and_accesses.enabled_lists_join m y.steps x.steps x.may y.may;
-  backed = laws.backed_parts a.device b.device c.device m x.steps y.steps x.backed y.backed;
+  backed = laws.backed_parts_join a.device b.device c.device m x.steps y.steps x.backed y.backed;
   driver_relation = subst (λ (n : Machine). DriverRelation n c) (sym (laws.steps_and_accesses.after_joins m y.steps x.steps)) y.driver_relation;
 }
 
@@ -74,7 +74,7 @@ passes_followed laws May Fits next old new followed s m fits reached knows =
     record { steps = x.0; only = x.3.all_steps_are_devices; may = x.1; backed = x.3.is_backed; driver_relation = x.2 }
 
 -- a part of a call
-passes_performs : PrerequisiteLaws → (accesses : List Access) (next : DriverSlots → DriverSlots) (old new : Device) → Performs accesses AnySlots next ActsByDeviceAlone old new → (s : DriverSlots) (m : Machine) → IsReachable m → DriverRelation m (driver_state_of_slots s old)
+passes_performs : PrerequisiteLaws → (accesses : List Access) (next : DriverSlots → DriverSlots) (old new : Device) → AccessesAreSimulatedByActs accesses AnySlots next ActsByDeviceAlone old new → (s : DriverSlots) (m : Machine) → IsReachable m → DriverRelation m (driver_state_of_slots s old)
     → Passes (driver_state_of_slots s old) (driver_state_of_slots (next s) new) m
 passes_performs laws accesses next old new p s m reached knows =
     let c = p.acts_reach s m reached knows tt in
@@ -128,7 +128,7 @@ module _ (laws : PrerequisiteLaws) (port : ℕ) (s : DriverSlots) (d : Device) w
   }
 
   -- with a command of the driver's own in slot 0 of a dead port
-  left_own : (way : Next) (found : ProbeResult) (o : Operation) → found ≡ Unready Dead → LeavesIn port way found s (with_own port o (slots_with_all_parked port s))
+  left_own : (way : Next) (found : ProbeResult) (o : Operation) → found ≡ Unready Dead → LeavesIn port way found s (with_own_command_in_slot_0 port o (slots_with_all_parked port s))
   left_own way found o dead = record {
     uses = λ q ne. (λ i slot. laws.recovery.setting_slot_keeps_others (slots_with_all_parked port s).slot_states port 0 (Own o) q slot (λ same _. ne same) i) ∙ (laws.slots.giving_up_spares_other_ports (driver_state_of_slots s d) port q ne).0;
     parked = λ q ne. (laws.slots.giving_up_spares_other_ports (driver_state_of_slots s d) port q ne).1;
@@ -180,9 +180,9 @@ module _ (laws : PrerequisiteLaws) (wanted : Wanted) (port : Port) (old mid new 
         by : (state : PortState) → IsBootTo (StopsOnWay port state) port state mid new → IsPassed port.0 way (Unready state) old new s m
         by Dead (inl boots) = plainly (EngineSticks port) boots Dead
         by Dead (inr boots) = record {
-          slots = with_own port.0 Identify given;
+          slots = with_own_command_in_slot_0 port.0 Identify given;
           left = left_own laws port.0 s old way (Unready Dead) Identify refl;
-          passes = passes_then laws (driver_state_of_slots s old) (driver_state_of_slots given mid) (driver_state_of_slots (with_own port.0 Identify given) new) m x
+          passes = passes_then laws (driver_state_of_slots s old) (driver_state_of_slots given mid) (driver_state_of_slots (with_own_command_in_slot_0 port.0 Identify given) new) m x
               (passes_followed laws (IsBootAccess port) (λ uses. AllFree uses port.0) (λ uses. set_slot_state uses port.0 0 (Own Identify)) mid new boots.is_simulated given (after m x.steps) (free_then laws port.0 s old) here x.driver_relation);
         }
         by Absent boots = plainly (StopsOnWay port Absent) boots Absent
@@ -225,8 +225,8 @@ passed laws wanted port port_error was Stuck accesses old mid new found (inr (in
   passes = subst (λ (d : Device). Passes (driver_state_of_slots s old) (driver_state_of_slots (slots_with_all_parked port.0 s) d) m) (sym same) (passes_performs laws accesses (slots_with_all_parked port.0) old mid performs s m reached knows);
 }
 passed laws wanted port port_error was Stuck accesses old mid new found (inr (inr performs)) (is, same) s m reached knows = record {
-  slots = with_own port.0 ReadLog (slots_with_all_parked port.0 s);
+  slots = with_own_command_in_slot_0 port.0 ReadLog (slots_with_all_parked port.0 s);
   left = left_own laws port.0 s old Stuck found ReadLog is;
-  passes = subst (λ (d : Device). Passes (driver_state_of_slots s old) (driver_state_of_slots (with_own port.0 ReadLog (slots_with_all_parked port.0 s)) d) m) (sym same)
-      (passes_performs laws accesses (λ s. with_own port.0 ReadLog (slots_with_all_parked port.0 s)) old mid performs s m reached knows);
+  passes = subst (λ (d : Device). Passes (driver_state_of_slots s old) (driver_state_of_slots (with_own_command_in_slot_0 port.0 ReadLog (slots_with_all_parked port.0 s)) d) m) (sym same)
+      (passes_performs laws accesses (λ s. with_own_command_in_slot_0 port.0 ReadLog (slots_with_all_parked port.0 s)) old mid performs s m reached knows);
 }

@@ -114,7 +114,7 @@ pub record IsGivenUp (port : Port) (d : Device) : Type 0 where
 pub record AfterList (port : Port) (port_error : PortError) (then : Next) (found : ProbeResult) (old new : Device) : Type 0 where
   pub driven : IsDrivenBy (IsPart port) old new
   pub sticks : found ≡ Unready DeadState → then ≢ next.Dead → EngineSticks port driven.accesses
-  pub stuck : found ≡ Unready DeadState → then ≢ next.Dead → (new.port port.0).notes.engine_count ≡ MOST_READINGS
+  pub stuck : found ≡ Unready DeadState → then ≢ next.Dead → (new.port port.0).notes.engine_wait_count ≡ MOST_READINGS
   pub resets : (token : Stopped) → then ≡ next.Restart token → found ≢ Unready DeadState → ((port_error ≡ LinkChanged) × (found ≡ Unready shown.Absent)) ⊎ ResetsLink port driven.accesses
   pub unreset : ((token : Stopped) → then ≢ next.Restart token) → All (DoesNotWrite (Px port Sctl)) driven.accesses
   pub silent : (q : Port) (o : Operation) → q.0 ≢ port.0 → client_operation_of o ≡ None → ((token : Stopped) → then ≡ next.Restart token → (g : IsGivenUp port old) × (g.uses q.0 0 ≡ Own o → ⊥)) → GainsNoMove q.0 o old new
@@ -129,7 +129,7 @@ module _ (laws : PrerequisiteLaws) (port : Port) (low : port.0 < 4) (wanted : Wa
         (followed_silent laws boots g.uses g.parked (after g.machine x.0) g.free (laws.steps_and_accesses.reachable_stays_reachable g.machine x.0 g.reached x.1) x.2 q o own
         (λ access is. laws.one_port_spares_registers port q Ci other access (laws.boot_access_is_of_port port access is)) (λ access is. laws.one_port_spares_registers port q Sact other access (laws.boot_access_is_of_port port access is)) none)
 
-    boot_list : (found : ProbeResult) (by : IsDrivenBy (IsBootAccess port) asked new) → (found ≡ Unready DeadState → EngineSticks port by.accesses) → (found ≡ Unready DeadState → (new.port port.0).notes.engine_count ≡ MOST_READINGS)
+    boot_list : (found : ProbeResult) (by : IsDrivenBy (IsBootAccess port) asked new) → (found ≡ Unready DeadState → EngineSticks port by.accesses) → (found ≡ Unready DeadState → (new.port port.0).notes.engine_wait_count ≡ MOST_READINGS)
         → (found ≢ Unready DeadState → ResetsLink port by.accesses) → AfterList port port_error (next.Restart token) found old new
     boot_list found by sticks stuck resets = record {
       driven = record {
@@ -181,15 +181,15 @@ module _ (laws : PrerequisiteLaws) (port : Port) (low : port.0 < 4) (wanted : Wa
           (λ (told : IsSimulatedAlongChangingUses (EngineSticks port) (IsBootAccess port) (λ uses. AllFree uses port.0) (λ uses. set_slot_state uses port.0 0 (Own Identify)) b.device_after_survey new).
           boot_list token old b.device_after_survey new b.surveys (λ uses. set_slot_state uses port.0 0 (Own Identify)) told.is_simulated (Unready DeadState) told.is_simulated.is_driven (λ _. told.accesses_are_such) (λ _. x.state_is_backed.1) (λ lives. absurd (lives refl)))
           x.boots
-      unready shown.Absent x = lives_list token old b.device_after_survey new b.surveys (λ uses. uses) x.boots.is_simulated (Unready shown.Absent) (lives shown.Absent (λ e. let z : shown.Absent ≡ DeadState = e in cc)) (early_resets laws port shown.Absent b.device_after_survey new (x.ends_before_start tt))
-      unready shown.Foreign x = lives_list token old b.device_after_survey new b.surveys (λ uses. uses) x.boots.is_simulated (Unready shown.Foreign) (lives shown.Foreign (λ e. let z : shown.Foreign ≡ DeadState = e in cc)) (late_resets laws port b.device_after_survey new (x.ends_after_start tt))
+      unready shown.Absent x = lives_list token old b.device_after_survey new b.surveys (λ uses. uses) x.boots.is_simulated (Unready shown.Absent) (lives shown.Absent (λ e. let z : shown.Absent ≡ DeadState = e in cc)) (early_resets laws port shown.Absent b.device_after_survey new (x.unstarted_state_ends_before_start tt))
+      unready shown.Foreign x = lives_list token old b.device_after_survey new b.surveys (λ uses. uses) x.boots.is_simulated (Unready shown.Foreign) (lives shown.Foreign (λ e. let z : shown.Foreign ≡ DeadState = e in cc)) (late_resets laws port b.device_after_survey new (x.stopped_state_ends_after_start tt))
       unready (shown.Unfit n) x =
           lives_list token old b.device_after_survey new b.surveys (λ uses. uses) x.boots.is_simulated (Unready (shown.Unfit n)) (lives (shown.Unfit n) (λ e. let z : shown.Unfit n ≡ DeadState = e in cc))
           (⊎_elim
-          (λ (seven : n ≡ 7). early_resets laws port (shown.Unfit n) b.device_after_survey new (x.ends_before_start (inl seven)))
+          (λ (seven : n ≡ 7). early_resets laws port (shown.Unfit n) b.device_after_survey new (x.unstarted_state_ends_before_start (inl seven)))
           (λ (not_seven : n ≢ 7). ⊎_elim
-          (λ (eight : n ≡ 8). early_resets laws port (shown.Unfit n) b.device_after_survey new (x.ends_before_start (inr eight)))
-          (λ (not_eight : n ≢ 8). late_resets laws port b.device_after_survey new (x.ends_after_start (not_seven, not_eight)))
+          (λ (eight : n ≡ 8). early_resets laws port (shown.Unfit n) b.device_after_survey new (x.unstarted_state_ends_before_start (inr eight)))
+          (λ (not_eight : n ≢ 8). late_resets laws port b.device_after_survey new (x.stopped_state_ends_after_start (not_seven, not_eight)))
           (cases_eq n 8))
           (cases_eq n 7))
       unready shown.Ready x = absurd x.state_is_backed

@@ -16,7 +16,7 @@ use Rattle.adapter.specs.Rules.{HasPort, IsOn}
 use Rattle.adapter.specs.declared.command.Operation.TheVariants.{Identify}
 use Rattle.refinement.specs.Acts.{DriverSlots}
 use Rattle.refinement.specs.Relation.{port_at}
-use Rattle.refinement.specs.Fragments.{AnyAccess, IsDrivenBy, SparesOtherPorts, LeavesPort, GainsNoMove}
+use Rattle.refinement.specs.Fragments.{AnyAccess, IsDrivenBy, SparesOtherPorts, OnlyDeviceChangesPort, GainsNoMove}
 use Rattle.refinement.specs.Halting.{HaltIsOfTaken, HaltOfTakenIfSt}
 use Rattle.refinement.specs.PreservedParts.{ShowsDiskIfIn, SameAdapter}
 use Rattle.block_machine.specs.DueRequests.{is_plain}
@@ -46,7 +46,7 @@ use Rattle.request_queue.specs.BookEntries.{BookEntry, IsWellFormedEntry, BookIs
 use Rattle.slots.specs.SlotUses.{PortSlots, use_at}
 use Rattle.slots.specs.declared.SlotUse.{SlotUse}
 use Rattle.server_history.specs.Prerequisites.{PrerequisiteLaws}
-use Rattle.server_history.specs.ErrorHandling.{IsFoundAfterError, HasNoUsedSlot}
+use Rattle.server_history.specs.ErrorHandling.{IsFoundAfterError, HasAllSlotsFreeAndCountOfMode}
 use Rattle.server_history.specs.ServerState.{SlotsInvariant, ServerState, InCallInvariant, MachineRelation, PortInvariant, is_served, quarantined_at, mode_at, probed_mode, mode_in, no_slots, plain_mode, slots_at, state_of, usable_slots_of, used_for, RevokedMarkInvariant}
 use Rattle.port_control.specs.declared.events.PortError.{PortError}
 use Rattle.server_history.proofs.state.PortGrounds.{left_on}
@@ -67,7 +67,7 @@ pub record StandsAt (wanted : Wanted) (found : ProbeResult) (port : ℕ) (d : De
   pub halts : state_of found ≡ ReadyState → HaltIsOfTaken (d.port port)
 
 its_port : (wanted : List Wanted) (found : List ProbeResult) (port : ℕ) (d : Device) → StandsAt (wanted_of wanted port) (probe_result_of found port) port d → PortInvariant wanted found port d
-its_port wanted found port d s = record { probe_result_is_backed = s.behind; ready_engine_runs = s.runs; bad_disk_is_shown_if_in = s.shown; ready_has_disk_if_shown = s.own; queued_halt_has_taken_command = s.halts }
+its_port wanted found port d s = record { probe_result_is_backed = s.behind; ready_engine_runs = s.runs; bad_disk_is_shown_if_in = s.shown; ready_has_disk_if_shown = s.own; ready_is_not_log_only_and_halt_is_of_taken = s.halts }
 
 -- another port is left to the device
 other_stands : PrerequisiteLaws → (port : Port) (wanted : Wanted) (found : ProbeResult) (q : ℕ) (old new : Device) → q ≢ port.0 → IsOn old → IsDrivenBy (SparesOtherPorts port) old new → SameAdapter old new
@@ -81,7 +81,7 @@ other_stands laws port wanted found q old new other on driven same silent halts 
         st_is_set = st;
         cr_is_set = left.controls.engine_stays_running r.st_is_set r.cr_is_set;
         fre_is_set = left.controls.fre_is_kept ∙ r.fre_is_set;
-        bases_are_programmed = left.port_is_kept_by_device.bases_are_kept ∙ r.bases_are_programmed;
+        bases_are_programmed = left.bits_only_fall.bases_are_kept ∙ r.bases_are_programmed;
         device_was_seen = ap (λ n. n.link_wait_count) left.notes ∙ r.device_was_seen;
         faults_are_recorded = laws.recovery.other_port_keeps_record port q old new other driven (λ _. r.faults_are_recorded) st;
       };
@@ -90,7 +90,7 @@ other_stands laws port wanted found q old new other on driven same silent halts 
   halts = λ ready. halts (λ _. s.halts ready) (left.controls.st_is_kept ∙ (s.runs ready).st_is_set);
 }
   where
-    left : LeavesPort (old.port q) (new.port q)
+    left : OnlyDeviceChangesPort (old.port q) (new.port q)
     left = laws.port_event_laws.other_ports_are_left port q old new other on driven
 
 pub same_over : PrerequisiteLaws → (port : Port) (old new : Device) → IsDrivenBy (SparesOtherPorts port) old new → SameAdapter old new
@@ -206,7 +206,7 @@ pub record IsBookLeft (port : Port) (found : ProbeResult) (table : OwnersAndLoan
 
 module _ (laws : PrerequisiteLaws) (port : Port) (s : ServerState) (k : InCallInvariant s) (low : port.0 < 4) (device : Device) (slots : DriverSlots) (whole : Passes s port slots device) (table : OwnersAndLoans)
     (found : ProbeResult) (remembered : List (Option DiskInfo)) (mode : QueueMode) (its : PortSlots) (kept : List (List Lending)) (book : List BookEntry)
-    (served : is_served (probe_result_of s.probe_results port.0) ≡ true) (stands : StandsAt (wanted_of s.wanted port.0) found port.0 device) (mode_is : mode ≡ probed_mode device.cap found) (unused : HasNoUsedSlot mode its)
+    (served : is_served (probe_result_of s.probe_results port.0) ≡ true) (stands : StandsAt (wanted_of s.wanted port.0) found port.0 device) (mode_is : mode ≡ probed_mode device.cap found) (unused : HasAllSlotsFreeAndCountOfMode mode its)
     (left : IsBookLeft port found table book s) where
   abbrev then_is : ServerState
   then_is = with_found port device table found remembered mode its kept book s
@@ -248,7 +248,7 @@ module _ (laws : PrerequisiteLaws) (port : Port) (s : ServerState) (k : InCallIn
       let was = k.port_invariant q small in
       subst (λ (f : ProbeResult). StandsAt (wanted_of s.wanted q) f q device) (sym (found_other q other))
       (other_stands laws port (wanted_of s.wanted q) (probe_result_of s.probe_results q) q s.device device other k.adapter_is_on whole.driven alike (λ alive. whole.silent q Identify refl other alive) (whole.halts q other)
-      (record { behind = was.probe_result_is_backed; runs = was.ready_engine_runs; shown = was.bad_disk_is_shown_if_in; own = was.ready_has_disk_if_shown; halts = was.queued_halt_has_taken_command })))
+      (record { behind = was.probe_result_is_backed; runs = was.ready_engine_runs; shown = was.bad_disk_is_shown_if_in; own = was.ready_has_disk_if_shown; halts = was.ready_is_not_log_only_and_halt_is_of_taken })))
       (cases_eq q port.0))
 
   there_is : (q : ℕ) → is_served (probe_result_of then_is.probe_results q) ≡ true → HasPort device q
@@ -330,9 +330,9 @@ module _ (laws : PrerequisiteLaws) (port : Port) (s : ServerState) (k : InCallIn
     slots_invariant = slots_are;
     slots_queue_as_asked = kinds_are;
     slots_store_commands = λ q slot used is. let u = used_then q slot used is in whole.commands q slot used u.0 u.1;
-    plain_stands_alone = λ q slot used is plain.
+    plain_is_alone_in_slot_0 = λ q slot used is plain.
         let u = used_then q slot used is in
-        let was = k.plain_stands_alone q slot used u.1 plain in
+        let was = k.plain_is_alone_in_slot_0 q slot used u.1 plain in
         (was.0, λ other ne. ap (λ (x : PortSlots). use_at x other) (slots_other q u.0) ∙ was.1 other ne);
     rows_are_valid = k.rows_are_valid;
     owned_frames_are_clients = λ frame client own.

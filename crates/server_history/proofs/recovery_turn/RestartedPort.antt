@@ -5,7 +5,7 @@ use Rattle.ata_types.specs.declared.PortState.TheVariants.{Ready as ReadyState}
 use Rattle.ata_types.specs.declared.request.Reply.{Reply}
 use Rattle.adapter.specs.declared.access.DeviceStep.{DeviceStep}
 use Rattle.refinement.specs.Fragments.{AnySlotStates, IsSimulated}
-use Rattle.block_machine.specs.Events.{AreStepsOfCall, UnpluggedLostDisk, Tick}
+use Rattle.block_machine.specs.Events.{AreStepsOfCall, UnpluggedPortIsNotDeadNorReadyWithSameDisk, Tick}
 use Rattle.block_machine.specs.Histories.{IsReachable}
 use Rattle.block_machine.specs.Ports.{SameSerialAndSize}
 use Rattle.block_machine.specs.State.{Machine}
@@ -42,7 +42,7 @@ module _ (laws : PrerequisiteLaws) (port : Port) (replies : List Reply) (old new
   belongs = belong_tick (ports_of new) d.steps (d.gives unfailed) d.belong
 
   -- who is told Unplugged had another disk
-  another : UnpluggedLostDisk d.steps (ports_of old) (ports_of new)
+  another : UnpluggedPortIsNotDeadNorReadyWithSameDisk d.steps (ports_of old) (ports_of new)
   another e here =
       let why = d.unplugged e here in
       let told : IsRevalidation a.error_handled.port_error a.disk_before a.found DiskLost = subst (IsRevalidation a.error_handled.port_error a.disk_before a.found) why.0 a.is_revalidation in

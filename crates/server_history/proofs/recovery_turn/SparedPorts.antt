@@ -19,7 +19,7 @@ use Rattle.request_queue.specs.declared.disposition.Disposition.TheVariants.{Com
 use Rattle.server_history.specs.Prerequisites.{PrerequisiteLaws}
 use Rattle.server_history.specs.ErrorHandling.{IsErrorHandled, HasResolved, HandlesPortError, book_and_loans_of, requests_of}
 use Rattle.server_history.specs.ServerState.{ServerState, InCallInvariant, mode_in, no_slots, plain_mode, slots_at}
-use Rattle.server_history.specs.Turns.{LeavesOthers}
+use Rattle.server_history.specs.Turns.{LeavesOtherPortsGrantsAndLastId}
 use Rattle.server_history.proofs.plain_calls.IssueRounds.{each_apart, each_settings, each_slots}
 use Rattle.server_history.proofs.healthy_turn.AnswersAndIssues.{answers_apart, answers_order, answers_settings, answers_slots}
 
@@ -164,7 +164,7 @@ module _ (laws : PrerequisiteLaws) (port : Port) (replies : List Reply) (old new
   other_of {X} list d put is later early q ne =
       ap (λ (xs : List X). get_or xs q d) (later ∙ is) ∙ get_or-set_other (list a.server_after_handling) port.0 q put d ne ∙ ap (λ (xs : List X). get_or xs q d) early
 
-  pub leaves_others : LeavesOthers port old new
+  pub leaves_others : LeavesOtherPortsGrantsAndLastId port old new
   leaves_others = record {
     grants = ap (λ (n : ServerState). n.grants) issued_as ∙ ap (λ (n : ServerState). n.grants) a.server_is ∙ ap (λ (n : ServerState). n.grants) answered_as;
     wanted = ap (λ (n : ServerState). n.wanted) issued_as ∙ ap (λ (n : ServerState). n.wanted) a.server_is ∙ ap (λ (n : ServerState). n.wanted) answered_as;

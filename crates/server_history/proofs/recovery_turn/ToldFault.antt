@@ -140,14 +140,14 @@ module _ (laws : PrerequisiteLaws) (port : Port) (replies : List Reply) (old new
     healed = subst (λ (t : PortError). ErrorHandlingIsBacked t port x.outstanding x.queued x.result x.recovers_or_stops.accesses a.server_after_handling.device a.device_after_handling) failing x.tells_error_handling
 
     is_zero : slot ≡ 0
-    is_zero = (k.plain_stands_alone port.0 slot used its plain).0
+    is_zero = (k.plain_is_alone_in_slot_0 port.0 slot used its plain).0
 
     fault : ShowsFault (drop (x.device_after_read.port port.0).notes.st_set_at x.device_after_read.tape) (x.device_after_read.port port.0) port.0
     fault = let may : PortMayRecover port.0 x.device_after_read = may_recover laws old x.device_after_look x.device_after_read port x.mask x.done k ready (subst (λ (t : PortError). ErrorIsFound port t old.device x.device_after_look) failing x.error_is_found) looks x.reads_done in may.faults_are_on_record.shows_last_fault may.halted
 
     unused_free : (other : ℕ) → other ≢ 0 → IsEmptySlot (x.device_after_read.port port.0) other
     unused_free other ne = subst (λ (u : SlotState). RelatesSlot from_kept.machine x.device_after_read.memory x.device_after_read.tape (x.device_after_read.port port.0) port.0 other u)
-        (free_unused from from_kept.machine port.0 from_kept.machine_relation ready other ((k.plain_stands_alone port.0 slot used its plain).1 other ne)) (from_kept.machine_relation.driver_relation.state_relation.relates_slots port.0 other)
+        (free_unused from from_kept.machine port.0 from_kept.machine_relation ready other ((k.plain_is_alone_in_slot_0 port.0 slot used its plain).1 other ne)) (from_kept.machine_relation.driver_relation.state_relation.relates_slots port.0 other)
 
     over_idle : (other : ℕ) → (x.device_after_read.port port.0).ci other ≡ false → (x.device_after_read.port port.0).taken other ≡ None → InUse (x.device_after_read.port port.0) other → ⊥
     over_idle other clear free (inl issued) = false≢true (sym clear ∙ issued)
@@ -155,8 +155,8 @@ module _ (laws : PrerequisiteLaws) (port : Port) (replies : List Reply) (old new
 
     zero_used : InUse (x.device_after_read.port port.0) 0
     zero_used = ⊎_elim
-        (λ (same : fault.fault.slot.0 ≡ 0). subst (InUse (x.device_after_read.port port.0)) same fault.slot_is_in_use)
-        (λ (ne : fault.fault.slot.0 ≢ 0). let f = unused_free fault.fault.slot.0 ne in absurd (over_idle fault.fault.slot.0 f.is_not_issued f.is_not_taken fault.slot_is_in_use))
+        (λ (same : fault.fault.slot.0 ≡ 0). subst (InUse (x.device_after_read.port port.0)) same fault.slot_is_issued_or_taken)
+        (λ (ne : fault.fault.slot.0 ≢ 0). let f = unused_free fault.fault.slot.0 ne in absurd (over_idle fault.fault.slot.0 f.is_not_issued f.is_not_taken fault.slot_is_issued_or_taken))
         (cases_eq fault.fault.slot.0 0)
 
     not_done : bit x.done slot ≡ false
@@ -211,7 +211,7 @@ module _ (laws : PrerequisiteLaws) (port : Port) (replies : List Reply) (old new
       faulty = by x.result.next refl
         where
           by_failed : x.result.next ≢ next.Dead → (f : Option FailedSlot) → x.result.failed ≡ f → IsAnsweredFaulty e d.steps
-          by_failed lives None none = absurd (healed.plain_is_named mid_queued outstanding lives none)
+          by_failed lives None none = absurd (healed.plain_is_named_unless_dead mid_queued outstanding lives none)
           by_failed lives (Some its_failure) named = told its_failure named
 
           by : (after_it : Next) → x.result.next ≡ after_it → IsAnsweredFaulty e d.steps ⊎ ((ports_of new).state port ≡ DeadState)

@@ -7,7 +7,7 @@ use Rattle.ata_types.specs.declared.PortState.TheVariants.{Ready as ReadyState}
 use Rattle.ata_types.specs.declared.request.Reply.{Reply}
 use Rattle.refinement.specs.Fragments.{AnySlotStates, IsSimulated}
 use Rattle.refinement.specs.Errors.{IsFatalErrorOf}
-use Rattle.refinement.specs.HaltRecovery.{WorksPlainly}
+use Rattle.refinement.specs.HaltRecovery.{WorksOnUnqueuedCommandsOnly}
 use Rattle.block_machine.specs.Events.{Service}
 use Rattle.block_machine.specs.Histories.{IsReachable}
 use Rattle.block_machine.specs.State.{Machine}
@@ -25,7 +25,7 @@ use Rattle.server_history.proofs.recovery_turn.TurnEvidence.{IsEvident}
 use Rattle.server_history.proofs.recovery_turn.ToldFault.{faulting}
 use Rattle.server_history.proofs.recovery_turn.DoneRequests.{finding}
 use Rattle.server_history.proofs.recovery_turn.MendedMachine.{mid_kept, mid_ready}
-use Rattle.server_history.proofs.state.PlainHalts.{works_plainly}
+use Rattle.server_history.proofs.state.PlainHalts.{plain_port_stays_plain}
 use Rattle.server_history.proofs.any_turn.HeededTrouble.{gains_none}
 use Rattle.server_history.proofs.recovery_turn.HeededFaults.{serves_ready}
 use Rattle.server_history.proofs.recovery_turn.LastingTrouble.{lasting}
@@ -57,8 +57,8 @@ module _ (laws : PrerequisiteLaws) (port : Port) (replies : List Reply) (old new
   then_ready = mid_ready laws port r.later_replies old r.server_after_resolving k ready r.has_resolved looks
 
   -- with plain commands outstanding, it has worked on plain ones alone
-  plainly : r.has_resolved.error_handled.queued ≡ false → WorksPlainly (r.has_resolved.server_after_handling.device.port port.0)
-  plainly plain = works_plainly laws r.has_resolved.server_after_handling then_kept port then_ready (subst (λ (queued : Bool). AreAllQueuedAs queued (slots_at r.has_resolved.server_after_handling.slots port.0)) plain r.has_resolved.error_handled.are_queued_alike) ((then_kept.port_invariant port.0 (ready_found old port.0 k ready).0).queued_halt_has_taken_command then_ready)
+  plainly : r.has_resolved.error_handled.queued ≡ false → WorksOnUnqueuedCommandsOnly (r.has_resolved.server_after_handling.device.port port.0)
+  plainly plain = plain_port_stays_plain laws r.has_resolved.server_after_handling then_kept port then_ready (subst (λ (queued : Bool). AreAllQueuedAs queued (slots_at r.has_resolved.server_after_handling.slots port.0)) plain r.has_resolved.error_handled.are_queued_alike) ((then_kept.port_invariant port.0 (ready_found old port.0 k ready).0).ready_is_not_log_only_and_halt_is_of_taken then_ready)
 
   -- where TFES alone was shown, and no fatal error came, a command had failed
   failing : r.has_resolved.error_handled.port_error ≢ TimedOut → HasOnlyTaskFileError port (joint_state_of old m) new.device → r.has_resolved.error_handled.port_error ≡ TaskFileError
@@ -68,12 +68,12 @@ module _ (laws : PrerequisiteLaws) (port : Port) (replies : List Reply) (old new
       by TaskFileError is = is
       by FatalError is =
           let here : Contains (fatal_of port r.has_resolved.error_handled.port_error (old.device.port port.0)) port = subst (λ (t : PortError). Contains (fatal_of port t (old.device.port port.0)) port) (sym is) (first_here port []) in
-          absurd (⊎_elim alone.shows_only_tfes.no_fatal_is_shown (gains_none (IsFatalErrorOf port.0) old.device new.device alone.none_is_fatal.new_entries alone.none_is_fatal.tape_is alone.none_is_fatal.no_such_entry) ((evident.evidenced Service m).showing_fatal_error_only here).1)
+          absurd (⊎_elim alone.shows_only_tfes.no_fatal_is_shown (gains_none (IsFatalErrorOf port.0) old.device new.device alone.none_is_fatal.new_entries alone.none_is_fatal.tape_is alone.none_is_fatal.no_such_entry) ((evident.evidenced Service m).named_showing_fatal_had_fatal here).1)
       by LinkChanged is =
           let here : Contains (gone_of port r.has_resolved.error_handled.port_error (old.device.port port.0)) port = subst (λ (t : PortError). Contains (gone_of port t (old.device.port port.0)) port) (sym is) (first_here port []) in
           absurd (⊎_elim alone.shows_only_tfes.no_change_is_shown
           (λ more. ⊎_elim (λ (out : (old.device.port port.0).ssts_det ≢ 3). out alone.shows_only_tfes.device_is_shown) (gains_none (IsPlugEvent port.0) old.device new.device alone.no_plug_events.new_entries alone.no_plug_events.tape_is alone.no_plug_events.no_such_entry) more)
-          ((evident.evidenced Service m).link_changed_only here).1)
+          ((evident.evidenced Service m).named_link_changed_had_change_or_no_device here).1)
       by TimedOut is = absurd (unhung is)
 
   -- what a call does of trouble
@@ -86,12 +86,12 @@ module _ (laws : PrerequisiteLaws) (port : Port) (replies : List Reply) (old new
   pub ties_recovered : r.has_resolved.error_handled.port_error ≢ TimedOut → TurnCorresponds ServingReady port replies evident.accesses old new m (evidence_by r.has_resolved) d.steps
   ties_recovered unhung = record {
     finds_done = λ _ e issued. finding laws port replies old new k ready r looks kept evident m reached is d;
-    plain_faults_are_told = λ alone e slot issued unended says plain. faulting laws port replies old new k ready r looks kept m reached is d (failing unhung alone) e slot issued unended says plain;
+    lone_plain_faults_are_told_unless_dead = λ alone e slot issued unended says plain. faulting laws port replies old new k ready r looks kept m reached is d (failing unhung alone) e slot issued unended says plain;
     probes_disk = λ _ _. record {
-      absent_with_device_is_booted = λ absent. absurd (not_absent absent);
-      absent_gets_first_fis = λ absent. absurd (not_absent absent);
-      missing_disk_makes_absent = λ bad. absurd (not_bad bad);
-      changed_disk_is_booted = λ bad. absurd (not_bad bad);
+      absent_with_device_is_booted_dead_or_has_plug_event = λ absent. absurd (not_absent absent);
+      absent_gets_first_fis_or_dead_or_no_device = λ absent. absurd (not_absent absent);
+      missing_disk_makes_absent_or_dead = λ bad. absurd (not_bad bad);
+      changed_disk_is_booted_or_absent_or_dead = λ bad. absurd (not_bad bad);
     };
     boots_anew = reboots laws port replies old new k ready r looks kept evident m;
     loses_no_error = heeds_trouble.loses_no_error;

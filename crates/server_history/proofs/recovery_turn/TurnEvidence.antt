@@ -45,7 +45,7 @@ use Rattle.server_history.proofs.any_turn.ShownTrouble.{grows_over}
 use Rattle.server_history.specs.ErrorHandling.{IsFailedRequest, IsFoundAfterError, ErrorIsFound, IsRevalidation, IsErrorHandled, HasResolved, HandlesPortError}
 use Rattle.server_history.specs.IssuingAndAnswering.{AnswersEach}
 use Rattle.server_history.specs.ServerState.{ServerState, InCallInvariant, MachineRelation, ports_of, slots_at, state_of, used_for, mode_in}
-use Rattle.server_history.specs.Turns.{IsFaultOfCommand, LeavesOthers, PortListsNameOnly, IsFaultOfUsedSlot, joint_state_of, abstract_state_of}
+use Rattle.server_history.specs.Turns.{IsFaultOfCommand, LeavesOtherPortsGrantsAndLastId, PortListsNameOnly, IsFaultOfUsedSlot, joint_state_of, abstract_state_of}
 use Rattle.server_history.proofs.healthy_turn.OneAnswer.{answer_kept}
 use Rattle.server_history.proofs.recovery_turn.SparedPorts.{leaves_others}
 use Rattle.server_history.proofs.recovery_turn.MendedPort.{becomes, dead_found, dead_prospect, disk_same, interrupted, its, lost_is, names, ready_info, state_new, stuck_is, next_dead}
@@ -84,7 +84,7 @@ module _ (laws : PrerequisiteLaws) (port : Port) (early part late : List Access)
   engine_sticks (next.Restart token) engine later = laws.sticking_holds_with_earlier early (part ++ late) port (laws.sticking_holds_with_earlier part late port (later (λ e. let z : next.Restart token ≡ next.Dead = e in cc)))
   engine_sticks next.Dead engine later = laws.sticking_holds_with_earlier early (part ++ late) port (laws.sticking_holds_with_later part late port engine)
 
-  ends_stuck : (queued : Bool) (then : Next) (old new : Device) → EndsAsNext queued port then old new → then ≡ next.Dead → (new.port port.0).notes.engine_count ≡ MOST_READINGS
+  ends_stuck : (queued : Bool) (then : Next) (old new : Device) → EndsAsNext queued port then old new → then ≡ next.Dead → (new.port port.0).notes.engine_wait_count ≡ MOST_READINGS
   ends_stuck queued (next.Running token) old new ends is = let z : next.Running token ≡ next.Dead = is in absurd cc
   ends_stuck queued (next.Restart token) old new ends is = let z : next.Restart token ≡ next.Dead = is in absurd cc
   ends_stuck queued next.Dead old new ends is = ends.1
@@ -112,7 +112,7 @@ pub record IsEvident (port : Port) (replies : List Reply) (old new : ServerState
   pub does : DoesAll accesses old.device new.device
   pub of : All (SparesOtherPorts port) accesses
   pub own : All StaysInDriverFrames accesses
-  pub others : LeavesOthers port old new
+  pub others : LeavesOtherPortsGrantsAndLastId port old new
   pub silent : (q : ℕ) → q ≢ port.0 → state_of (probe_result_of old.probe_results q) ≢ DeadState → GainsNoMove q ReadLog old.device new.device
   pub names : PortListsNameOnly port (evidence_by r.has_resolved)
   pub becomes : IsServiced (ports_of old) (evidence_by r.has_resolved) (ports_of new) port
@@ -154,20 +154,20 @@ module _ (laws : PrerequisiteLaws) (port : Port) (replies : List Reply) (old new
   undue = ((k.port_invariant port.0 low).ready_engine_runs ready).faults_are_recorded.no_link_is_due
 
   -- a dead port's engine was awaited in vain, at last
-  counted : a.found ≡ Unready DeadState → (new.device.port port.0).notes.engine_count ≡ MOST_READINGS
+  counted : a.found ≡ Unready DeadState → (new.device.port port.0).notes.engine_wait_count ≡ MOST_READINGS
   counted dead = by x.result.next refl
     where
-      by : (then : Next) → x.result.next ≡ then → (new.device.port port.0).notes.engine_count ≡ MOST_READINGS
+      by : (then : Next) → x.result.next ≡ then → (new.device.port port.0).notes.engine_wait_count ≡ MOST_READINGS
       by (next.Running token) is = t.stuck dead (λ e. let z : next.Running token ≡ next.Dead = sym is ∙ e in cc)
       by (next.Restart token) is = t.stuck dead (λ e. let z : next.Restart token ≡ next.Dead = sym is ∙ e in cc)
       by next.Dead is =
           let still : IsFoundAfterError (wanted_of old.wanted port.0) port x.port_error a.disk_before next.Dead a.device_after_handling r.server_after_resolving.device a.found = subst (λ (n : Next). IsFoundAfterError (wanted_of old.wanted port.0) port x.port_error a.disk_before n a.device_after_handling r.server_after_resolving.device a.found) is a.is_found_after_error in
-          ap (λ (s : ServerState). (s.device.port port.0).notes.engine_count) (t.with_issue_undone dead) ∙ ap (λ (d : Device). (d.port port.0).notes.engine_count) still.1
+          ap (λ (s : ServerState). (s.device.port port.0).notes.engine_wait_count) (t.with_issue_undone dead) ∙ ap (λ (d : Device). (d.port port.0).notes.engine_wait_count) still.1
           ∙ ends_stuck laws port [] [] [] x.queued x.result.next a.server_after_handling.device a.device_after_handling x.recovers_or_stops.leaves.ends_as_next is
 
   evidenced : (ask : AbstractCall DeviceStep) (m : Machine) → IsEvidencedOf ask (Replied replies) (accesses_in t) (joint_state_of old m) (ports_of new) new.device (its laws port replies old new k ready r looks kept) port
   evidenced ask m = record {
-    lost_only = λ here.
+    named_lost_may_have_lost_disk = λ here.
         let other = lost_is port a.revalidation here in
         let e : IsRevalidation x.port_error a.disk_before a.found DiskLost = subst (IsRevalidation x.port_error a.disk_before a.found) other a.is_revalidation in
         ⊎_elim
@@ -177,14 +177,14 @@ module _ (laws : PrerequisiteLaws) (port : Port) (replies : List Reply) (old new
           (λ is same. let i = ready_info laws port replies old new k ready r looks kept is in another i.0 i.1 (disk_same laws port replies old new k ready r looks kept i.0 i.1 same)),
         ))))
         e.1;
-    link_changed_all = λ _ shows. gone_all laws port old.device x.device_after_look new.device k.adapter_is_on undue grown_seen x.port_error x.error_is_found shows;
-    link_changed_only = λ here. (ready, gone_only laws port old.device x.device_after_look new.device k.adapter_is_on undue grown_seen x.port_error x.error_is_found here);
-    showing_error_all = λ _ shows. failed_all laws port old.device x.device_after_look new.device k.adapter_is_on undue grown_seen x.port_error shows;
-    showing_error_only = λ here. (ready, failed_only laws port old.device x.device_after_look new.device k.adapter_is_on undue grown_seen x.port_error x.error_is_found here);
-    showing_fatal_error_all = λ _ fatal. fatal_all laws port old.device x.device_after_look new.device k.adapter_is_on undue grown_seen x.port_error x.error_is_found fatal;
-    showing_fatal_error_only = λ here. (ready, fatal_only laws port old.device x.device_after_look new.device k.adapter_is_on undue grown_seen x.port_error x.error_is_found here);
+    shown_loss_of_ready_is_named = λ _ shows. gone_all laws port old.device x.device_after_look new.device k.adapter_is_on undue grown_seen x.port_error x.error_is_found shows;
+    named_link_changed_had_change_or_no_device = λ here. (ready, gone_only laws port old.device x.device_after_look new.device k.adapter_is_on undue grown_seen x.port_error x.error_is_found here);
+    shown_failure_of_ready_is_named = λ _ shows. failed_all laws port old.device x.device_after_look new.device k.adapter_is_on undue grown_seen x.port_error shows;
+    named_showing_error_had_error = λ here. (ready, failed_only laws port old.device x.device_after_look new.device k.adapter_is_on undue grown_seen x.port_error x.error_is_found here);
+    shown_fatal_of_ready_is_named = λ _ fatal. fatal_all laws port old.device x.device_after_look new.device k.adapter_is_on undue grown_seen x.port_error x.error_is_found fatal;
+    named_showing_fatal_had_fatal = λ here. (ready, fatal_only laws port old.device x.device_after_look new.device k.adapter_is_on undue grown_seen x.port_error x.error_is_found here);
     engine_is_left_or_stopped = inr (interrupted laws port replies old new k ready r looks kept);
-    stopped_only = λ here. inl (engine_stops laws port t.early.accesses part t.late.accesses x.result.next x.recovers_or_stops.does.tells_engine_outcome here);
+    named_stopped_was_stopped_or_reset = λ here. inl (engine_stops laws port t.early.accesses part t.late.accesses x.result.next x.recovers_or_stops.does.tells_engine_outcome here);
     stuck_only = λ here.
         let dead = dead_prospect laws port replies old new k ready r looks kept (stuck_is port a.revalidation here) in
         inl (engine_sticks laws port t.early.accesses part t.late.accesses x.result.next x.recovers_or_stops.does.tells_engine_outcome (t.sticks dead), counted dead);
@@ -202,7 +202,7 @@ module _ (laws : PrerequisiteLaws) (port : Port) (replies : List Reply) (old new
 
         by : (then : Next) → x.result.next ≡ then → (a.found ≡ Ready a.disk_before) × (r.server_after_resolving.device ≡ a.device_after_handling)
         by (next.Running token) is = then_is (next.Running token) is
-        by (next.Restart token) is = let z : Some its_failure ≡ None = sym named ∙ x.recovers_or_stops.tells.restart_names_none token queued is in absurd cc
+        by (next.Restart token) is = let z : Some its_failure ≡ None = sym named ∙ x.recovers_or_stops.tells.queued_restart_names_none token queued is in absurd cc
         by next.Dead is = let z : Some its_failure ≡ None = sym named ∙ x.recovers_or_stops.tells.dead_names_none is in absurd cc
 
     lives_then : x.queued ≡ true → (ports_of new).state port ≢ DeadState
@@ -238,7 +238,7 @@ module _ (laws : PrerequisiteLaws) (port : Port) (replies : List Reply) (old new
           id_is = refl;
           is_fault_of_command = subst (λ (queued : Bool). IsFaultOfCommand queued port (accesses_in t) old.device new.device its_failure.slot.0 (record { id = used.id; status = its_failure.status; error = its_failure.error })) (sym alike)
               (told_so x.queued refl (subst (BacksFailure x.queued port x.outstanding part a.server_after_handling.device a.device_after_handling) named x.recovers_or_stops.tells.failure_is_backed) used.id);
-          port_is_not_dead = λ queued. lives_then (sym alike ∙ queued);
+          port_is_not_dead_if_queued = λ queued. lives_then (sym alike ∙ queued);
         }
 
   faults : (told : RequestFault) → Contains (faults_of a.failed) told → IsFaultOfUsedSlot port (accesses_in t) old new told

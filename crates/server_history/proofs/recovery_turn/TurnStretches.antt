@@ -17,7 +17,7 @@ use Rattle.adapter.specs.Access.Access.{Reading}
 use Rattle.adapter.specs.Device.{Device}
 use Rattle.adapter.specs.declared.command.Operation.TheVariants.{ReadLog}
 use Rattle.adapter.specs.Memory.{changed}
-use Rattle.refinement.specs.Acts.{AnySlots, ActsByDeviceAlone, DriverSlots, Performs, driver_state_of_slots, act_steps}
+use Rattle.refinement.specs.Acts.{AnySlots, ActsByDeviceAlone, DriverSlots, AccessesAreSimulatedByActs, driver_state_of_slots, act_steps}
 use Rattle.refinement.specs.Relation.{port_at}
 use Rattle.refinement.specs.Fragments.{AnySlotStates, IsDrivenBy, IsSimulated, GainsNoMove}
 use Rattle.refinement.specs.GivingUp.{slots_with_all_parked}
@@ -72,7 +72,7 @@ pub record TurnParts (port : Port) (replies : List Reply) (old new : ServerState
   pub kinds : All (IsPart port) r.has_resolved.error_handled.recovers_or_stops.accesses
   pub late : IsDrivenBy (IsPart port) r.has_resolved.device_after_handling new.device
   pub sticks : r.has_resolved.found ≡ Unready DeadState → r.has_resolved.error_handled.result.next ≢ next.Dead → EngineSticks port late.accesses
-  pub stuck : r.has_resolved.found ≡ Unready DeadState → r.has_resolved.error_handled.result.next ≢ next.Dead → (new.device.port port.0).notes.engine_count ≡ MOST_READINGS
+  pub stuck : r.has_resolved.found ≡ Unready DeadState → r.has_resolved.error_handled.result.next ≢ next.Dead → (new.device.port port.0).notes.engine_wait_count ≡ MOST_READINGS
   pub resets : (token : Stopped) → r.has_resolved.error_handled.result.next ≡ next.Restart token → r.has_resolved.found ≢ Unready DeadState
       → ((r.has_resolved.error_handled.port_error ≡ LinkChanged) × (r.has_resolved.found ≡ Unready AbsentState)) ⊎ ResetsLink port late.accesses
   pub unreset : ((token : Stopped) → r.has_resolved.error_handled.result.next ≢ next.Restart token) → All (DoesNotWrite (Px port Sctl)) (early.accesses ++ (r.has_resolved.error_handled.recovers_or_stops.accesses ++ late.accesses))
@@ -230,14 +230,14 @@ module _ (laws : PrerequisiteLaws) (port : Port) (replies : List Reply) (old new
   module _ (q : ℕ) (other : q ≢ port.0) (lives : state_of (probe_result_of old.probe_results q) ≢ DeadState) where
     -- its slot 0 has no command of the driver's own
     none_own : mid_kept.machine_relation.uses q 0 ≡ Own ReadLog → ⊥
-    none_own = not_own (probe_result_of a.server_after_handling.probe_results q) (used_for a.server_after_handling.slots q 0) (mid_kept.machine_relation.uses q 0) ReadLog (λ dead. lives (ap state_of (sym (mid_found q) ∙ dead))) (mid_kept.machine_relation.are_uses_of q 0)
+    none_own = not_own (probe_result_of a.server_after_handling.probe_results q) (used_for a.server_after_handling.slots q 0) (mid_kept.machine_relation.uses q 0) ReadLog (λ dead. lives (ap state_of (sym (mid_found q) ∙ dead))) (mid_kept.machine_relation.slot_uses_agree_unless_dead q 0)
 
     -- nor has it once the port's slots were given up
     given : (token : Stopped) → x.result.next ≡ next.Restart token → (g : IsGivenUp port a.device_after_handling) × (g.uses q 0 ≡ Own ReadLog → ⊥)
     given token is =
         let m = mid_kept.machine in
         let s : DriverSlots = record { slot_states = mid_kept.machine_relation.uses; awaiting_disposition = mid_kept.machine_relation.awaiting_disposition } in
-        let p : Performs x.recovers_or_stops.accesses AnySlots (slots_with_all_parked port.0) ActsByDeviceAlone a.server_after_handling.device a.device_after_handling = subst (λ (n : Next). SlotsAfterRecovery port.0 n x.recovers_or_stops.accesses a.server_after_handling.device a.device_after_handling) is x.recovers_or_stops.does.slots_after in
+        let p : AccessesAreSimulatedByActs x.recovers_or_stops.accesses AnySlots (slots_with_all_parked port.0) ActsByDeviceAlone a.server_after_handling.device a.device_after_handling = subst (λ (n : Next). SlotsAfterRecovery port.0 n x.recovers_or_stops.accesses a.server_after_handling.device a.device_after_handling) is x.recovers_or_stops.does.slots_after in
         let c = p.acts_reach s m mid_kept.reached mid_kept.machine_relation.driver_relation tt in
         let g = laws.slots.acts_advance_driver c.acts (driver_state_of_slots s a.server_after_handling.device) (driver_state_of_slots (slots_with_all_parked port.0 s) a.device_after_handling) m mid_kept.machine_relation.driver_relation c.acts_are_done in (
           record {
@@ -257,7 +257,7 @@ module _ (laws : PrerequisiteLaws) (port : Port) (replies : List Reply) (old new
         (finding_silent (record old { device = x.device_after_look }) x.device_after_read port seen_kept ready laws x.mask x.done x.reads_done q ReadLog refl (λ dead. lives (ap state_of dead))))
 
     recovery_silent : GainsNoMove q ReadLog a.server_after_handling.device a.device_after_handling
-    recovery_silent = x.recovers_or_stops.leaves.other_ports_move_no_page (port_at q) ReadLog other refl
+    recovery_silent = x.recovers_or_stops.leaves.other_ports_move_no_unasked_page (port_at q) ReadLog other refl
         (mid_kept.machine_relation.uses, none_own, record { machine = mid_kept.machine; parked = mid_kept.machine_relation.awaiting_disposition; reached = mid_kept.reached; driver_relation = mid_kept.machine_relation.driver_relation })
 
     later_found : probe_result_of r.server_after_resolving.probe_results q ≡ probe_result_of old.probe_results q
@@ -303,7 +303,7 @@ module _ (laws : PrerequisiteLaws) (port : Port) (replies : List Reply) (old new
     kinds = All-weaker (IsRecoveryAccess port) (IsPart port) (recovering_part laws port low) x.recovers_or_stops.accesses x.recovers_or_stops.does.accesses_are_recovery;
     late = late;
     sticks = late_sticks;
-    stuck = λ dead lives. ap (λ (n : ServerState). (n.device.port port.0).notes.engine_count) (dead_unissued dead) ∙ afterwards.stuck dead lives;
+    stuck = λ dead lives. ap (λ (n : ServerState). (n.device.port port.0).notes.engine_wait_count) (dead_unissued dead) ∙ afterwards.stuck dead lives;
     resets = late_resets;
     unreset = λ never. All-append (DoesNotWrite (Px port Sctl)) early.accesses (x.recovers_or_stops.accesses ++ late.accesses) early_spares
         (All-append (DoesNotWrite (Px port Sctl)) x.recovers_or_stops.accesses late.accesses

@@ -13,10 +13,10 @@ use Rattle.refinement.specs.Relation.{port_at}
 use Rattle.refinement.specs.Fragments.{ReadsPortOrWrites, IsDrivenBy}
 use Rattle.driver_history.specs.PortTurn.{HasTurnIn, IsOfOtherPort, call_accesses}
 use Rattle.driver_history.specs.AccessTrace.{ResetsLink}
-use Rattle.host_boot.specs.TakeOver.{StopsAndBootsPort, StopsAndBootsEachPort, probe_result_of}
+use Rattle.host_boot.specs.TakeOver.{BootsPortOrSticksIfServed, BootsEachServedPortOrSticks, probe_result_of}
 use Rattle.host_boot.specs.declared.ProbeResult.{ProbeResult}
 use Rattle.host_boot.specs.declared.ProbeResult.TheVariants.{Unserved, Ready, Unready}
-use Rattle.port_boot.specs.States.{EndsBeforeStart, EndsAfterStart, BringsReady, IsBeforeStart, IsAfterStart, IsBootAccess}
+use Rattle.port_boot.specs.States.{EndsBeforeStart, EndsAfterStart, BringsReady, IsBeforeStart, IsStateStoppedAfterStart, IsBootAccess}
 use Rattle.port_control.specs.Engines.{EngineSticks}
 use Rattle.port_control.specs.Ports.{IsCommandRegister}
 use Rattle.server_history.specs.Prerequisites.{PrerequisiteLaws}
@@ -68,7 +68,7 @@ module _ (laws : PrerequisiteLaws) where
     resets_by state lives r =
         let x = reset_by port (Unready state) (λ e. let z : Unready state ≡ Unserved = e in cc) old stopped new stops r in (x.0, ((λ dead. absurd (lives dead)), λ _ _. x.1))
 
-    unready : (state : PortState) → IsDrivenBy (IsBootAccess port) stopped new → (IsBeforeStart state → EndsBeforeStart port state stopped new) → (IsAfterStart state → EndsAfterStart port stopped new) → state ≢ DeadState → BootsBy port (Unready state) old new
+    unready : (state : PortState) → IsDrivenBy (IsBootAccess port) stopped new → (IsBeforeStart state → EndsBeforeStart port state stopped new) → (IsStateStoppedAfterStart state → EndsAfterStart port stopped new) → state ≢ DeadState → BootsBy port (Unready state) old new
     unready DeadState boot early late other = absurd (other refl)
     unready ReadyState boot early late other = (then_boots port (Unready ReadyState) (λ e. let z : Unready ReadyState ≡ Unserved = e in cc) old stopped new stops boot, ((λ dead. absurd (other dead)), λ _ unready. absurd (unready refl)))
     unready Absent boot early late other = resets_by Absent other (early_resets laws port Absent stopped new (early tt))
@@ -81,7 +81,7 @@ module _ (laws : PrerequisiteLaws) where
         by_early : (n ≡ 7) ⊎ (n ≡ 8) → BootsBy port (Unready (Unfit n)) old new
         by_early is = resets_by (Unfit n) other (early_resets laws port (Unfit n) stopped new (early is))
 
-  boots_by : (port : Port) (found : ProbeResult) (old new : Device) → StopsAndBootsPort port found old new → BootsBy port found old new
+  boots_by : (port : Port) (found : ProbeResult) (old new : Device) → BootsPortOrSticksIfServed port found old new → BootsBy port found old new
   boots_by port Unserved old new same = (record { accesses = []; all_are_done = same; accesses_are_of_kind = All-nil (IsBootOf port Unserved) }, tt)
   boots_by port (Ready info) old new (stopped, stops, boot, ready, news) =
       let r = reset_by port (Ready info) (λ e. let z : Ready info ≡ Unserved = e in cc) old stopped new stops (ready_resets laws port stopped new ready) in (r.0, (r.1, (stopped, stops, ready)))
@@ -116,7 +116,7 @@ module _ (laws : PrerequisiteLaws) where
   of_other port first ports before access (q, k, at, its) = (q, (λ same. absurd (omega (arith, before, same, at))), laws.boot_access_is_of_port q access its.1)
 
   -- the first of them
-  module _ (first : ℕ) (found : ProbeResult) (rest : List ProbeResult) (old mid new : Device) (way : StopsAndBootsPort (port_at first) found old mid) (more : WentBy (first + 1) rest mid new) where
+  module _ (first : ℕ) (found : ProbeResult) (rest : List ProbeResult) (old mid new : Device) (way : BootsPortOrSticksIfServed (port_at first) found old mid) (more : WentBy (first + 1) rest mid new) where
     one : BootsBy (port_at first) found old mid
     one = boots_by laws (port_at first) found old mid way
 
@@ -179,6 +179,6 @@ module _ (laws : PrerequisiteLaws) where
         each port zero at small = turn_here port (omega (arith, at))
         each port (suc k) at small = turn_later port k (omega (arith, at)) (omega (arith, small))
 
-  pub went_by : (first : ℕ) (ports : List ProbeResult) (old new : Device) → StopsAndBootsEachPort first ports old new → WentBy first ports old new
+  pub went_by : (first : ℕ) (ports : List ProbeResult) (old new : Device) → BootsEachServedPortOrSticks first ports old new → WentBy first ports old new
   went_by first [] old new same = record { driven = record { accesses = []; all_are_done = same; accesses_are_of_kind = All-nil (IsOfFound first []) }; each = λ port k at small. absurd (omega (arith, small)) }
   went_by first (found ∷ rest) old new (mid, way, more) = went_more first found rest old mid new way (went_by (first + 1) rest mid new more)

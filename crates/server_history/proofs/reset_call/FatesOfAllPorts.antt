@@ -28,7 +28,7 @@ use Rattle.block_machine.specs.State.{Machine, Pending}
 use Rattle.block_machine.specs.Steps.{WaitAgain, Answer, Step}
 use Rattle.dma_frames.specs.Loan.{Lending}
 use Rattle.dma_frames.specs.FrameTables.{lent_to, owner_of}
-use Rattle.host_boot.specs.TakeOver.{IsUnusedOrDead, probe_result_of}
+use Rattle.host_boot.specs.TakeOver.{IsUnusedOrIdentifyOfDeadPort, probe_result_of}
 use Rattle.host_boot.specs.declared.ProbeResult.{ProbeResult}
 use Rattle.host_boot.specs.declared.ProbeResult.TheVariants.{Unready}
 use Rattle.identify.specs.declared.DiskInfo.{DiskInfo}
@@ -81,7 +81,7 @@ fates_spare laws disposition (request ∷ requests) replies old new (mid, its, l
     spared (Complete o) m = subst (λ (book : List BookEntry). Contains book e) (sym m.1) ((laws.removal_keeps_other_entries old.book request.request.id e).1 (here, differs))
 
 -- a slot that was left so serves no request
-pub serves_none : (ports : List ProbeResult) (uses : SlotStates) (port slot : ℕ) → IsUnusedOrDead ports uses port slot → (id : RequestId) → uses port slot ≡ Serves id → ⊥
+pub serves_none : (ports : List ProbeResult) (uses : SlotStates) (port slot : ℕ) → IsUnusedOrIdentifyOfDeadPort ports uses port slot → (id : RequestId) → uses port slot ≡ Serves id → ⊥
 serves_none ports uses port slot (inl free) id serves = let z : Free ≡ Serves id = sym free ∙ serves in absurd cc
 serves_none ports uses port slot (inr (zero_is, own, dead)) id serves = let z : Own Identify ≡ Serves id = sym own ∙ ap (uses port) (sym zero_is) ∙ serves in absurd cc
 
@@ -96,7 +96,7 @@ HasItsDisk remembered ports port = IsResetRevalidation (remembered_at remembered
 pub record IsFatedTo (n : ℕ) (c : ServerState) (m : Machine) : Type 0 where
   pub four_kept : length c.kept_loans ≡ 4
   pub uses : SlotStates
-  pub left : (port slot : ℕ) → IsUnusedOrDead c.probe_results uses port slot
+  pub left : (port slot : ℕ) → IsUnusedOrIdentifyOfDeadPort c.probe_results uses port slot
   pub parked : ℕ → List RequestId
   pub driver_relation : DriverRelation m (driver_state_of uses parked c.device)
   pub unparked : (port : ℕ) → port < n → probe_result_of c.probe_results port ≢ Unready Dead → parked port ≡ []
@@ -335,7 +335,7 @@ module _ (laws : PrerequisiteLaws) (n : ℕ) (low : n < 4) (found : ProbeResult)
   fated_more r = record {
     steps = r.steps ++ one.steps;
     may = laws.steps_and_accesses.enabled_lists_join m r.steps one.steps one.steps_are_enabled r.may;
-    backed = λ d. laws.backed_parts d d d m one.steps r.steps (one.backed d) (r.backed d);
+    backed = λ d. laws.backed_parts_join d d d m one.steps r.steps (one.backed d) (r.backed d);
     fated = subst (IsFatedTo (n + length (found ∷ rest)) new) (sym (laws.steps_and_accesses.after_joins m r.steps one.steps)) (subst (λ (k : ℕ). IsFatedTo k new (after (after m one.steps) r.steps)) (omega arith) r.fated);
     decides = All-append Decides r.steps one.steps r.decides (All-weaker (IsResolveStep (port_at n)) Decides (λ step is. (port_at n, is)) one.steps one.steps_are_of_port);
     answered = λ e o here. ⊎_elim (λ late. as_before e (Complete o) (r.answered e o late)) (λ early. its_fate e (Complete o) (one.answers_are_as_decided e o early)) (Contains-append_cases r.steps one.steps (Answer e o) here);
@@ -361,7 +361,7 @@ pub fate_all : PrerequisiteLaws → (found : List ProbeResult) (n : ℕ) → n +
 fate_all laws [] n few replies old new (none, same) m reached at = record {
   steps = [];
   may = tt;
-  backed = λ d. laws.backed_none d m;
+  backed = λ d. laws.empty_steps_are_backed d m;
   fated = subst (λ (c : ServerState). IsFatedTo (n + 0) c m) (sym same) (subst (λ (k : ℕ). IsFatedTo k old m) (omega arith) at);
   decides = All-nil Decides;
   answered = λ e o here. absurd (nowhere (Answer e o) here);

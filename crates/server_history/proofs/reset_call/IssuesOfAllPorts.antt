@@ -99,7 +99,7 @@ module _ (laws : PrerequisiteLaws) (old : ServerState) (k : InCallInvariant old)
   none_yet = record {
     steps = [];
     may = tt;
-    backed = laws.backed_none old.device m;
+    backed = laws.empty_steps_are_backed old.device m;
     stands = is;
     kept = k;
     settings = refl;
@@ -257,7 +257,7 @@ module _ (laws : PrerequisiteLaws) (old : ServerState) (k : InCallInvariant old)
     reissued_more = record {
       steps = all;
       may = laws.steps_and_accesses.enabled_lists_join m x.steps a.steps a.may x.may;
-      backed = laws.backed_parts old.device c.device mid.device m a.steps x.steps a.backed x.backed;
+      backed = laws.backed_parts_join old.device c.device mid.device m a.steps x.steps a.backed x.backed;
       stands = subst (MachineRelation mid) (sym all_is) x.stands;
       kept = each_kept laws port ids c mid a.kept issues;
       settings = each_settings laws port ids c mid issues ∙ ap (λ (s : ServerState). record s { device = mid.device; slots = mid.slots; book = mid.book }) a.settings;

@@ -17,7 +17,7 @@ use Rattle.ata_types.specs.declared.request.Reply.{Reply}
 use Rattle.ata_types.specs.declared.request.RequestId.{RequestId}
 use Rattle.server_history.proofs.state.ListMembers.{contains_cases}
 use Rattle.block_machine.specs.DueRequests.{requests_of_port}
-use Rattle.block_machine.specs.Events.{AnswersAndWaitsLawful, AllEnabled, AnswersReset, AreStepsOfCall, UnpluggedLostDisk, IsOfUndoneRequest, ShownDiskWasInOrCame, IsLawfulAnswer, IssueIsLastOfRequest, UnansweredKeepSerialAndSize, AbstractState, NoneStaysIssued, ReleasesOnce, Reset, ShowsDisk, RepliesMatch, UnpluggedEmptiesPort, IsIssuedInBook, WasReset, answers_of, issues_id, IsReadyAgain}
+use Rattle.block_machine.specs.Events.{AnswersAndWaitsLawful, AllEnabled, AnswersReset, AreStepsOfCall, UnpluggedPortIsNotDeadNorReadyWithSameDisk, IsOfUndoneRequest, ShownDiskWasInOrCame, IsLawfulAnswer, IssueIsLastOfRequest, UnansweredKeepSerialAndSize, AbstractState, NoneStaysIssued, ReleasesOnceBeforeServerSteps, Reset, ShowsDisk, RepliesMatch, UnpluggedEmptiesPort, IsIssuedInBook, WasReset, answers_of, issues_id, IsReadyAgainWithSameDisk}
 use Rattle.block_machine.specs.Histories.{JointEvent, JointState, IsReachable, joint_state_after}
 use Rattle.block_machine.specs.Expected.{after}
 use Rattle.block_machine.specs.Ports.{MayBecome, Ports, SameSerialAndSize}
@@ -25,7 +25,7 @@ use Rattle.block_machine.specs.State.{Machine, Pending, unanswered}
 use Rattle.block_machine.specs.Steps.{WaitAgain, Answer, Release, Step}
 use Rattle.block_machine.specs.declared.due.QueueMode.{QueueMode}
 use Rattle.driver_history.specs.Evidence.{IsEvidenced, IsEvidencedOf}
-use Rattle.driver_history.specs.Histories.{BootsAnew, IssuesDue, LosesNoPortError, RunsWellAnew, IsPortServed, PortCorresponds}
+use Rattle.driver_history.specs.Histories.{BootsAnewWhereRequired, IssuesDue, LosesNoPortError, RunsWellAnew, IsPortServed, PortCorresponds}
 use Rattle.driver_history.specs.AccessTrace.{UsesPortRegistersOf}
 use Rattle.hba_regs.specs.Bits.{bit}
 use Rattle.host_boot.specs.TakeOver.{IsServed, BacksProbeResult, StillBacksProbeResult, probe_result_of, wanted_of}
@@ -142,8 +142,8 @@ module _ (laws : ResetLaws) (s taken settled new : ServerState) (replies : List 
   device_same = device_then laws s taken settled booked takes replies settles m reached is
 
   backed : TapeBacksSteps s.device new.device m steps
-  backed = laws.prerequisites.backed_parts s.device taken.device new.device m base a.steps
-      (laws.prerequisites.backed_parts s.device taken.device taken.device m begun f.steps r.backed (f.backed taken.device))
+  backed = laws.prerequisites.backed_parts_join s.device taken.device new.device m base a.steps
+      (laws.prerequisites.backed_parts_join s.device taken.device taken.device m begun f.steps r.backed (f.backed taken.device))
       (subst (λ (n : Machine). TapeBacksSteps taken.device new.device n a.steps) (sym base_is) (subst (λ (d : Device). TapeBacksSteps d new.device z a.steps) device_same a.backed))
 
   stands_new : MachineRelation new (after m steps)
@@ -339,7 +339,7 @@ module _ (laws : ResetLaws) (s taken settled new : ServerState) (replies : List 
       expects : (p : Revalidation) → has.revalidation ≡ p → IsResetRevalidation (last_disk_in s e.request.port) (probe_result_of new.probe_results e.request.port.0) p
       expects p update_if_id = subst (IsResetRevalidation (last_disk_in s e.request.port) (probe_result_of new.probe_results e.request.port.0)) update_if_id (expects_new e (Complete o) has)
 
-      goes_on : has.revalidation ≡ Same → IsReadyAgain was by.evidence (ports_of new) e.request.port
+      goes_on : has.revalidation ≡ Same → IsReadyAgainWithSameDisk was by.evidence (ports_of new) e.request.port
       goes_on as_before = (
         is_ready e.request.port (expects Same as_before),
         stopped,
@@ -379,7 +379,7 @@ module _ (laws : ResetLaws) (s taken settled new : ServerState) (replies : List 
           answers_append a.steps base ∙ ap (λ (list : List (Pending × Outcome)). list ++ answers_of base) (reissued_answers (ports_of settled) a.steps a.only)
           ∙ answers_append f.steps begun ∙ ap (λ (list : List (Pending × Outcome)). answers_of f.steps ++ list) begun_answers ∙ append-nil (answers_of f.steps)
 
-  releases : ReleasesOnce steps
+  releases : ReleasesOnceBeforeServerSteps steps
   releases = record {
     later = a.steps ++ (f.steps ++ r.second);
     earlier = r.first;
@@ -438,7 +438,7 @@ module _ (laws : ResetLaws) (s taken settled new : ServerState) (replies : List 
     none_is_told_dead = λ e other here there own. (unplugged_expects e here).0 (ap (λ (p : Port). probe_result_of new.probe_results p.0) (sym own) ∙ dead_expects other there);
   }
 
-  finds : UnpluggedLostDisk steps (ports_of s) (ports_of new)
+  finds : UnpluggedPortIsNotDeadNorReadyWithSameDisk steps (ports_of s) (ports_of new)
   finds e here = let lost = unplugged_expects e here in (not_dead e.request.port lost, other_disk e.request.port lost)
 
   -- no request keeps its issue
@@ -461,8 +461,8 @@ module _ (laws : ResetLaws) (s taken settled new : ServerState) (replies : List 
   becomes : (port : Port) → MayBecome (ports_of s) by.evidence (ports_of new) port
   becomes port = record {
     served_is_unchanged = ap is_served (found_new port.0 ∙ found_taken port.0) ∙ served_same port.0;
-    dead_is_stuck = (by.stuck_all port, by.stuck_only port);
-    disk_is_remembered = shows_same port;
+    dead_exactly_if_stuck = (by.stuck_all port, by.stuck_only port);
+    disk_is_remembered_unless_ready = shows_same port;
   }
 
   abbrev end : AbstractState
@@ -500,7 +500,7 @@ module _ (laws : ResetLaws) (s taken settled new : ServerState) (replies : List 
     releases_once = releases;
     unplugged_empties_port = unplugs;
     unplugged_lost_disk = finds;
-    none_is_due = λ port ready. none_due new (after m steps) stands_new (mode_in new port) port (new_settled.nothing_is_due port);
+    none_is_due_where_ready = λ port ready. none_due new (after m steps) stands_new (mode_in new port) port (new_settled.nothing_is_due port);
     empty_unless_ready = none_waits;
     port_may_become = becomes;
     none_stays_issued = anew;
@@ -526,9 +526,9 @@ module _ (laws : ResetLaws) (s taken settled new : ServerState) (replies : List 
   port_part : (port : Port) → PortCorresponds (with_device s.device (joint_state_after first past)) (happening_with by.evidence new.device Reset (WasReset (Some replies)) steps (ports_of new)) by.accesses port
   port_part port = record {
     finds_done = tt;
-    plain_faults_are_told = tt;
+    lone_plain_faults_are_told_unless_dead = tt;
     probes_disk = tt;
-    boots_anew = subst (λ (old : JointState Device). BootsAnew Reset (WasReset (Some replies)) by.accesses old (ports_of new) new.device port) instant_is (by.boots m port);
+    boots_anew = subst (λ (old : JointState Device). BootsAnewWhereRequired Reset (WasReset (Some replies)) by.accesses old (ports_of new) new.device port) instant_is (by.boots m port);
     loses_no_error = subst (λ (old : JointState Device). LosesNoPortError by.evidence old (ports_of new) new.device port) instant_is (by.port_error m port);
     runs_well_anew = subst (λ (old : JointState Device). RunsWellAnew by.evidence by.accesses old (ports_of new) new.device port) instant_is (by.well m port);
     handles_evidence = tt;

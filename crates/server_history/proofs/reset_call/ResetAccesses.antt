@@ -23,7 +23,7 @@ use Rattle.driver_history.specs.Histories.{HasAeAndIe, IsPortServed}
 use Rattle.driver_history.specs.PortTurn.{HasTurnIn, IsOfOtherPort}
 use Rattle.driver_history.specs.AccessTrace.{StaysInDriverFrames, UsesPortRegistersOf, ResetsLink}
 use Rattle.host_boot.specs.Resets.{BeginsReset, IsResetAccess}
-use Rattle.host_boot.specs.TakeOver.{SwitchesOnAndBoots, IsServed, ReadsCapOrPi, BacksProbeResult, probe_result_of, wanted_of}
+use Rattle.host_boot.specs.TakeOver.{SwitchesOnBootsAndEnablesInterrupts, IsServed, ReadsCapOrPi, BacksProbeResult, probe_result_of, wanted_of}
 use Rattle.host_boot.specs.declared.ProbeResult.{ProbeResult}
 use Rattle.host_boot.specs.declared.ProbeResult.TheVariants.{Unserved, Ready, Unready}
 use Rattle.identify.specs.declared.DiskInfo.{DiskInfo}
@@ -207,7 +207,7 @@ module _ (laws : PrerequisiteLaws) (s new : ServerState) (replies : List Reply) 
   abbrev pub ports : List ProbeResult
   ports = t.host.ports
 
-  abbrev way : SwitchesOnAndBoots ports t.idle_device r.server_after_take_over.device
+  abbrev way : SwitchesOnBootsAndEnablesInterrupts ports t.idle_device r.server_after_take_over.device
   way = t.takes_over.switches_on_and_boots
 
   -- ---- what it is then

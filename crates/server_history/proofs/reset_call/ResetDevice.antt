@@ -8,7 +8,7 @@ use Rattle.block_machine.specs.Events.{Reset, WasReset}
 use Rattle.block_machine.specs.Ports.{Evidence, SameSerialAndSize}
 use Rattle.block_machine.specs.State.{Machine}
 use Rattle.driver_history.specs.Evidence.{IsEvidencedOf}
-use Rattle.driver_history.specs.Histories.{BootsAnew, HasAeAndIe, LosesNoPortError, RunsWellAnew, IsPortServed}
+use Rattle.driver_history.specs.Histories.{BootsAnewWhereRequired, HasAeAndIe, LosesNoPortError, RunsWellAnew, IsPortServed}
 use Rattle.driver_history.specs.AccessTrace.{StaysInDriverFrames, UsesPortRegistersOf}
 use Rattle.host_boot.specs.Resets.{BeginsReset}
 use Rattle.server_history.specs.ServerState.{ServerState, ports_of}
@@ -32,6 +32,6 @@ pub record IsRebootedBy (s new : ServerState) (replies : List Reply) : Type 0 wh
   pub stuck_only : (port : Port) → Contains evidence.stuck port → (ports_of new).state port ≡ Dead
   pub lost_all : (port : Port) → (ports_of s).served port ≡ true → (ports_of new).state port ≢ Dead
       → ((ports_of new).state port ≡ Ready → SameSerialAndSize (ports_of s) (ports_of new) port → ⊥) → Contains evidence.lost port
-  pub boots : (m : Machine) (port : Port) → BootsAnew Reset (WasReset (Some replies)) accesses (joint_state_of s m) (ports_of new) new.device port
+  pub boots : (m : Machine) (port : Port) → BootsAnewWhereRequired Reset (WasReset (Some replies)) accesses (joint_state_of s m) (ports_of new) new.device port
   pub port_error : (m : Machine) (port : Port) → LosesNoPortError evidence (joint_state_of s m) (ports_of new) new.device port
   pub well : (m : Machine) (port : Port) → RunsWellAnew evidence accesses (joint_state_of s m) (ports_of new) new.device port

@@ -18,7 +18,7 @@ use Rattle.block_machine.specs.State.{Machine}
 use Rattle.driver_history.specs.Evidence.{IsEvidencedOf}
 use Rattle.driver_history.specs.Histories.{LosesNoPortError, RunsWellAnew, IsPortServed}
 use Rattle.driver_history.specs.PortTurn.{IsOfOtherPort}
-use Rattle.driver_history.specs.AccessTrace.{UsesPortRegistersOf, LeavesEngine, ResetsLink}
+use Rattle.driver_history.specs.AccessTrace.{UsesPortRegistersOf, WritesNeitherCmdNorSctl, ResetsLink}
 use Rattle.host_boot.specs.TakeOver.{BacksProbeResult, probe_result_of, wanted_of}
 use Rattle.host_boot.specs.declared.ProbeResult.{ProbeResult}
 use Rattle.host_boot.specs.declared.ProbeResult.TheVariants.{Unserved, Ready, Unready}
@@ -75,7 +75,7 @@ disk_or_not old new port = ⊎_elim
 -- ---- accesses
 
 -- those of such ports stop no other one
-unserved_leaves : (Such : Port → Type 0) (port : Port) → (Such port → ⊥) → (access : Access) → UsesPortRegistersOf Such access → LeavesEngine port access
+unserved_leaves : (Such : Port → Type 0) (port : Port) → (Such port → ⊥) → (access : Access) → UsesPortRegistersOf Such access → WritesNeitherCmdNorSctl port access
 unserved_leaves Such port none (Reading r v) is = (tt, tt)
 unserved_leaves Such port none (Writing r v) is =
     ((λ e. none (subst (λ (x : Reg). UsesPortRegistersOf Such (Writing x v)) e is)), (λ e. none (subst (λ (x : Reg). UsesPortRegistersOf Such (Writing x v)) e is)))
@@ -191,8 +191,8 @@ module _ (laws : PrerequisiteLaws) (s new : ServerState) (replies : List Reply) 
   lost_all : (port : Port) → old_ports.served port ≡ true → new_ports.state port ≢ DeadState → (new_ports.state port ≡ ReadyState → SameSerialAndSize old_ports new_ports port → ⊥) → Contains evidence.lost port
   lost_all port served lives other = is_chosen is_lost four port (in_four port (k.served_are_below_4 port.0 served)) (is_left_if (lost_or_not port) (served, lives, other))
 
-  lost_only : (port : Port) → Contains evidence.lost port → IsLostAnew port
-  lost_only port here = left_is (lost_or_not port) (chosen_is is_lost four port here)
+  named_lost_may_have_lost_disk : (port : Port) → Contains evidence.lost port → IsLostAnew port
+  named_lost_may_have_lost_disk port here = left_is (lost_or_not port) (chosen_is is_lost four port here)
 
   -- ---- a dead port
 
@@ -213,31 +213,31 @@ module _ (laws : PrerequisiteLaws) (s new : ServerState) (replies : List Reply) 
       laws.batch_access_is_of_port q access its,
     )
 
-    counted : (new.device.port port.0).notes.engine_count ≡ MOST_READINGS
+    counted : (new.device.port port.0).notes.engine_wait_count ≡ MOST_READINGS
     counted =
         let issuing = issues laws s new replies k r in
-        ap (λ (n : Notes). n.engine_count) (notes_over laws port issuing.accesses r.server_after_take_over.device new.device t.takes_over.adapter_is_on (All-weaker (IsOfReady 0 ports) (IsOfOtherPort port) others issuing.accesses issuing.accesses_are_of_kind) issuing.all_are_done)
+        ap (λ (n : Notes). n.engine_wait_count) (notes_over laws port issuing.accesses r.server_after_take_over.device new.device t.takes_over.adapter_is_on (All-weaker (IsOfReady 0 ports) (IsOfOtherPort port) others issuing.accesses issuing.accesses_are_of_kind) issuing.all_are_done)
         ∙ (subst (λ (f : ProbeResult). BacksProbeResult (wanted_of s.wanted port.0) f port.0 r.server_after_take_over.device) (dead_found port dead) (t.takes_over.results_are_backed port.0 (dead_low port dead))).1.1
 
   -- ---- what is vouched for
 
   evidenced : (m : Machine) (port : Port) → IsEvidencedOf Reset (WasReset (Some replies)) list (joint_state_of s m) new_ports new.device evidence port
   evidenced m port =
-      let told = evidenced_of four Reset (WasReset (Some replies)) [] (joint_state_of s m) new_ports new.device port (λ ready. in_four port (k.served_are_below_4 port.0 (served_ready port ready))) (All-nil (LeavesEngine port)) in
+      let told = evidenced_of four Reset (WasReset (Some replies)) [] (joint_state_of s m) new_ports new.device port (λ ready. in_four port (k.served_are_below_4 port.0 (served_ready port ready))) (All-nil (WritesNeitherCmdNorSctl port)) in
       record {
-        lost_only = λ here. let lost = lost_only port here in inr (inr (inr (lost.1, lost.2)));
-        link_changed_all = told.link_changed_all;
-        link_changed_only = told.link_changed_only;
-        showing_error_all = told.showing_error_all;
-        showing_error_only = told.showing_error_only;
-        showing_fatal_error_all = told.showing_fatal_error_all;
-        showing_fatal_error_only = told.showing_fatal_error_only;
+        named_lost_may_have_lost_disk = λ here. let lost = named_lost_may_have_lost_disk port here in inr (inr (inr (lost.1, lost.2)));
+        shown_loss_of_ready_is_named = told.shown_loss_of_ready_is_named;
+        named_link_changed_had_change_or_no_device = told.named_link_changed_had_change_or_no_device;
+        shown_failure_of_ready_is_named = told.shown_failure_of_ready_is_named;
+        named_showing_error_had_error = told.named_showing_error_had_error;
+        shown_fatal_of_ready_is_named = told.shown_fatal_of_ready_is_named;
+        named_showing_fatal_had_fatal = told.named_showing_fatal_had_fatal;
         engine_is_left_or_stopped = ⊎_elim
             (λ (served : old_ports.served port ≡ true). inr (inl (stopped_all port served)))
-            (λ (none : old_ports.served port ≡ false). inl (All-weaker (UsesPortRegistersOf (IsPortServed old_ports)) (LeavesEngine port)
+            (λ (none : old_ports.served port ≡ false). inl (All-weaker (UsesPortRegistersOf (IsPortServed old_ports)) (WritesNeitherCmdNorSctl port)
             (unserved_leaves (IsPortServed old_ports) port (λ served. false≢true (sym none ∙ served))) list (of laws s new replies k r)))
             (cases_Bool (old_ports.served port));
-        stopped_only = λ here. inr (tt, chosen_is old_ports.served four port here);
+        named_stopped_was_stopped_or_reset = λ here. inr (tt, chosen_is old_ports.served four port here);
         stuck_only = λ here. let dead = stuck_only port here in inl (its_sticks port dead, counted port dead);
       }
 
@@ -261,11 +261,11 @@ module _ (laws : PrerequisiteLaws) (s new : ServerState) (replies : List Reply) 
 
   port_error : (m : Machine) (port : Port) → LosesNoPortError evidence (joint_state_of s m) new_ports new.device port
   port_error m port = record {
-    errors_are_handled_or_shown = λ ready _. inl (inl (stopped_all port (served_ready port ready)));
-    changes_are_handled_or_shown = λ tends _. inl (inl (stopped_all port tends.0));
-    new_fault_is_shown = λ ready. let its = ready_info port ready in (shows laws s new replies k r port (ready_low port its.0 its.1) its.0 its.1).fault_is_shown;
-    new_fatal_is_shown = λ ready. let its = ready_info port ready in (shows laws s new replies k r port (ready_low port its.0 its.1) its.0 its.1).fatal_is_shown;
-    new_plug_event_is_shown = λ ready. let its = ready_info port ready in (shows laws s new replies k r port (ready_low port its.0 its.1) its.0 its.1).plug_is_shown;
+    ready_errors_are_handled_or_shown = λ ready _. inl (inl (stopped_all port (served_ready port ready)));
+    changes_are_handled_or_shown_unless_dead = λ tends _. inl (inl (stopped_all port tends.0));
+    ready_shows_fault_since_start = λ ready. let its = ready_info port ready in (shows laws s new replies k r port (ready_low port its.0 its.1) its.0 its.1).fault_is_shown;
+    ready_shows_fatal_since_start = λ ready. let its = ready_info port ready in (shows laws s new replies k r port (ready_low port its.0 its.1) its.0 its.1).fatal_is_shown;
+    ready_shows_plug_event_since_start = λ ready. let its = ready_info port ready in (shows laws s new replies k r port (ready_low port its.0 its.1) its.0 its.1).plug_is_shown;
   }
 
   well : (m : Machine) (port : Port) → RunsWellAnew evidence list (joint_state_of s m) new_ports new.device port

@@ -124,7 +124,7 @@ module _ (laws : PrerequisiteLaws) (ports : Ports) (m : Machine) where
   issued_from (step ∷ steps) b z here is =
       let device : IsByDevice step = ⊎_elim (λ own. own) (λ none. absurd none) b.1 in
       let spares = laws.steps_and_accesses.device_steps_spare_book (after m steps) (step ∷ []) (tt, device) in
-      let l = laws.steps_and_accesses.found_before (after m steps).book (after m (step ∷ steps)).book z spares.book here in
+      let l = laws.steps_and_accesses.entry_is_found_in_earlier_book (after m steps).book (after m (step ∷ steps)).book z spares.book here in
       let id : z.request.id ≡ l.0.request.id = ap (λ r. r.id) l.2.request in
       ⊎_elim
       (λ late. inl (or_right (issues_id z.request.id step) (list_any (issues_id z.request.id) steps) (subst (λ (i : RequestId). IsIssuedIn i steps) (sym id) late)))

@@ -12,12 +12,12 @@ use Rattle.refinement.specs.Acts.{act_steps}
 use Rattle.refinement.specs.Fragments.{IsSimulatedChangingUses, driver_state_of}
 use Rattle.refinement.specs.Driver.{TapeBacksSteps, DriverState, DriverRelation}
 use Rattle.refinement.specs.Slots.{Free, Serves, SlotStates}
-use Rattle.refinement.specs.SparedBook.{KeepsBookAndLoans}
+use Rattle.refinement.specs.SparedBook.{KeepsLoansAndBookOnlyAdvances}
 use Rattle.ata_types.specs.declared.request.ClientId.{ClientId}
 use Rattle.ata_types.specs.declared.request.Frame.{Frame}
 use Rattle.ata_types.specs.declared.request.RequestId.{RequestId}
 use Rattle.server_history.proofs.state.ListMembers.{into_map, map_in, none_of, in_filter}
-use Rattle.block_machine.specs.Confinement.{WithinLimits}
+use Rattle.block_machine.specs.Confinement.{KeepsLimitsAndHoldsOwnFrames}
 use Rattle.block_machine.specs.Events.{AllByDevice, AllEnabled}
 use Rattle.block_machine.specs.Histories.{IsReachable}
 use Rattle.block_machine.specs.Expected.{after}
@@ -92,13 +92,13 @@ gives_up k m knows rest = record {
   state_relation = record {
     relates_slots = λ port slot. let p = rest.ports_are_idle port in record { is_not_issued = p.ci_is_clear slot; is_not_taken = p.none_is_taken slot; unarmed = p.sact_is_clear slot };
     serve_distinct_requests = λ port slot other_port other_slot id serves. let z : Free ≡ Serves id = serves in absurd cc;
-    received_areas_are_placed = knows.state_relation.received_areas_are_placed;
+    received_areas_in_use_are_placed = knows.state_relation.received_areas_in_use_are_placed;
     disks_are_same = knows.state_relation.disks_are_same;
     client_frames_are_same = knows.state_relation.client_frames_are_same;
-    sectors_are_same = knows.state_relation.sectors_are_same;
-    holds_replug_candidates = knows.state_relation.holds_replug_candidates;
+    sectors_are_same_if_disks_tell = knows.state_relation.sectors_are_same_if_disks_tell;
+    holds_replug_candidates_if_disks_tell = knows.state_relation.holds_replug_candidates_if_disks_tell;
   };
-  have_slots = λ port e moves own. inl (⊎_elim
+  have_slots_unless_parked = λ port e moves own. inl (⊎_elim
       (λ booked. Contains-append_left (map (λ (x : Pending). x.request.id) m.book) (map (λ (x : Pending). x.request.id) m.kept) e.request.id (into_map (λ (x : Pending). x.request.id) m.book e booked.0))
       (λ held. Contains-append_right (map (λ (x : Pending). x.request.id) m.book) (map (λ (x : Pending). x.request.id) m.kept) e.request.id (into_map (λ (x : Pending). x.request.id) m.kept e held))
       moves);
@@ -108,7 +108,7 @@ gives_up k m knows rest = record {
 parks_issued : (uses : SlotStates) (parked : ℕ → List RequestId) (d : Device) (m : Machine) → DriverRelation m (driver_state_of uses parked d) → m.kept ≡ [] → DriverRelation m (driver_state_of uses (issued_on m) d)
 parks_issued uses parked d m knows none = record {
   state_relation = knows.state_relation;
-  have_slots = λ port e moves own. inl (⊎_elim
+  have_slots_unless_parked = λ port e moves own. inl (⊎_elim
       (λ booked. in_issued m port e booked.0 booked.1 own)
       (λ held. absurd (nowhere e (subst (λ (es : List Pending). Contains es e) none held)))
       moves);
@@ -119,8 +119,8 @@ parks_issued uses parked d m knows none = record {
 -- What the machine lends once the kept requests' frames are given back is what the server lends.
 module _ (laws : ResetLaws) (found : List ProbeResult) (kept : List (List Lending)) (table later : OwnersAndLoans) (m : Machine) (reached : IsReachable m) (lent : (frame : Frame) → m.lent frame ≡ lent_to table frame) (are : QuarantineRelation found kept m.kept)
     (back : GivesBackLoans table later (IsKeptIn kept)) where
-  limits : WithinLimits m
-  limits = subst WithinLimits (sym reached.leads_to_machine) (laws.prerequisites.frame_holders.legal_histories_stay_in_limits reached.initial_machine reached.steps_since reached.is_initial reached.is_legal)
+  limits : KeepsLimitsAndHoldsOwnFrames m
+  limits = subst KeepsLimitsAndHoldsOwnFrames (sym reached.leads_to_machine) (laws.prerequisites.frame_holders.legal_histories_stay_in_limits reached.initial_machine reached.steps_since reached.is_initial reached.is_legal)
 
   is_lent : (id : RequestId) (o : Option RequestId) → is_lent_to id o ≡ true → o ≡ Some id
   is_lent id None is = absurd (false≢true is)
@@ -184,7 +184,7 @@ module _ (laws : ResetLaws) (s taken : ServerState) (takes : IsReinitialized s t
   idle_reached : IsReachable idle
   idle_reached = laws.prerequisites.steps_and_accesses.reachable_stays_reachable m down.steps reached down.may
 
-  down_spares : KeepsBookAndLoans m idle
+  down_spares : KeepsLoansAndBookOnlyAdvances m idle
   down_spares = laws.prerequisites.steps_and_accesses.device_steps_spare_book m down.steps down.only
 
   idle_kept : QuarantineRelation s.probe_results s.kept_loans idle.kept
@@ -206,7 +206,7 @@ module _ (laws : ResetLaws) (s taken : ServerState) (takes : IsReinitialized s t
   abbrev last : Machine
   last = after free up.steps
 
-  up_spares : KeepsBookAndLoans free last
+  up_spares : KeepsLoansAndBookOnlyAdvances free last
   up_spares = laws.prerequisites.steps_and_accesses.device_steps_spare_book free up.steps up.only
 
   none_kept : last.kept ≡ []
@@ -229,8 +229,8 @@ module _ (laws : ResetLaws) (s taken : ServerState) (takes : IsReinitialized s t
     second = up.steps;
     second_only = up.only;
     may = laws.prerequisites.steps_and_accesses.enabled_lists_join m up.steps (Release ∷ down.steps) (down.may, tt) up.may;
-    backed = laws.prerequisites.backed_parts s.device takes.idle_device taken.device m (Release ∷ down.steps) up.steps
-        (laws.prerequisites.backed_parts s.device takes.idle_device takes.idle_device m down.steps (Release ∷ []) down.backed (laws.prerequisites.backed_own takes.idle_device idle Release (λ none. none))) up.backed;
+    backed = laws.prerequisites.backed_parts_join s.device takes.idle_device taken.device m (Release ∷ down.steps) up.steps
+        (laws.prerequisites.backed_parts_join s.device takes.idle_device takes.idle_device m down.steps (Release ∷ []) down.backed (laws.prerequisites.drivers_own_step_is_backed takes.idle_device idle Release (λ none. none))) up.backed;
     driver_relation = subst (λ (n : Machine). DriverRelation n (driver_state_of takes.takes_over.uses (issued_on n) taken.device)) (sym last_is) (parks_issued takes.takes_over.uses (all_ids idle) taken.device last up.driver_relation none_kept);
     book = subst (λ (n : Machine). BookRelation s.book n.book) (sym last_is) (book_on s.book free.book last.book up_spares.book (book_on s.book m.book idle.book down_spares.book is.book));
     kept = ap (λ (n : Machine). n.kept) last_is ∙ none_kept;
@@ -243,7 +243,7 @@ module _ (laws : ResetLaws) (s taken : ServerState) (takes : IsReinitialized s t
 -- ---- its requests may meet their fates
 
 -- so each is as it was accepted still
-accepted_then : (old new : OwnersAndLoans) (entries : List BookEntry) (m : Machine) → WithinLimits m → BookRelation entries m.book → ((frame : Frame) → m.lent frame ≡ lent_to new frame) → new.owners ≡ old.owners
+accepted_then : (old new : OwnersAndLoans) (entries : List BookEntry) (m : Machine) → KeepsLimitsAndHoldsOwnFrames m → BookRelation entries m.book → ((frame : Frame) → m.lent frame ≡ lent_to new frame) → new.owners ≡ old.owners
     → All (IsWellFormedEntry old) entries → All (IsWellFormedEntry new) entries
 accepted_then old new entries m limits book lent owners accepted i d small =
     let e = get_or entries i d in
@@ -253,7 +253,7 @@ accepted_then old new entries m limits book lent owners accepted i d small =
       client_is_at_least_1 = a.client_is_at_least_1;
       client_is_at_most_8 = a.client_is_at_most_8;
       count_is_allowed = a.count_is_allowed;
-      range_is_below_2_48 = a.range_is_below_2_48;
+      range_is_below_2_48_unless_flush = a.range_is_below_2_48_unless_flush;
       frame_count_is = a.frame_count_is;
       frames_are_not_drivers = a.frames_are_not_drivers;
       frames_are_own = λ k f inside. ap (λ (list : List (Option ClientId)). get_or list (get_or e.frames k f).0 None) owners ∙ a.frames_are_own k f inside;
@@ -270,10 +270,10 @@ module _ (laws : ResetLaws) (s taken : ServerState) (booked : ServerInvariant s)
   abbrev end : Machine
   end = after booked.machine (its.second ++ Release ∷ its.first)
 
-  end_limits : WithinLimits end
+  end_limits : KeepsLimitsAndHoldsOwnFrames end
   end_limits =
       let r = laws.prerequisites.steps_and_accesses.reachable_stays_reachable booked.machine (its.second ++ Release ∷ its.first) booked.reached its.may in
-      subst WithinLimits (sym r.leads_to_machine) (laws.prerequisites.frame_holders.legal_histories_stay_in_limits r.initial_machine r.steps_since r.is_initial r.is_legal)
+      subst KeepsLimitsAndHoldsOwnFrames (sym r.leads_to_machine) (laws.prerequisites.frame_holders.legal_histories_stay_in_limits r.initial_machine r.steps_since r.is_initial r.is_legal)
 
   pub book_same : taken.book ≡ s.book
   book_same = ap (λ (t : ServerState). t.book) takes.server_is

@@ -14,7 +14,7 @@ use Rattle.block_machine.specs.Histories.{IsReachable}
 use Rattle.block_machine.specs.Expected.{IsValidRow, after}
 use Rattle.block_machine.specs.State.{Machine}
 use Rattle.block_machine.specs.Steps.{Release, Step}
-use Rattle.host_boot.specs.TakeOver.{IsUnusedOrDead, IsUnusedOrDead, TakesOver, probe_result_of, wanted_of}
+use Rattle.host_boot.specs.TakeOver.{IsUnusedOrIdentifyOfDeadPort, IsUnusedOrIdentifyOfDeadPort, TakesOver, probe_result_of, wanted_of}
 use Rattle.host_boot.specs.declared.ProbeResult.{ProbeResult}
 use Rattle.host_boot.specs.declared.ProbeResult.TheVariants.{Unready}
 use Rattle.identify.specs.declared.wanted.Wanted.{Wanted}
@@ -60,7 +60,7 @@ module _ (laws : ResetLaws) (s taken settled : ServerState) (booked : ServerInva
   begin = record {
     four_kept = takes.kept_loans_are_of_four_ports;
     uses = takes.takes_over.uses;
-    left = λ port slot. subst (λ (ports : List ProbeResult). IsUnusedOrDead ports takes.takes_over.uses port slot) (sym ports_are) (takes.takes_over.slots_are_unused port slot);
+    left = λ port slot. subst (λ (ports : List ProbeResult). IsUnusedOrIdentifyOfDeadPort ports takes.takes_over.uses port slot) (sym ports_are) (takes.takes_over.slots_are_unused_or_dead port slot);
     parked = issued_on mid;
     driver_relation = its_retaken.driver_relation;
     unparked = λ port lt. absurd (omega (arith, lt));
@@ -122,7 +122,7 @@ module _ (laws : ResetLaws) (s taken settled : ServerState) (booked : ServerInva
   pub stands_regained : MachineRelation settled z
   stands_regained = record {
     uses = all_fated.uses;
-    are_uses_of = λ port slot. left_as settled.probe_results settled.probe_results settled.slots all_fated.uses port slot refl (unused_then port slot) (all_fated.left port slot);
+    slot_uses_agree_unless_dead = λ port slot. left_as settled.probe_results settled.probe_results settled.slots all_fated.uses port slot refl (unused_then port slot) (all_fated.left port slot);
     awaiting_disposition = all_fated.parked;
     only_dead_ports_park = unparked;
     driver_relation = all_fated.driver_relation;
@@ -173,7 +173,7 @@ module _ (laws : ResetLaws) (s taken settled : ServerState) (booked : ServerInva
         (record { has_32_slots = takes.has_32_slots port below; usable_count_is_of_mode = takes.usable_count_is_of_mode port below; unusable_are_unused = λ slot high. takes.no_slot_is_used port slot });
     slots_queue_as_asked = λ port slot used e its. absurd (let y : None ≡ Some used = sym (unused_then port.0 slot) ∙ its in cc);
     slots_store_commands = λ port slot used its. absurd (let y : None ≡ Some used = sym (unused_then port slot) ∙ its in cc);
-    plain_stands_alone = λ port slot used its. absurd (let y : None ≡ Some used = sym (unused_then port slot) ∙ its in cc);
+    plain_is_alone_in_slot_0 = λ port slot used its. absurd (let y : None ≡ Some used = sym (unused_then port slot) ∙ its in cc);
     rows_are_valid = subst (All IsValidRow) (sym (ap (λ (c : ServerState). c.grants) its_fated.settings ∙ ap (λ (c : ServerState). c.grants) takes.server_is)) booked.rows_are_valid;
     owned_frames_are_clients = λ frame client own.
         let o = booked.owned_frames_are_clients frame client (ap (λ (list : List (Option ClientId)). get_or list frame.0 None) (sym (its_fated.owners ∙ takes.loans_are_taken_back.owners_are_kept)) ∙ own) in

@@ -26,7 +26,7 @@ use Rattle.block_machine.specs.State.{Machine}
 use Rattle.block_machine.specs.Steps.{Step, Answer}
 use Rattle.block_machine.specs.declared.due.QueueMode.{QueueMode}
 use Rattle.driver_history.specs.Histories.{IssuesDue, IsIssuingAccess}
-use Rattle.driver_history.specs.AccessTrace.{ClearsNoError, LeavesEngine}
+use Rattle.driver_history.specs.AccessTrace.{ClearsNoError, WritesNeitherCmdNorSctl}
 use Rattle.hba_regs.specs.declared.reg.Reg.TheVariants.{Ghc}
 use Rattle.host_boot.specs.TakeOver.{probe_result_of}
 use Rattle.request_queue.specs.BookEntries.{unanswered_of, due_ids}
@@ -83,7 +83,7 @@ module _ (laws : PrerequisiteLaws) (s : ServerState) (client : ClientId) (number
         λ of. Contains-append_right late early (Answer e Revoked) (revoked.all laws s client number replies mid r old.machine h e of.0 of.1 of.2),
       );
       ports_are_same = ports_same old.ports (ports_of new) (ports_are ∙ sym new_is);
-      none_is_due = λ q ready. none_due new (after old.machine (late ++ early)) stands (mode_in new q) q (issued q ready);
+      none_is_due_where_ready = λ q ready. none_due new (after old.machine (late ++ early)) stands (mode_in new q) q (issued q ready);
     }
 
   -- ---- where the port isn't ready, nothing is issued, and there is no access
@@ -101,9 +101,9 @@ module _ (laws : PrerequisiteLaws) (s : ServerState) (client : ClientId) (number
         tt
         []
         (refl, (revoked.has_row laws s client number replies mid r m h, All-nil (IsIssuingAccess port), λ other. refl))
-        (λ q. All-nil (LeavesEngine q))
+        (λ q. All-nil (WritesNeitherCmdNorSctl q))
         (λ q ready. none_issued then_is (after m steps) stands steps (revoked.issue_none laws s client number replies mid r m h) (mode_in s q) q (issued q ready))
-        (λ q. record { finds_done = tt; plain_faults_are_told = tt; probes_disk = tt; boots_anew = tt; loses_no_error = goes.port_error old.abstract leads.state_is_at_history_end.ports_are q; runs_well_anew = λ i. absurd (uninterrupted s.device old.abstract.ports q i); handles_evidence = uninterrupted s.device old.abstract.ports q })
+        (λ q. record { finds_done = tt; lone_plain_faults_are_told_unless_dead = tt; probes_disk = tt; boots_anew = tt; loses_no_error = goes.port_error old.abstract leads.state_is_at_history_end.ports_are q; runs_well_anew = λ i. absurd (uninterrupted s.device old.abstract.ports q i); handles_evidence = uninterrupted s.device old.abstract.ports q })
         (revoked.backed laws s client number replies mid r m h)
         stands
       where
@@ -176,11 +176,11 @@ module _ (laws : PrerequisiteLaws) (s : ServerState) (client : ClientId) (number
             tt
             driven.accesses
             (driven.all_are_done, (revoked.has_row laws s client number replies mid r m h, All-weaker (IsBatchAccess port) (IsIssuingAccess port) (λ access here. issuing_is port port_low access here) driven.accesses driven.accesses_are_of_kind, λ other. absurd (other its_state)))
-            (λ q. All-weaker (IsBatchAccess port) (LeavesEngine q) (issuing_leaves laws port q) driven.accesses driven.accesses_are_of_kind)
+            (λ q. All-weaker (IsBatchAccess port) (WritesNeitherCmdNorSctl q) (issuing_leaves laws port q) driven.accesses driven.accesses_are_of_kind)
             (λ q is_ready. due_now q)
             (λ q. record {
               finds_done = tt;
-              plain_faults_are_told = tt;
+              lone_plain_faults_are_told_unless_dead = tt;
               probes_disk = tt;
               boots_anew = tt;
               loses_no_error = laws.calls.ordinary_accesses_lose_no_error q (with_device s.device old) new.device driven.accesses (told_by s.device old.abstract.ports) (ports_of new) k.adapter_is_on driven.all_are_done
@@ -188,7 +188,7 @@ module _ (laws : PrerequisiteLaws) (s : ServerState) (client : ClientId) (number
               runs_well_anew = λ i. absurd (uninterrupted s.device old.abstract.ports q i);
               handles_evidence = uninterrupted s.device old.abstract.ports q;
             })
-            (laws.backed_parts s.device s.device new.device m early x.steps (revoked.backed laws s client number replies mid r m h) x.backed)
+            (laws.backed_parts_join s.device s.device new.device m early x.steps (revoked.backed laws s client number replies mid r m h) x.backed)
             stands
           where
             old : JointState Device

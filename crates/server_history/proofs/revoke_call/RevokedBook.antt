@@ -6,7 +6,7 @@ use Rattle.std.proofs.lemmas.List.Elements.{All-contains}
 use Rattle.std.proofs.lemmas.List.Kept.{AllPairs-filter}
 use Rattle.ata_types.specs.declared.request.ClientId.{ClientId}
 use Rattle.ata_types.specs.declared.request.Outcome.TheVariants.{Aborted, Revoked}
-use Rattle.request_queue.specs.BookEntries.{BookEntry, IsEarlier, BookIsWellFormed, revoked_under_grant, waits_under}
+use Rattle.request_queue.specs.BookEntries.{BookEntry, IsEarlier, BookIsWellFormed, with_revoked_mark_if_under_grant, waits_under}
 use Rattle.request_queue.specs.declared.PendingRequest.{PendingRequest}
 use Rattle.server_history.specs.Revoking.{with_grant_revoked}
 use Rattle.server_history.specs.ServerState.{RevokedMarkInvariant, ServerState, RevokedMarkAgrees}
@@ -29,7 +29,7 @@ pub record IsMarkOf (was e : BookEntry) : Type 0 where
 module _ (client : ClientId) (number : ℕ) where
   -- the request, marked if it is under the grant
   abbrev pub mark : BookEntry → BookEntry
-  mark e = record e { request = revoked_under_grant client number e.request }
+  mark e = record e { request = with_revoked_mark_if_under_grant client number e.request }
 
   mark_of : (e : BookEntry) → IsMarkOf e (mark e)
   mark_of e = by (is_same_grant_name client number e.request.client e.request.grant)

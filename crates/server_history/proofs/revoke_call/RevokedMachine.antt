@@ -196,7 +196,7 @@ module _ (laws : PrerequisiteLaws) (s : ServerState) (client : ClientId) (number
   stands_z : MachineRelation new z
   stands_z = record {
     uses = is.uses;
-    are_uses_of = is.are_uses_of;
+    slot_uses_agree_unless_dead = is.slot_uses_agree_unless_dead;
     awaiting_disposition = met.parked;
     only_dead_ports_park = λ q alive. ⊎_elim
         (λ (same : q ≡ port.0).
@@ -251,7 +251,7 @@ module _ (laws : PrerequisiteLaws) (s : ServerState) (client : ClientId) (number
       ∙ ap (requests_of_port q) (laws.unanswered_after_marking s.book client number)
 
   pub backed : TapeBacksSteps s.device s.device m steps
-  backed = laws.backed_parts s.device s.device s.device m (Revoke client number ∷ []) met.steps (laws.backed_own s.device m (Revoke client number) (λ none. none)) (met.backed s.device)
+  backed = laws.backed_parts_join s.device s.device s.device m (Revoke client number ∷ []) met.steps (laws.drivers_own_step_is_backed s.device m (Revoke client number) (λ none. none)) (met.backed s.device)
 
   pub belong : (ports : Ports) → AreStepsOfCall {D = DeviceStep} (RevokeOf client number) ports steps
   belong ports = belong_join (RevokeOf client number) ports met.steps (Revoke client number ∷ [])

@@ -13,7 +13,7 @@ use Rattle.block_machine.specs.DueRequests.{NoneDue, is_plain}
 use Rattle.block_machine.specs.Expected.{IsValidRow, after}
 use Rattle.block_machine.specs.Rules.{is_same_grant_name, without_row}
 use Rattle.host_boot.specs.TakeOver.{probe_result_of}
-use Rattle.request_queue.specs.BookEntries.{BookEntry, all_revoked_under_grant, unanswered_of, IsWellFormedEntry}
+use Rattle.request_queue.specs.BookEntries.{BookEntry, with_requests_under_grant_revoked, unanswered_of, IsWellFormedEntry}
 use Rattle.server_history.specs.Prerequisites.{PrerequisiteLaws}
 use Rattle.server_history.specs.ErrorHandling.{book_and_loans_of}
 use Rattle.server_history.specs.Revoking.{with_grant_revoked}
@@ -55,7 +55,7 @@ module _ (laws : PrerequisiteLaws) (s : ServerState) (client : ClientId) (number
         (λ q slot used e its here same.
         let b = before e here in
         k.slots_queue_as_asked q slot used b.0 its b.1 (sym b.2 ∙ same) ∙ ap (λ (o : Op). not (is_plain (mode_in s q) o)) (sym b.4))
-        k.slots_store_commands k.plain_stands_alone (still_accepted left.accepted) left.ordered (revoked.marked_then laws s client number replies mid r k.machine may_revoke)
+        k.slots_store_commands k.plain_is_alone_in_slot_0 (still_accepted left.accepted) left.ordered (revoked.marked_then laws s client number replies mid r k.machine may_revoke)
         (revoked.each_left laws s client number replies mid r k.machine may_revoke (λ e. e.request.id.0 ≤ s.last_id) (λ e here.
         let b = before e here in
         let low = All-contains (λ (x : BookEntry). x.request.id.0 ≤ s.last_id) s.book b.0 k.ids_were_handed_out b.1 in
@@ -86,7 +86,7 @@ module _ (laws : PrerequisiteLaws) (s : ServerState) (client : ClientId) (number
     revoked_stalled = record {
       server_invariant = booked_then s (without_row client number s.grants) mid.table s.kept_loans r.now.book b (rows_then b.rows_are_valid) (r.lends.owners_are_kept ∙ left.owners) b.kept_loans_are_of_four_ports
           (λ q.
-          let fewer : issued_of q r.now.book ≤ issued_of q (all_revoked_under_grant client number s.book) = left.fewer q in
+          let fewer : issued_of q r.now.book ≤ issued_of q (with_requests_under_grant_revoked client number s.book) = left.fewer q in
           let same = marked_issued q client number s.book in
           let were : length (quarantined_at s.kept_loans q.0) + issued_of q s.book ≤ 32 = b.kept_loans_have_room q in
           omega (arith, fewer, same, were))

@@ -11,13 +11,13 @@ use Rattle.ata_types.specs.declared.request.ClientId.{ClientId}
 use Rattle.ata_types.specs.declared.request.Frame.{Frame}
 use Rattle.ata_types.specs.declared.request.RequestId.{RequestId}
 use Rattle.adapter.specs.Device.{Device}
-use Rattle.adapter.specs.Idle.{IsIdle, TellsDisks}
+use Rattle.adapter.specs.Idle.{IsIdle, DisksAreKnownIfTelling}
 use Rattle.refinement.specs.Relation.{SameSectors}
 use Rattle.refinement.specs.Replug.{replug_candidates}
 use Rattle.refinement.specs.Fragments.{driver_state_of}
 use Rattle.refinement.specs.Driver.{DriverRelation, idle_driver_state}
 use Rattle.refinement.specs.Slots.{Free, SlotStates}
-use Rattle.refinement.specs.SparedBook.{AllFurther, KeepsBookAndLoans}
+use Rattle.refinement.specs.SparedBook.{AllAsFarOrFurther, KeepsLoansAndBookOnlyAdvances}
 use Rattle.block_machine.specs.Histories.{IsReachable}
 use Rattle.block_machine.specs.Expected.{after, IsValidRow, IsInitial}
 use Rattle.block_machine.specs.Ports.{PortsWellFormed, IsValidMode}
@@ -25,7 +25,7 @@ use Rattle.block_machine.specs.State.{DiskBytes, Machine, Pending}
 use Rattle.block_machine.specs.Rules.{DifferInName}
 use Rattle.dma_frames.specs.Loan.{Lending}
 use Rattle.dma_frames.specs.FrameTables.{owner_of}
-use Rattle.host_boot.specs.TakeOver.{StillBacksProbeResult, IsUnusedOrDead, BacksProbeResult, TakesOver, probe_result_of, wanted_of}
+use Rattle.host_boot.specs.TakeOver.{StillBacksProbeResult, IsUnusedOrIdentifyOfDeadPort, BacksProbeResult, TakesOver, probe_result_of, wanted_of}
 use Rattle.host_boot.specs.declared.ProbeResult.{ProbeResult}
 use Rattle.host_boot.specs.declared.ProbeResult.TheVariants.{Unserved, Ready, Unready}
 use Rattle.host_boot.specs.declared.Host.{Host}
@@ -75,7 +75,7 @@ machine_of d rows owner = record {
 }
 
 machine_knows : PrerequisiteLaws → (d : Device) (rows : List GrantRow) (owner : Frame → Option ClientId) → IsInitial (machine_of d rows owner) → IsIdle d
-    → TellsDisks d → DriverRelation (machine_of d rows owner) (idle_driver_state d)
+    → DisksAreKnownIfTelling d → DriverRelation (machine_of d rows owner) (idle_driver_state d)
 machine_knows laws d rows owner start is told =
     laws.idle_device_is_related (machine_of d rows owner) d start is (λ q. record { present = refl; id = refl; sector_count = refl }) (λ f b low small. refl) sectors (λ _ port k. refl)
   where
@@ -87,10 +87,10 @@ machine_knows laws d rows owner start is told =
 -- ---- steps of the device
 
 -- steps that spare the book leave a machine to begin with
-start_on : (m later : Machine) → IsInitial m → KeepsBookAndLoans m later → IsInitial later
+start_on : (m later : Machine) → IsInitial m → KeepsLoansAndBookOnlyAdvances m later → IsInitial later
 start_on m later s spares = record {
-  book_is_empty = subst (λ (es : List Pending). AllFurther es later.book) s.book_is_empty spares.book;
-  none_is_kept = subst (λ (es : List Pending). AllFurther es later.kept) s.none_is_kept spares.kept;
+  book_is_empty = subst (λ (es : List Pending). AllAsFarOrFurther es later.book) s.book_is_empty spares.book;
+  none_is_kept = subst (λ (es : List Pending). AllAsFarOrFurther es later.kept) s.none_is_kept spares.kept;
   no_frame_is_lent = λ frame. ap (λ (lent : Frame → Option RequestId). lent frame) spares.lent ∙ s.no_frame_is_lent frame;
   next_id_is_1 = spares.next_id ∙ s.next_id_is_1;
   rows_are_at_most_64 = subst (λ (rows : List GrantRow). length rows ≤ 64) (sym spares.rows) s.rows_are_at_most_64;
@@ -146,7 +146,7 @@ kept_fit s k = record {
 -- ---- slots
 
 -- a slot that was left as it was is used as a server without requests has it
-pub left_as : (ports found : List ProbeResult) (slots : List PortSlots) (uses : SlotStates) (port slot : ℕ) → probe_result_of found port ≡ probe_result_of ports port → used_for slots port slot ≡ None → IsUnusedOrDead ports uses port slot
+pub left_as : (ports found : List ProbeResult) (slots : List PortSlots) (uses : SlotStates) (port slot : ℕ) → probe_result_of found port ≡ probe_result_of ports port → used_for slots port slot ≡ None → IsUnusedOrIdentifyOfDeadPort ports uses port slot
     → SlotUseAgreesUnlessDead (probe_result_of found port) (used_for slots port slot) (uses port slot)
 left_as ports found list uses port slot same none (inl free) = λ _. free ∙ sym (ap slot_state_of none)
 left_as ports found list uses port slot same none (inr (zero_is, own, dead)) = λ alive. absurd (alive (same ∙ dead))
@@ -174,7 +174,7 @@ none_in_order = record {
 
 -- ---- the whole
 
-module _ (below : PrerequisiteLaws) (laws : TakeOverLaws) (s : ServerState) (host : Host) (d : Device) (is : IsIdle d) (told : TellsDisks d) (taken : TakesOver s.wanted host d s.device) (n : IsNewServer host s) where
+module _ (below : PrerequisiteLaws) (laws : TakeOverLaws) (s : ServerState) (host : Host) (d : Device) (is : IsIdle d) (told : DisksAreKnownIfTelling d) (taken : TakesOver s.wanted host d s.device) (n : IsNewServer host s) where
   ports_as : (port : ℕ) → port < 4 → PortInvariant s.wanted s.probe_results port s.device
   ports_as port low = ports_on laws s host d is taken n.probe_results_are_of_host n.host_has_four_ports below port low
 
@@ -206,12 +206,12 @@ module _ (below : PrerequisiteLaws) (laws : TakeOverLaws) (s : ServerState) (hos
   reached_first = record { initial_machine = first_machine; steps_since = []; is_initial = start; is_legal = tt; leads_to_machine = refl }
 
   uses_are : SlotUsesAgreeUnlessDead s taken.uses
-  uses_are port slot = left_as host.ports s.probe_results s.slots taken.uses port slot (found_as port) (n.no_slot_is_used port slot) (taken.slots_are_unused port slot)
+  uses_are port slot = left_as host.ports s.probe_results s.slots taken.uses port slot (found_as port) (n.no_slot_is_used port slot) (taken.slots_are_unused_or_dead port slot)
 
-  stands_for : (m : Machine) → IsInitial m → KeepsBookAndLoans first_machine m → DriverRelation m (driver_state_of taken.uses (λ port. []) s.device) → MachineRelation s m
+  stands_for : (m : Machine) → IsInitial m → KeepsLoansAndBookOnlyAdvances first_machine m → DriverRelation m (driver_state_of taken.uses (λ port. []) s.device) → MachineRelation s m
   stands_for m begun spares knows = record {
     uses = taken.uses;
-    are_uses_of = uses_are;
+    slot_uses_agree_unless_dead = uses_are;
     awaiting_disposition = λ port. [];
     only_dead_ports_park = λ port alive. refl;
     driver_relation = knows;
@@ -259,7 +259,7 @@ module _ (below : PrerequisiteLaws) (laws : TakeOverLaws) (s : ServerState) (hos
     modes_are_probed = n.modes_are_probed;
     slots_queue_as_asked = λ port slot used e is. absurd (let z : None ≡ Some used = sym (n.no_slot_is_used port.0 slot) ∙ is in cc);
     slots_store_commands = λ port slot used is. absurd (let z : None ≡ Some used = sym (n.no_slot_is_used port slot) ∙ is in cc);
-    plain_stands_alone = λ port slot used is. absurd (let z : None ≡ Some used = sym (n.no_slot_is_used port slot) ∙ is in cc);
+    plain_is_alone_in_slot_0 = λ port slot used is. absurd (let z : None ≡ Some used = sym (n.no_slot_is_used port slot) ∙ is in cc);
     entries_are_well_formed = subst (λ (book : List BookEntry). All (IsWellFormedEntry s.table) book) (sym n.book_is_empty) (All-nil (IsWellFormedEntry s.table));
     book_is_well_formed = subst BookIsWellFormed (sym n.book_is_empty) none_in_order;
     revoked_marks_agree = subst (λ (book : List BookEntry). All (RevokedMarkInvariant s.grants) book) (sym n.book_is_empty) (All-nil (RevokedMarkInvariant s.grants));
@@ -278,7 +278,7 @@ module _ (below : PrerequisiteLaws) (laws : TakeOverLaws) (s : ServerState) (hos
   new_server =
       let x = (followed_adds below taken.followed (λ port slot. Free) (λ port. []) refl).simulates first_machine reached_first (machine_knows below d s.grants (owner_of s.table) start is told) in
       let later : Machine = after first_machine x.0 in
-      let spares : KeepsBookAndLoans first_machine later = below.steps_and_accesses.device_steps_spare_book first_machine x.0 x.3.all_steps_are_devices in
+      let spares : KeepsLoansAndBookOnlyAdvances first_machine later = below.steps_and_accesses.device_steps_spare_book first_machine x.0 x.3.all_steps_are_devices in
       let begun : IsInitial later = start_on first_machine later start spares in
       let stands : MachineRelation s later = stands_for later begun spares x.2 in
       let reached : IsReachable later = below.steps_and_accesses.reachable_stays_reachable first_machine x.0 reached_first x.1 in

@@ -98,5 +98,5 @@ module _ (laws : TakeOverLaws) (s : ServerState) (host : Host) (d : Device) (is 
     ready_engine_runs = λ ready. (running port below ready).0;
     bad_disk_is_shown_if_in = shown_as port (probe_result_of s.probe_results port) refl;
     ready_has_disk_if_shown = own_as port (probe_result_of s.probe_results port) refl;
-    queued_halt_has_taken_command = halts_as port below (probe_result_of s.probe_results port) refl;
+    ready_is_not_log_only_and_halt_is_of_taken = halts_as port below (probe_result_of s.probe_results port) refl;
   }

@@ -18,7 +18,7 @@ use Rattle.ata_types.specs.declared.request.Outcome.TheVariants as outcome
 use Rattle.server_history.proofs.state.ListMembers.{contains_cases, contains_here, contains_there}
 use Rattle.error_recovery.specs.Evidence.{ShowsFatal}
 use Rattle.driver_history.specs.Evidence.{IsEvidenced, IsEvidencedOf, ShowsLinkChange, ShowsFailure}
-use Rattle.driver_history.specs.AccessTrace.{LeavesEngine}
+use Rattle.driver_history.specs.AccessTrace.{WritesNeitherCmdNorSctl}
 use Rattle.server_history.proofs.state.FirstMembers.{nowhere}
 
 -- no item in any list
@@ -180,25 +180,25 @@ module _ (list : List Port) (d : Device) (ports : Ports) (shows : DevicePort →
 
 -- what is told of such a port has that behind it
 pub evidenced_of : (list : List Port) (ask : AbstractCall DeviceStep) (said : AbstractCallResult) (accesses : List Access) (old : JointState Device) (ports : Ports) (new : Device) (port : Port)
-    → (old.abstract.ports.state port ≡ Ready → Contains list port) → All (LeavesEngine port) accesses
+    → (old.abstract.ports.state port ≡ Ready → Contains list port) → All (WritesNeitherCmdNorSctl port) accesses
     → IsEvidencedOf ask said accesses old ports new (told_of list old.device old.abstract.ports) port
 evidenced_of list ask said accesses old ports new port there leaves = record {
-  lost_only = λ here. absurd (nowhere port here);
-  link_changed_all = λ ready loss. is_named list old.device old.abstract.ports shows_loss port (there ready) ready (loss_shows (old.device.port port.0) (⊎_elim (λ change. inl change) (λ out. inr out.0) loss));
-  link_changed_only = λ here.
+  named_lost_may_have_lost_disk = λ here. absurd (nowhere port here);
+  shown_loss_of_ready_is_named = λ ready loss. is_named list old.device old.abstract.ports shows_loss port (there ready) ready (loss_shows (old.device.port port.0) (⊎_elim (λ change. inl change) (λ out. inr out.0) loss));
+  named_link_changed_had_change_or_no_device = λ here.
       let x = named_is list old.device old.abstract.ports shows_loss port here in
       (x.0, ⊎_elim (λ change. inl change) (λ out. inr (inl out)) (unlost (old.device.port port.0) x.1));
-  showing_error_all = λ ready failure. is_named list old.device old.abstract.ports shows_failure port (there ready) ready (failure_shows (old.device.port port.0) failure);
-  showing_error_only = λ here. let x = named_is list old.device old.abstract.ports shows_failure port here in (x.0, inl (unfailed (old.device.port port.0) x.1));
-  showing_fatal_error_all = λ ready fatal. is_named list old.device old.abstract.ports shows_fatal port (there ready) ready (fatal_shows (old.device.port port.0) fatal);
-  showing_fatal_error_only = λ here. let x = named_is list old.device old.abstract.ports shows_fatal port here in (x.0, inl (unfatal (old.device.port port.0) x.1));
+  shown_failure_of_ready_is_named = λ ready failure. is_named list old.device old.abstract.ports shows_failure port (there ready) ready (failure_shows (old.device.port port.0) failure);
+  named_showing_error_had_error = λ here. let x = named_is list old.device old.abstract.ports shows_failure port here in (x.0, inl (unfailed (old.device.port port.0) x.1));
+  shown_fatal_of_ready_is_named = λ ready fatal. is_named list old.device old.abstract.ports shows_fatal port (there ready) ready (fatal_shows (old.device.port port.0) fatal);
+  named_showing_fatal_had_fatal = λ here. let x = named_is list old.device old.abstract.ports shows_fatal port here in (x.0, inl (unfatal (old.device.port port.0) x.1));
   engine_is_left_or_stopped = inl leaves;
-  stopped_only = λ here. absurd (nowhere port here);
+  named_stopped_was_stopped_or_reset = λ here. absurd (nowhere port here);
   stuck_only = λ here. absurd (nowhere port here);
 }
 
 pub evidenced : (ask : AbstractCall DeviceStep) (said : AbstractCallResult) (accesses : List Access) (old : JointState Device) (ports : Ports) (new : Device)
-    → ((port : Port) → old.abstract.ports.state port ≡ Ready → port.0 < 4) → ((port : Port) → All (LeavesEngine port) accesses)
+    → ((port : Port) → old.abstract.ports.state port ≡ Ready → port.0 < 4) → ((port : Port) → All (WritesNeitherCmdNorSctl port) accesses)
     → IsEvidenced ask said accesses old ports new (told_by old.device old.abstract.ports)
 evidenced ask said accesses old ports new low leaves = record {
   faults_are_told = λ told here. absurd (nowhere told here);

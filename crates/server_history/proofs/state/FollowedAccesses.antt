@@ -31,6 +31,6 @@ module _ (laws : PrerequisiteLaws) {May : Access → Type 0} {Fits : SlotStates 
       → NoneWrites May (Px port Ci) → NoneWrites May (Px port Sact) → (uses port.0 0 ≡ Own o → ⊥) → GainsNoMove port.0 o old new
   followed_silent m fits reached knows port o own issues arms none =
       let c = followed.acts_reach (record { slot_states = uses; awaiting_disposition = parked }) m reached knows fits in
-      laws.slots.acts_gain_no_move c.acts (driver_state_of uses parked old) (driver_state_of (next uses) parked new) m port.0 o own reached knows none
+      laws.slots.acts_gain_no_move_without_own_command c.acts (driver_state_of uses parked old) (driver_state_of (next uses) parked new) m port.0 o own reached knows none
       (All-weaker (λ (act : Act). act.state_after.slot_states port.0 ≡ uses port.0) (λ (act : Act). act.state_after.slot_states port.0 0 ≡ Own o → ⊥)
       (λ act same is. none (ap (λ (f : ℕ → SlotState). f 0) (sym same) ∙ is)) c.acts (c.acts_are_such.unwritten_ports_keep_slots port issues arms)) c.acts_are_done

@@ -14,7 +14,7 @@ use Rattle.adapter.specs.declared.access.DeviceStep.{DeviceStep}
 use Rattle.refinement.specs.Fragments.{driver_state_of}
 use Rattle.refinement.specs.Driver.{DriverRelation, TapeBacksSteps}
 use Rattle.refinement.specs.PreservedParts.{SameAdapter}
-use Rattle.refinement.specs.SparedBook.{AllFurther, IsFurther, KeepsBookAndLoans}
+use Rattle.refinement.specs.SparedBook.{AllAsFarOrFurther, IsAsFarOrFurther, KeepsLoansAndBookOnlyAdvances}
 use Rattle.block_machine.specs.Events.{AbstractCall, AbstractCallResult, AllEnabled, AllByDevice, AreStepsOfCall, IssueIsLastOfRequest, AnswersAndWaitsLawful, ResultMatchesSteps, UnansweredKeepSerialAndSize}
 use Rattle.block_machine.specs.Histories.{JointState, JointEvent, IsHistory, IsReachable, joint_state_after}
 use Rattle.block_machine.specs.Expected.{IsValidRow, after}
@@ -26,9 +26,9 @@ use Rattle.dma_frames.specs.FrameTables.{OwnersAndLoans}
 use Rattle.host_boot.specs.TakeOver.{probe_result_of}
 use Rattle.host_boot.specs.declared.ProbeResult.{ProbeResult}
 use Rattle.driver_history.specs.Evidence.{IsEvidenced}
-use Rattle.driver_history.specs.EvidenceHandling.{OnlyFailedPortsRequeueIn}
+use Rattle.driver_history.specs.EvidenceHandling.{OnlyFailedPortsRequeueIfService}
 use Rattle.driver_history.specs.Histories.{IsFirstInstant, ExplainsAccesses, IssuesAllDue, CallCorresponds, PortCorresponds}
-use Rattle.driver_history.specs.AccessTrace.{LeavesEngine}
+use Rattle.driver_history.specs.AccessTrace.{WritesNeitherCmdNorSctl}
 use Rattle.driver_history.specs.PortInvariants.{DriverInvariant}
 use Rattle.server_history.specs.Histories.{LeadsToServer}
 use Rattle.request_queue.specs.BookEntries.{BookEntry, IsWellFormedEntry, BookIsWellFormed}
@@ -44,7 +44,7 @@ use Rattle.server_history.specs.Prerequisites.{PrerequisiteLaws}
 -- ---- the book
 
 -- an entry stands for its request when that goes further
-entry_on : (e : BookEntry) (old new : Pending) → IsFurther old new → EntryRelation e old → EntryRelation e new
+entry_on : (e : BookEntry) (old new : Pending) → IsAsFarOrFurther old new → EntryRelation e old → EntryRelation e new
 entry_on e old new f is = record {
   id = ap (λ r. r.id) f.request ∙ is.id;
   client = ap (λ r. r.asked.client) f.request ∙ is.client;
@@ -59,7 +59,7 @@ entry_on e old new f is = record {
 }
 
 -- a book goes on as its requests go further
-pub book_on : (book : List BookEntry) (olds news : List Pending) → AllFurther olds news → BookRelation book olds → BookRelation book news
+pub book_on : (book : List BookEntry) (olds news : List Pending) → AllAsFarOrFurther olds news → BookRelation book olds → BookRelation book news
 book_on [] [] news further all = subst (AllZip EntryRelation []) (sym further) tt
 book_on [] (old ∷ olds) news further all = absurd all
 book_on (e ∷ es) [] news further all = absurd all
@@ -67,28 +67,28 @@ book_on (e ∷ es) (old ∷ olds) [] further all = absurd further
 book_on (e ∷ es) (old ∷ olds) (new ∷ news) further all = (entry_on e old new further.0 all.0, book_on es olds news further.1 all.1)
 
 -- and so do kept requests, with their loans
-pub still_kept : PrerequisiteLaws → (found : List ProbeResult) (kept : List (List Lending)) (olds news : List Pending) → AllFurther olds news → QuarantineRelation found kept olds → QuarantineRelation found kept news
+pub still_kept : PrerequisiteLaws → (found : List ProbeResult) (kept : List (List Lending)) (olds news : List Pending) → AllAsFarOrFurther olds news → QuarantineRelation found kept olds → QuarantineRelation found kept news
 still_kept laws found kept olds news further are = record {
-  quarantine_ports_are_dead = λ e here. let o = laws.steps_and_accesses.found_before olds news e further here in ap (λ r. probe_result_of found r.port.0) o.2.request ∙ are.quarantine_ports_are_dead o.0 o.1;
+  quarantine_ports_are_dead = λ e here. let o = laws.steps_and_accesses.entry_is_found_in_earlier_book olds news e further here in ap (λ r. probe_result_of found r.port.0) o.2.request ∙ are.quarantine_ports_are_dead o.0 o.1;
   each_request_has_its_loan = λ e here.
-      let o = laws.steps_and_accesses.found_before olds news e further here in
+      let o = laws.steps_and_accesses.entry_is_found_in_earlier_book olds news e further here in
       let l = are.each_request_has_its_loan o.0 o.1 in
       (l.0, subst (λ r. Contains (quarantined_at kept r.port.0) l.0) (sym o.2.request) l.1, (l.2.0 ∙ sym (ap (λ r. r.id) o.2.request), l.2.1 ∙ sym (ap (λ r. r.asked.frames.items) o.2.request)));
   each_loan_has_its_request = λ port loan here.
       let e = are.each_loan_has_its_request port loan here in
-      let n = laws.steps_and_accesses.found_later olds news e.0 further e.1 in
+      let n = laws.steps_and_accesses.entry_is_found_in_later_book olds news e.0 further e.1 in
       (n.0, n.1, ap (λ r. r.port.0) n.2.request ∙ e.2, (e.3.0 ∙ sym (ap (λ r. r.id) n.2.request), e.3.1 ∙ sym (ap (λ r. r.asked.frames.items) n.2.request)));
   loans_differ_in_request = are.loans_differ_in_request;
 }
 
 -- ---- the machine that stands for a server
 
-pub machine_with : PrerequisiteLaws → (s : ServerState) (new : Device) (m later : Machine) → (is : MachineRelation s m) → KeepsBookAndLoans m later
+pub machine_with : PrerequisiteLaws → (s : ServerState) (new : Device) (m later : Machine) → (is : MachineRelation s m) → KeepsLoansAndBookOnlyAdvances m later
     → DriverRelation later (driver_state_of is.uses is.awaiting_disposition new)
     → MachineRelation (record s { device = new }) later
 machine_with laws s new m later is spares knows = record {
   uses = is.uses;
-  are_uses_of = is.are_uses_of;
+  slot_uses_agree_unless_dead = is.slot_uses_agree_unless_dead;
   awaiting_disposition = is.awaiting_disposition;
   only_dead_ports_park = is.only_dead_ports_park;
   driver_relation = knows;
@@ -131,7 +131,7 @@ kept_then s device grants table used_now book last k rows on same behind owners 
   slots_invariant = used;
   slots_queue_as_asked = kinds;
   slots_store_commands = commands;
-  plain_stands_alone = alone;
+  plain_is_alone_in_slot_0 = alone;
   rows_are_valid = rows;
   owned_frames_are_clients = λ frame client own.
       let o = k.owned_frames_are_clients frame client (ap (λ (list : List (Option ClientId)). get_or list frame.0 None) (sym owners) ∙ own) in
@@ -151,7 +151,7 @@ pub kept_on : PrerequisiteLaws → (s : ServerState) (new : Device) → (k : InC
     → ((port : ℕ) → port < 4 → PortInvariant s.wanted s.probe_results port new) → ((port slot : ℕ) (used : SlotUse) → used_for s.slots port slot ≡ Some used → HasStoredCommand used.queued new port slot) → (steps : List Step) → AllEnabled k.machine steps
     → MachineRelation (record s { device = new }) (after k.machine steps) → InCallInvariant (record s { device = new })
 kept_on laws s new k on same behind commands steps may is =
-    kept_then s new s.grants s.table s.slots s.book s.last_id k k.rows_are_valid on same behind refl k.slots_are_of_four_ports k.slots_invariant k.slots_queue_as_asked commands k.plain_stands_alone k.entries_are_well_formed k.book_is_well_formed k.revoked_marks_agree k.ids_were_handed_out k.requests_are_of_ready_ports (after k.machine steps) (laws.steps_and_accesses.reachable_stays_reachable k.machine steps k.reached may) is
+    kept_then s new s.grants s.table s.slots s.book s.last_id k k.rows_are_valid on same behind refl k.slots_are_of_four_ports k.slots_invariant k.slots_queue_as_asked commands k.plain_is_alone_in_slot_0 k.entries_are_well_formed k.book_is_well_formed k.revoked_marks_agree k.ids_were_handed_out k.requests_are_of_ready_ports (after k.machine steps) (laws.steps_and_accesses.reachable_stays_reachable k.machine steps k.reached may) is
 
 -- ---- events
 
@@ -188,7 +188,7 @@ pub lead_with : PrerequisiteLaws → (first : JointState Device) (past : List (J
     → AnswersAndWaitsLawful (joint_state_after first past).abstract evidence (ports_of new) steps
     → UnansweredKeepSerialAndSize (joint_state_after first past).abstract (record { machine = after (joint_state_after first past).abstract.machine steps; ports = ports_of new })
     → ResultMatchesSteps ask said (joint_state_after first past).abstract evidence steps (record { machine = after (joint_state_after first past).abstract.machine steps; ports = ports_of new })
-    → OnlyFailedPortsRequeueIn ask evidence steps
+    → OnlyFailedPortsRequeueIfService ask evidence steps
     → (accesses : List Access) → ExplainsAccesses (joint_state_after first past).abstract ask said accesses s.device new.device
     → IsEvidenced ask said accesses (with_device s.device (joint_state_after first past)) (ports_of new) new.device evidence
     → ((port : Port) → IssuesAllDue ask steps (after (joint_state_after first past).abstract.machine steps) (ports_of new) port)
@@ -203,7 +203,7 @@ lead_with laws first past s new ask said evidence steps wanted_is leads holds fi
   record {
     history = (
       subst (λ wanted. IsHistory (IsFirstInstant wanted) (CallCorresponds wanted) first past) (sym wanted_is) leads.history,
-      record { steps_are_enabled = may; steps_are_of_call = belong; issue_is_last_of_request = last; answers_are_lawful = lawful; ports_are_well_formed = fit; unanswered_keep_disk = disks; result_matches_steps = answered },
+      record { steps_are_enabled = may; steps_are_of_call = belong; issue_is_last_of_request = last; answers_are_lawful = lawful; ports_are_well_formed = fit; unanswered_keep_serial_and_size = disks; result_matches_steps = answered },
       subst (λ (d : Device). CallCorresponds new.wanted (with_device d old) h) (sym leads.state_is_at_history_end.device_is) ties,
     );
     state_is_at_history_end = record { device_is = refl; ports_are = refl; machine_stands_for_it = stands };
@@ -228,7 +228,7 @@ lead_with laws first past s new ask said evidence steps wanted_is leads holds fi
       accesses_are_explained = came;
       is_backed = backed;
       is_evidenced = evidenced;
-      only_failed_requeue = grounded;
+      only_failed_requeue_if_service = grounded;
       issues_all_due = issues;
       ports_correspond = parts;
       invariant_holds = holds later reached stands;
@@ -240,9 +240,9 @@ pub lead_by : PrerequisiteLaws → (first : JointState Device) (past : List (Joi
     → AllEnabled (joint_state_after first past).abstract.machine steps → AreStepsOfCall ask (ports_of new) steps → IssueIsLastOfRequest steps
     → AnswersAndWaitsLawful (joint_state_after first past).abstract no_evidence (ports_of new) steps
     → ResultMatchesSteps ask said (joint_state_after first past).abstract (told_by s.device (joint_state_after first past).abstract.ports) steps (record { machine = after (joint_state_after first past).abstract.machine steps; ports = ports_of new })
-    → OnlyFailedPortsRequeueIn ask (told_by s.device (joint_state_after first past).abstract.ports) steps
+    → OnlyFailedPortsRequeueIfService ask (told_by s.device (joint_state_after first past).abstract.ports) steps
     → (accesses : List Access) → ExplainsAccesses (joint_state_after first past).abstract ask said accesses s.device new.device
-    → ((port : Port) → All (LeavesEngine port) accesses)
+    → ((port : Port) → All (WritesNeitherCmdNorSctl port) accesses)
     → ((port : Port) → IssuesAllDue ask steps (after (joint_state_after first past).abstract.machine steps) (ports_of new) port)
     → ((port : Port) → PortCorresponds (with_device s.device (joint_state_after first past)) (happening (with_device s.device (joint_state_after first past)) new.device ask said steps (ports_of new)) accesses port)
     → TapeBacksSteps s.device new.device (joint_state_after first past).abstract.machine steps

@@ -48,5 +48,5 @@ places laws s port k ready = (none_alive s k port.0 alive (quarantined_at s.kept
     counts =
         same_count port s.book ∙ ap (λ (us : List Unanswered). issued_count us port) (sym (same_book s.book k.machine.book k.machine_relation.book))
         ∙ sym (laws.recovery.serving_slots_are_issued_count k.machine_relation.uses k.machine s.device k.reached k.machine_relation.driver_relation.state_relation port (none_kept s k.machine port k.machine_relation alive) 32
-        (subst (λ (ids : List RequestId). HaveSlotsUnlessParked k.machine_relation.uses k.machine port.0 ids) (k.machine_relation.only_dead_ports_park port.0 alive) (k.machine_relation.driver_relation.have_slots port.0))
+        (subst (λ (ids : List RequestId). HaveSlotsUnlessParked k.machine_relation.uses k.machine port.0 ids) (k.machine_relation.only_dead_ports_park port.0 alive) (k.machine_relation.driver_relation.have_slots_unless_parked port.0))
         (λ slot id serves. let u = used_serves s k.machine port.0 k.machine_relation ready slot id serves in used_small s port.0 slot u.0 k ready u.1))

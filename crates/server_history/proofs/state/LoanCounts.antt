@@ -10,7 +10,7 @@ use Rattle.ata_types.specs.declared.request.Outcome.{Outcome}
 use Rattle.ata_types.specs.declared.request.Outcome.TheVariants as outcome
 use Rattle.ata_types.specs.declared.request.RequestId.{RequestId}
 use Rattle.server_history.proofs.state.ListMembers.{contains_cases}
-use Rattle.request_queue.specs.BookEntries.{BookEntry, all_revoked_under_grant, update_if_id, has_id, is_of_port, revoked_under_grant, requeued_request}
+use Rattle.request_queue.specs.BookEntries.{BookEntry, with_requests_under_grant_revoked, update_if_id, has_id, is_of_port, with_revoked_mark_if_under_grant, requeued_request}
 use Rattle.request_queue.specs.Dispositions.{keeps_loan}
 use Rattle.request_queue.specs.declared.PendingRequest.{PendingRequest}
 use Rattle.server_history.specs.ErrorHandling.{requests_of}
@@ -82,12 +82,12 @@ requeued_issued port id (x ∷ book) =
     by false = le_refl (counts port x)
 
 -- and where requests are marked, as many are
-pub marked_issued : (port : Port) (client : ClientId) (grant : ℕ) (book : List BookEntry) → issued_of port (all_revoked_under_grant client grant book) ≡ issued_of port book
+pub marked_issued : (port : Port) (client : ClientId) (grant : ℕ) (book : List BookEntry) → issued_of port (with_requests_under_grant_revoked client grant book) ≡ issued_of port book
 marked_issued port client grant [] = refl
 marked_issued port client grant (x ∷ book) =
     let rest = marked_issued port client grant book in
     let one = by (is_same_grant_name client grant x.request.client x.request.grant) in
-    let left = issued_first port (record x { request = revoked_under_grant client grant x.request }) (all_revoked_under_grant client grant book) in
+    let left = issued_first port (record x { request = with_revoked_mark_if_under_grant client grant x.request }) (with_requests_under_grant_revoked client grant book) in
     let right = issued_first port x book in
     omega (arith, rest, one, left, right)
   where

@@ -190,7 +190,7 @@ busy_used (Some u) busy = (u, refl)
 module _ (s : ServerState) (m : Machine) (port : ℕ) (is : MachineRelation s m) (ready : state_of (probe_result_of s.probe_results port) ≡ ReadyState) where
   -- a slot of a ready port is used as the server has it
   pub ready_use : (slot : ℕ) → is.uses port slot ≡ slot_state_of (used_for s.slots port slot)
-  ready_use slot = is.are_uses_of port slot (not_dead s port ready)
+  ready_use slot = is.slot_uses_agree_unless_dead port slot (not_dead s port ready)
 
   pub serves_used : (slot : ℕ) (u : SlotUse) → used_for s.slots port slot ≡ Some u → is.uses port slot ≡ Serves u.id
   serves_used slot u used = ready_use slot ∙ ap slot_state_of used
@@ -271,7 +271,7 @@ issued_has s m port is k ready e here own issued = ⊎_elim
     (λ (w : (slot : ℕ) × (is.uses port.0 slot ≡ Serves e.request.id)).
     let x = used_serves s m port.0 is ready w.0 e.request.id w.1 in
     record { slot = w.0; small = used_small s port.0 w.0 x.0 k ready x.1; used = x.0; used_is = x.1; id_is = x.2 })
-    (is.driver_relation.have_slots port.0 e (inl (here, issued)) (ap (λ (p : Port). p.0) own))
+    (is.driver_relation.have_slots_unless_parked port.0 e (inl (here, issued)) (ap (λ (p : Port). p.0) own))
 
 -- ---- a slot is given up
 

@@ -8,7 +8,7 @@ use Rattle.adapter.specs.Device.{Device}
 use Rattle.adapter.specs.Rules.{IsOn}
 use Rattle.adapter.specs.declared.command.Operation.TheVariants.{Identify}
 use Rattle.refinement.specs.Relation.{port_at}
-use Rattle.refinement.specs.Fragments.{IsDrivenBy, SparesOtherPorts, LeavesPort, GainsNoMove}
+use Rattle.refinement.specs.Fragments.{IsDrivenBy, SparesOtherPorts, OnlyDeviceChangesPort, GainsNoMove}
 use Rattle.refinement.specs.Halting.{HaltOfTakenIfSt}
 use Rattle.refinement.specs.PreservedParts.{SameAdapter}
 use Rattle.server_history.proofs.state.DrivenAccesses.{by_one}
@@ -43,7 +43,7 @@ bytes_serve (Reading r v) is = absurd is
 bytes_serve (Writing r v) is = absurd is
 
 -- they leave every port to the device
-pub bytes_leave : PrerequisiteLaws → (access : Access) (old new : Device) → IsOfBytes access → IsOn old → Does access old new → (port : ℕ) → LeavesPort (old.port port) (new.port port)
+pub bytes_leave : PrerequisiteLaws → (access : Access) (old new : Device) → IsOfBytes access → IsOn old → Does access old new → (port : ℕ) → OnlyDeviceChangesPort (old.port port) (new.port port)
 bytes_leave laws access old new is on does port =
     laws.port_event_laws.other_ports_are_left (port_at (suc port)) port old new (λ same. absurd (omega (arith, same))) on
     (by_one (SparesOtherPorts (port_at (suc port))) access old new (bytes_of (port_at (suc port)) access is) does)
@@ -52,7 +52,7 @@ bytes_leave laws access old new is on does port =
 
 -- over accesses that serve ports, where the port is left to the device, unless it is ready, and a halt is of a taken command still
 pub port_on : PrerequisiteLaws → (wanted : List Wanted) (found : List ProbeResult) (port : ℕ) (old new : Device) → SameAdapter old new → IsOn old → IsDrivenBy IsServiceAccess old new
-    → (state_of (probe_result_of found port) ≢ ReadyState → LeavesPort (old.port port) (new.port port))
+    → (state_of (probe_result_of found port) ≢ ReadyState → OnlyDeviceChangesPort (old.port port) (new.port port))
     → (probe_result_of found port ≢ Unready Dead → GainsNoMove port Identify old new) → (HaltOfTakenIfSt (old.port port) → HaltOfTakenIfSt (new.port port)) → PortInvariant wanted found port old → PortInvariant wanted found port new
 port_on laws wanted found port old new same on by left silent halts is =
     record {
@@ -60,10 +60,10 @@ port_on laws wanted found port old new same on by left silent halts is =
       ready_engine_runs = λ ready. runs_on laws (port_at port) old new on by (is.ready_engine_runs ready);
       bad_disk_is_shown_if_in = λ bad. shown_on laws (port_at port) old new on by (is.bad_disk_is_shown_if_in bad);
       ready_has_disk_if_shown = λ ready. laws.recovery.shown_disk_stays_in port by.accesses old new by.all_are_done (is.ready_has_disk_if_shown ready);
-      queued_halt_has_taken_command = λ ready. halts (λ _. is.queued_halt_has_taken_command ready) (runs_on laws (port_at port) old new on by (is.ready_engine_runs ready)).st_is_set;
+      ready_is_not_log_only_and_halt_is_of_taken = λ ready. halts (λ _. is.ready_is_not_log_only_and_halt_is_of_taken ready) (runs_on laws (port_at port) old new on by (is.ready_engine_runs ready)).st_is_set;
     }
   where
-    behind : (f : ProbeResult) → (state_of f ≢ ReadyState → LeavesPort (old.port port) (new.port port)) → (f ≢ Unready Dead → GainsNoMove port Identify old new)
+    behind : (f : ProbeResult) → (state_of f ≢ ReadyState → OnlyDeviceChangesPort (old.port port) (new.port port)) → (f ≢ Unready Dead → GainsNoMove port Identify old new)
         → StillBacksProbeResult (wanted_of wanted port) f port old → StillBacksProbeResult (wanted_of wanted port) f port new
     behind Unserved left silent stays = left_on laws (wanted_of wanted port) Unserved port old new same (left (λ e. let z : Absent ≡ ReadyState = e in cc)) silent stays
     behind (Ready info) left silent stays =

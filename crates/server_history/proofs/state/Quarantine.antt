@@ -5,7 +5,7 @@ use Rattle.std.proofs.lemmas.List.{get_or_default}
 use Rattle.ata_types.specs.declared.PortState.TheVariants.{Dead}
 use Rattle.ata_types.specs.declared.request.Frame.{Frame}
 use Rattle.ata_types.specs.declared.request.RequestId.{RequestId}
-use Rattle.block_machine.specs.Confinement.{WasAccepted, WithinLimits}
+use Rattle.block_machine.specs.Confinement.{WasAccepted, KeepsLimitsAndHoldsOwnFrames}
 use Rattle.block_machine.specs.Histories.{IsReachable}
 use Rattle.block_machine.specs.State.{Machine, Pending}
 use Rattle.block_machine.specs.Steps.{HoldsFrames}
@@ -27,8 +27,8 @@ module _ (laws : FrameHolderLaws) (s : ServerState) (m : Machine) (reached : IsR
   same_request : (a b : Pending) → HoldsFrames m a → HoldsFrames m b → a.request.id ≡ b.request.id → a.request ≡ b.request
   same_request a b left right same = laws.an_id_is_accepted_once reached.initial_machine reached.steps_since a.request b.request (accepted a left) (accepted b right) same
 
-  within : WithinLimits m
-  within = subst WithinLimits (sym reached.leads_to_machine) (laws.legal_histories_stay_in_limits reached.initial_machine reached.steps_since reached.is_initial reached.is_legal)
+  within : KeepsLimitsAndHoldsOwnFrames m
+  within = subst KeepsLimitsAndHoldsOwnFrames (sym reached.leads_to_machine) (laws.legal_histories_stay_in_limits reached.initial_machine reached.steps_since reached.is_initial reached.is_legal)
 
   module _ (port : ℕ) (loan : Lending) (here : Contains (quarantined_at s.kept_loans port) loan) where
     its : (e : Pending) × Contains m.kept e × (e.request.port.0 ≡ port) × (loan.request ≡ e.request.id) × (loan.frames ≡ e.request.asked.frames.items)

@@ -4,7 +4,7 @@ use Rattle.std.proofs.lemmas.Bool.{false≢true}
 use Rattle.ata_types.specs.declared.grant.GrantRow.{GrantRow}
 use Rattle.ata_types.specs.declared.request.ClientId.{ClientId}
 use Rattle.block_machine.specs.Rules.{HasGrantName, is_same_grant_name, without_row}
-use Rattle.request_queue.specs.BookEntries.{BookEntry, revoked_under_grant, waits_under}
+use Rattle.request_queue.specs.BookEntries.{BookEntry, with_revoked_mark_if_under_grant, waits_under}
 use Rattle.request_queue.specs.declared.PendingRequest.{PendingRequest}
 use Rattle.server_history.specs.ServerState.{RevokedMarkInvariant, RevokedMarkAgrees}
 use Rattle.server_history.proofs.state.ListMembers.{filter_in, in_filter}
@@ -17,7 +17,7 @@ module _ (rows : List GrantRow) (client : ClientId) (number : ℕ) where
   row_under : (r : PendingRequest) (row : GrantRow) → HasGrantName r.client r.grant row → is_same_grant_name client number row.client row.number ≡ is_same_grant_name client number r.client r.grant
   row_under r row named = λ i. (named.0 i).0 == client.0 && named.1 i == number
 
-  pub tells_then : (r : PendingRequest) → RevokedMarkAgrees rows r → RevokedMarkAgrees (without_row client number rows) (revoked_under_grant client number r)
+  pub tells_then : (r : PendingRequest) → RevokedMarkAgrees rows r → RevokedMarkAgrees (without_row client number rows) (with_revoked_mark_if_under_grant client number r)
   tells_then r tells = by (is_same_grant_name client number r.client r.grant) refl
     where
       by : (b : Bool) → is_same_grant_name client number r.client r.grant ≡ b → RevokedMarkAgrees (without_row client number rows) (cond b (record r { revoked = true }) r)
@@ -31,12 +31,12 @@ module _ (rows : List GrantRow) (client : ClientId) (number : ℕ) where
       )
 
   -- one that isn't answered, and waits, isn't under it
-  waits_then : (r : PendingRequest) → waits_under client number r ≡ false → (r.issued ≡ false → r.revoked ≡ false) → (revoked_under_grant client number r).issued ≡ false → (revoked_under_grant client number r).revoked ≡ false
+  waits_then : (r : PendingRequest) → waits_under client number r ≡ false → (r.issued ≡ false → r.revoked ≡ false) → (with_revoked_mark_if_under_grant client number r).issued ≡ false → (with_revoked_mark_if_under_grant client number r).revoked ≡ false
   waits_then r left waiting = by (is_same_grant_name client number r.client r.grant) refl
     where
       by : (b : Bool) → is_same_grant_name client number r.client r.grant ≡ b → (cond b (record r { revoked = true }) r).issued ≡ false → (cond b (record r { revoked = true }) r).revoked ≡ false
       by true is waits = absurd (false≢true (sym left ∙ (λ i. not (waits i) && is i)))
       by false is waits = waiting waits
 
-  pub marked_one : (e : BookEntry) → waits_under client number e.request ≡ false → RevokedMarkInvariant rows e → RevokedMarkInvariant (without_row client number rows) (record e { request = revoked_under_grant client number e.request })
+  pub marked_one : (e : BookEntry) → waits_under client number e.request ≡ false → RevokedMarkInvariant rows e → RevokedMarkInvariant (without_row client number rows) (record e { request = with_revoked_mark_if_under_grant client number e.request })
   marked_one e left m = record { revoked_mark_agrees = tells_then e.request m.revoked_mark_agrees; waiting_is_unmarked = waits_then e.request left m.waiting_is_unmarked }

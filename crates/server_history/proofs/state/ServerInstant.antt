@@ -14,7 +14,7 @@ use Rattle.block_machine.specs.DueRequests.{is_plain}
 use Rattle.block_machine.specs.declared.due.QueueMode.{QueueMode}
 use Rattle.block_machine.specs.Histories.{JointState, IsReachable}
 use Rattle.block_machine.specs.State.{Machine, Pending}
-use Rattle.driver_history.specs.PortInvariants.{HasNothingInSlots, ReadySlotsInvariant, PortStateInvariant, DriverInvariantWith, IsFreeOrServes, IsQueuedAsAsked, HasNoUnanswered, EngineRuns, SlotServesUnanswered}
+use Rattle.driver_history.specs.PortInvariants.{HasAllSlotsFreeAndNoneParked, ReadySlotsInvariant, PortStateInvariant, DriverInvariantWith, IsFreeOrServes, IsQueuedAsAsked, HasNoUnanswered, EngineRuns, SlotServesUnanswered}
 use Rattle.host_boot.specs.TakeOver.{FoundUnusableDevice, IsServed as IsServedPort, StillBacksProbeResult, probe_result_of, wanted_of}
 use Rattle.host_boot.specs.declared.ProbeResult.{ProbeResult}
 use Rattle.host_boot.specs.declared.ProbeResult.TheVariants.{Unserved, Ready, Unready}
@@ -56,10 +56,10 @@ module _ (s : ServerState) (k : InCallInvariant s) (m : Machine) (reached : IsRe
     alive f e other dead = other (sym e ∙ dead)
 
     -- a port that isn't ready uses no slot
-    nothing : (f : ProbeResult) → probe_result_of s.probe_results port.0 ≡ f → usable_slots_of f (mode_at s.modes port.0) ≡ 0 → f ≢ Unready Dead → HasNothingInSlots slots port.0
+    nothing : (f : ProbeResult) → probe_result_of s.probe_results port.0 ≡ f → usable_slots_of f (mode_at s.modes port.0) ≡ 0 → f ≢ Unready Dead → HasAllSlotsFreeAndNoneParked slots port.0
     nothing f e none other = record {
       all_are_free = λ slot.
-          is.are_uses_of port.0 slot (alive f e other)
+          is.slot_uses_agree_unless_dead port.0 slot (alive f e other)
           ∙ ap slot_state_of ((k.slots_invariant port.0 low).unusable_are_unused slot (subst (λ (n : ℕ). n ≤ slot) (sym (ap (λ (x : ProbeResult). usable_slots_of x (mode_at s.modes port.0)) e ∙ none)) (omega arith)));
       none_is_parked = is.only_dead_ports_park port.0 (alive f e other);
     }
@@ -107,14 +107,14 @@ module _ (s : ServerState) (k : InCallInvariant s) (m : Machine) (reached : IsRe
           x = serving slot e serves
 
           a : IsLoneSlot0 s.slots port.0 slot
-          a = k.plain_stands_alone port.0 slot x.0 x.1 (kind_is slot e serves x.0 x.1 ∙ ap not plain)
+          a = k.plain_is_alone_in_slot_0 port.0 slot x.0 x.1 (kind_is slot e serves x.0 x.1 ∙ ap not plain)
 
       requests : ReadySlotsInvariant slots instant port mode
       requests = record {
         slots_serve_clients = λ slot. subst IsFreeOrServes (sym (ready_use s m port.0 is ready slot)) (clients (used_for s.slots port.0 slot));
         unusable_are_free = unused;
         none_is_parked = is.only_dead_ports_park port.0 (not_dead s port.0 ready);
-        commands_are_as_asked = kind;
+        unended_commands_are_queued_as_asked = kind;
         plain_is_alone = alone;
       }
 

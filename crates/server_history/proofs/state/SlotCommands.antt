@@ -76,7 +76,7 @@ module _ (laws : PrerequisiteLaws) (s : ServerState) (k : InCallInvariant s) (m 
         h = issued_has s m (port_at port) is k ready says.pending booked.0 (ap (λ (n : ℕ). port_at n) says.port_is) booked.1
 
         a : IsLoneSlot0 s.slots port slot
-        a = k.plain_stands_alone port slot used its plain
+        a = k.plain_is_alone_in_slot_0 port slot used its plain
 
         by : (h.slot ≡ 0) ⊎ (h.slot ≢ 0) → h.used.id ≡ used.id
         by (inl head) =

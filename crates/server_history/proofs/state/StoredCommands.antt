@@ -13,7 +13,7 @@ use Rattle.hba_regs.specs.declared.reg.Reg.TheVariants.{Px}
 use Rattle.adapter.specs.Access.{Access}
 use Rattle.adapter.specs.Access.Access.{Storing, Writing}
 use Rattle.refinement.specs.PreservedParts.{DoesNotWrite}
-use Rattle.refinement.specs.MemoryLayout.{IsHeaderOrTableByte}
+use Rattle.refinement.specs.MemoryLayout.{IsTableOrHeaderByteButPrdbc}
 use Rattle.refinement.specs.ReadySlots.{KeepsStoredCommand}
 use Rattle.command_table.specs.TableStores.{IsBlockStore, IsHeaderTableOrBlockStore, IsHeaderOrTableStore}
 use Rattle.commands.specs.Batches.{IsBatchAccess, IsStoreForBatch, PlacedTask, StoresThenWritesAll}
@@ -32,7 +32,7 @@ IsWithin port slot place =
     ((DRIVER_BYTES_PER_PORT * port + 32 * slot ≤ place) × (place < DRIVER_BYTES_PER_PORT * port + 32 * slot + 32))
     ⊎ ((DRIVER_BYTES_PER_PORT * port + TABLES_OFFSET + TABLE_BYTES * slot ≤ place) × (place < DRIVER_BYTES_PER_PORT * port + TABLES_OFFSET + TABLE_BYTES * slot + TABLE_BYTES))
 
-pub of_table : (port slot place : ℕ) → IsHeaderOrTableByte port slot place → IsWithin port slot place
+pub of_table : (port slot place : ℕ) → IsTableOrHeaderByteButPrdbc port slot place → IsWithin port slot place
 of_table port slot place (inl t) = inl (omega (arith, t.0), omega (arith, t.1))
 of_table port slot place (inr (inl t)) = inl (omega (arith, t.0), omega (arith, t.1))
 of_table port slot place (inr (inr t)) = inr (omega (arith, t.0), omega (arith, t.1))
@@ -66,9 +66,9 @@ never_both port slot other k place a b c d apart x y = ⊎_elim
 
 -- an access that serves ports leaves what is stored for a slot, if its store misses header and table
 pub service_leaves_stored : PrerequisiteLaws → (other : Port) (k : ℕ) (access : Access) → IsServiceAccess access
-    → ((at : ℕ) (bytes : List ℕ) (place : ℕ) → access ≡ Storing at bytes → IsHeaderOrTableByte other.0 k place → at ≤ place → place < at + length bytes → ⊥) → KeepsStoredCommand other k access
+    → ((at : ℕ) (bytes : List ℕ) (place : ℕ) → access ≡ Storing at bytes → IsTableOrHeaderByteButPrdbc other.0 k place → at ≤ place → place < at + length bytes → ⊥) → KeepsStoredCommand other k access
 service_leaves_stored laws other k access is misses = record {
-  ghc_is_not_written = laws.look_laws.services_spare_host access is;
+  ghc_is_not_written = laws.look_laws.services_do_not_write_ghc access is;
   st_is_not_cleared = λ v e. absurd (subst (DoesNotWrite (Px other Cmd)) e (laws.look_laws.services_spare_other_registers other Cmd (λ e. cc) (λ e. cc) (λ e. cc) access is) refl);
   clb_is_not_written = laws.look_laws.services_spare_other_registers other Clb (λ e. cc) (λ e. cc) (λ e. cc) access is;
   table_is_not_stored_to = λ at bytes e place t from to. misses at bytes place e t from to;

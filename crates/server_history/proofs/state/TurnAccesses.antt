@@ -22,7 +22,7 @@ use Rattle.refinement.specs.PortFacts.{RunsWell, Undisturbed}
 use Rattle.command_table.specs.TableStores.{IsHeaderTableOrBlockStore, IsHeaderOrTableStore}
 use Rattle.driver_history.specs.Histories.{IsIssuingAccess}
 use Rattle.commands.specs.Batches.{IsBatchAccess}
-use Rattle.driver_history.specs.AccessTrace.{StaysInDriverFrames, DoesNotWriteCmd, LeavesEngine, ReadsMasksBeforeCmdWrite}
+use Rattle.driver_history.specs.AccessTrace.{StaysInDriverFrames, DoesNotWriteCmd, WritesNeitherCmdNorSctl, ReadsMasksBeforeCmdWrite}
 use Rattle.server_history.specs.Prerequisites.{PrerequisiteLaws}
 use Rattle.server_history.specs.IssuingAndAnswering.{PollsSlots, IsEmptyMask, PollsInTurnWithoutEvent, IsMaskOf, is_used}
 use Rattle.slots.specs.SlotUses.{PortSlots, use_at}
@@ -71,13 +71,13 @@ issuing_turns laws port low access here = (issuing_serves port access here, (own
     own (Loading at bytes) on = absurd on
 
 -- what serves ports writes neither PxCMD nor PxSCTL, nor GHC
-service_leaves : PrerequisiteLaws → (port : Port) (access : Access) → IsServiceAccess access → LeavesEngine port access
+service_leaves : PrerequisiteLaws → (port : Port) (access : Access) → IsServiceAccess access → WritesNeitherCmdNorSctl port access
 service_leaves laws port access here = (laws.look_laws.services_spare_other_registers port Cmd (λ e. cc) (λ e. cc) (λ e. cc) access here, laws.look_laws.services_spare_other_registers port Sctl (λ e. cc) (λ e. cc) (λ e. cc) access here)
 
-pub issuing_leaves : PrerequisiteLaws → (port other : Port) (access : Access) → IsBatchAccess port access → LeavesEngine other access
+pub issuing_leaves : PrerequisiteLaws → (port other : Port) (access : Access) → IsBatchAccess port access → WritesNeitherCmdNorSctl other access
 issuing_leaves laws port other access here = service_leaves laws other access (issuing_serves port access here)
 
-pub turn_leaves : PrerequisiteLaws → (port other : Port) (access : Access) → IsTurn port access → LeavesEngine other access
+pub turn_leaves : PrerequisiteLaws → (port other : Port) (access : Access) → IsTurn port access → WritesNeitherCmdNorSctl other access
 turn_leaves laws port other access here = service_leaves laws other access here.0
 
 -- ---- a port's turn
@@ -128,7 +128,7 @@ module _ (port : Port) where
     pub driven : IsDrivenBy (IsTurn port) old new
     pub of : All (SparesOtherPorts port) driven.accesses
     pub own : All StaysInDriverFrames driven.accesses
-    pub leaves : All (LeavesEngine port) driven.accesses
+    pub leaves : All (WritesNeitherCmdNorSctl port) driven.accesses
     pub no_disturbance : IsOn old → RunsWell (old.port port.0) → Undisturbed port.0 old new → t.look ≡ NoEvent
     pub masks : t.look ≡ NoEvent → IsBusy slots → (mask : ℕ) × IsMaskOf slots mask × ((c : PollsSlots port slots mask replies t.device_after_look new) × ReadsMasksBeforeCmdWrite port c.reads.issued c.reads.active driven.accesses)
 
@@ -139,8 +139,8 @@ module _ (port : Port) where
     own_all : (driven : IsDrivenBy (IsTurn port) old new) → All StaysInDriverFrames driven.accesses
     own_all driven = All-weaker (IsTurn port) StaysInDriverFrames (λ access is. is.1.0) driven.accesses driven.accesses_are_of_kind
 
-    leaves_all : (driven : IsDrivenBy (IsTurn port) old new) → All (LeavesEngine port) driven.accesses
-    leaves_all driven = All-weaker (IsTurn port) (LeavesEngine port) (turn_leaves laws port port) driven.accesses driven.accesses_are_of_kind
+    leaves_all : (driven : IsDrivenBy (IsTurn port) old new) → All (WritesNeitherCmdNorSctl port) driven.accesses
+    leaves_all driven = All-weaker (IsTurn port) (WritesNeitherCmdNorSctl port) (turn_leaves laws port port) driven.accesses driven.accesses_are_of_kind
 
     -- it was looked at, and that was all
     looked : (replies ≡ []) × (new ≡ t.device_after_look) → (t.look ≡ NoEvent → IsBusy slots → ⊥) → TurnList slots replies old new t
@@ -149,7 +149,7 @@ module _ (port : Port) where
       of = of_all driven;
       own = own_all driven;
       leaves = leaves_all driven;
-      no_disturbance = λ on well undisturbed. (laws.look_laws.well_port_shows_no_event port t.look old t.device_after_look on t.takes_event well (subst (Undisturbed port.0 old) stop.1 undisturbed)).0;
+      no_disturbance = λ on well undisturbed. (laws.look_laws.undisturbed_well_port_shows_no_event port t.look old t.device_after_look on t.takes_event well (subst (Undisturbed port.0 old) stop.1 undisturbed)).0;
       masks = λ is busy. absurd (never is busy);
     }
       where

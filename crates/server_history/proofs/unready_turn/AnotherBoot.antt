@@ -17,7 +17,7 @@ use Rattle.refinement.specs.Acts.{DriverSlots}
 use Rattle.refinement.specs.Fragments.{SomeMachineAgreesWith, AnySlotStates, IsSimulated, SparesOtherPorts, GainsNoMove}
 use Rattle.block_machine.specs.Ports.{IsStoppedOrStuck, IsServiced}
 use Rattle.driver_history.specs.AccessTrace.{StaysInDriverFrames}
-use Rattle.error_recovery.specs.Recovery.{EndsAsNext, StopsForReset, IsRecoveryAccess}
+use Rattle.error_recovery.specs.Recovery.{EndsAsNext, StopsOrSticksForReset, IsRecoveryAccess}
 use Rattle.error_recovery.specs.declared.Next.{Next}
 use Rattle.error_recovery.specs.declared.Next.TheVariants as next
 use Rattle.error_recovery.specs.declared.Recovered.{Recovered}
@@ -26,7 +26,7 @@ use Rattle.host_boot.specs.declared.ProbeResult.{ProbeResult}
 use Rattle.host_boot.specs.declared.ProbeResult.TheVariants.{Ready, Unready, Unserved}
 use Rattle.identify.specs.declared.DiskInfo.{DiskInfo}
 use Rattle.identify.specs.declared.wanted.Wanted.{Wanted}
-use Rattle.port_boot.specs.States.{IsBootable}
+use Rattle.port_boot.specs.States.{IsOnWithPortMemoryAndFreeSlots}
 use Rattle.port_control.specs.Ports.{IsStopped}
 use Rattle.port_control.specs.declared.Stopped.{Stopped}
 use Rattle.port_control.specs.PortEvents.{IsEventAccess}
@@ -34,7 +34,7 @@ use Rattle.server_history.specs.Prerequisites.{PrerequisiteLaws}
 use Rattle.server_history.specs.ErrorHandling.{IsFoundAfterError}
 use Rattle.server_history.specs.ServerState.{InCallInvariant, ServerState, last_disk_in, last_disk_of, is_served, no_slots, plain_mode, ports_of, remembered_at, last_sectors_of, last_serial_of, state_of}
 use Rattle.server_history.specs.Probing.{BootsUnreadyPort, IsFoundAfterStop}
-use Rattle.server_history.specs.Turns.{LeavesOthers}
+use Rattle.server_history.specs.Turns.{LeavesOtherPortsGrantsAndLastId}
 use Rattle.port_control.specs.declared.events.PortError.TheVariants.{TimedOut}
 use Rattle.server_history.proofs.recovery_turn.MendedPort.{dead_is, disk_is, found_served}
 use Rattle.server_history.proofs.recovery_turn.OtherPorts.{Passes, PassesTo, after_passes, look_passes, passes_none, recovery_passes, slots_of}
@@ -86,12 +86,12 @@ module _ (laws : PrerequisiteLaws) (s : ServerState) (seen : Device) (port : Por
     ((slots_of s k).slot_states, tt, record { machine = passed.machine; parked = (slots_of s k).awaiting_disposition; reached = passed.reached; driver_relation = passed.driver_relation }),
   )
 
-  module _ (stopped : Device) (result : Recovered) (g : StopsForReset port 0 true result seen stopped) where
+  module _ (stopped : Device) (result : Recovered) (g : StopsOrSticksForReset port 0 true result seen stopped) where
     done : PassesTo laws s port k low result.next stopped
     done = recovery_passes laws s port k low (slots_of s k) seen passed 0 true result stopped g.handling
 
     -- and where it has stopped then, it may be booted
-    pub may_boot : (token : Stopped) → result.next ≡ next.Restart token → (token.port ≡ port) × IsBootable port stopped × IsStopped (stopped.port port.0)
+    pub may_boot : (token : Stopped) → result.next ≡ next.Restart token → (token.port ≡ port) × IsOnWithPortMemoryAndFreeSlots port stopped × IsStopped (stopped.port port.0)
     may_boot token so =
         let ends : EndsAsNext true port (next.Restart token) seen stopped = subst (λ (n : Next). EndsAsNext true port n seen stopped) so g.handling.leaves.ends_as_next in
         let same = same_over laws port s.device stopped done.1.driven in (
@@ -148,7 +148,7 @@ interrupted wanted port next.Dead old new found is = inr (stuck_all port found i
 
 module _ (laws : PrerequisiteLaws) (s new : ServerState) (seen : Device) (port : Port) (state : PortState) (k : InCallInvariant s) (is : probe_result_of s.probe_results port.0 ≡ Unready state) (lives : state ≢ DeadState)
     (looks : IsSimulated (IsEventAccess port) AnySlotStates s.device seen) (b : BootsUnreadyPort port (record s { device = seen }) new) where
-  abbrev g : StopsForReset port 0 true b.probes_anew.result seen b.probes_anew.stopped
+  abbrev g : StopsOrSticksForReset port 0 true b.probes_anew.result seen b.probes_anew.stopped
   g = b.probes_anew.stops_for_reset
 
   abbrev part : List Access
@@ -202,7 +202,7 @@ module _ (laws : PrerequisiteLaws) (s new : ServerState) (seen : Device) (port :
   found_then = get_or-set_same s.probe_results port.0 b.found Unserved listed
 
   -- a dead port's engine was awaited in vain
-  counted : b.found ≡ Unready DeadState → (new.device.port port.0).notes.engine_count ≡ MOST_READINGS
+  counted : b.found ≡ Unready DeadState → (new.device.port port.0).notes.engine_wait_count ≡ MOST_READINGS
   counted dead = (subst (λ (f : ProbeResult). StillBacksProbeResult wanted f port.0 new.device) dead its_stand.behind).1.1
 
   -- ---- the accesses
@@ -243,8 +243,8 @@ module _ (laws : PrerequisiteLaws) (s new : ServerState) (seen : Device) (port :
     λ _. (
       record {
         served_is_unchanged = ap is_served found_then ∙ found_served wanted port TimedOut no_disk b.probes_anew.result.next b.probes_anew.stopped new.device b.found after_it ∙ sym (ap is_served is);
-        dead_is_stuck = (λ dead. stuck_all port b.found (dead_is b.found (sym (ap state_of found_then) ∙ dead)), λ here. ap state_of found_then ∙ ap state_of (stuck_only port b.found here));
-        disk_is_remembered = λ other. (ap last_serial_of (same_disk other), ap last_sectors_of (same_disk other));
+        dead_exactly_if_stuck = (λ dead. stuck_all port b.found (dead_is b.found (sym (ap state_of found_then) ∙ dead)), λ here. ap state_of found_then ∙ ap state_of (stuck_only port b.found here));
+        disk_is_remembered_unless_ready = λ other. (ap last_serial_of (same_disk other), ap last_sectors_of (same_disk other));
       },
       inr (interrupted wanted port b.probes_anew.result.next b.probes_anew.stopped new.device b.found b.probes_anew.is_probed_anew),
     ),
@@ -270,7 +270,7 @@ module _ (laws : PrerequisiteLaws) (s new : ServerState) (seen : Device) (port :
 
   -- ---- the other ports
 
-  pub others : LeavesOthers port s then_is
+  pub others : LeavesOtherPortsGrantsAndLastId port s then_is
   others = record {
     grants = refl;
     wanted = refl;

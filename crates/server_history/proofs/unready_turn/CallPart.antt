@@ -16,7 +16,7 @@ use Rattle.refinement.specs.Relation.{port_at}
 use Rattle.refinement.specs.Fragments.{AnySlotStates, IsDrivenBy, IsSimulated, SparesOtherPorts}
 use Rattle.refinement.specs.Driver.{TapeBacksSteps}
 use Rattle.refinement.specs.Slots.{Free, Serves}
-use Rattle.refinement.specs.SparedBook.{KeepsBookAndLoans}
+use Rattle.refinement.specs.SparedBook.{KeepsLoansAndBookOnlyAdvances}
 use Rattle.block_machine.specs.DueRequests.{NoneDue}
 use Rattle.block_machine.specs.Events.{AllByDevice, AllEnabled, ShownDiskWasInOrCame, ShowsDisk, changes_disk}
 use Rattle.block_machine.specs.Histories.{IsReachable}
@@ -24,7 +24,7 @@ use Rattle.block_machine.specs.Expected.{after}
 use Rattle.block_machine.specs.State.{Machine, Pending}
 use Rattle.block_machine.specs.Steps.{Step}
 use Rattle.block_machine.specs.declared.due.QueueMode.{QueueMode}
-use Rattle.driver_history.specs.AccessTrace.{StaysInDriverFrames, LeavesEngine}
+use Rattle.driver_history.specs.AccessTrace.{StaysInDriverFrames, WritesNeitherCmdNorSctl}
 use Rattle.error_recovery.specs.declared.Next.{Next}
 use Rattle.error_recovery.specs.declared.Next.TheVariants as next
 use Rattle.host_boot.specs.TakeOver.{StillBacksProbeResult, probe_result_of, wanted_of}
@@ -96,14 +96,14 @@ module _ (laws : PrerequisiteLaws) (s new : ServerState) (seen : Device) (port :
     abbrev w : Machine
     w = after n p.passes.steps
 
-    spares : KeepsBookAndLoans n w
+    spares : KeepsLoansAndBookOnlyAdvances n w
     spares = laws.steps_and_accesses.device_steps_spare_book n p.passes.steps p.passes.only
 
     -- no slot of it served a request, and none was parked
     none_served : (slot : ℕ) (id : RequestId) → at.uses port.0 slot ≡ Serves id → ⊥
     none_served slot id serves =
         let none = (k.slots_invariant port.0 small).unusable_are_unused slot (subst (λ (f : ProbeResult). usable_slots_of f (mode_at s.modes port.0) ≤ slot) (sym is) (omega arith)) in
-        let z : Free ≡ Serves id = sym (ap slot_state_of none) ∙ sym (at.are_uses_of port.0 slot alive) ∙ serves in absurd cc
+        let z : Free ≡ Serves id = sym (ap slot_state_of none) ∙ sym (at.slot_uses_agree_unless_dead port.0 slot alive) ∙ serves in absurd cc
 
     unparked : (q : ℕ) → probe_result_of then.probe_results q ≢ Unready DeadState → p.slots.awaiting_disposition q ≡ []
     unparked q other = ⊎_elim
@@ -125,8 +125,8 @@ module _ (laws : PrerequisiteLaws) (s new : ServerState) (seen : Device) (port :
     stands : MachineRelation then w
     stands = record {
       uses = p.slots.slot_states;
-      are_uses_of = uses_then port.0 b.probes_anew.result.next b.found s.probe_results s.slots b.slots (record { slot_states = at.uses; awaiting_disposition = at.awaiting_disposition }) p.slots (listed laws s new seen port state k is lives looks b)
-          (let four = k.slots_are_of_four_ports in let l = small in omega (arith, four, l)) b.has_no_used_slot.all_slots_are_free p.left at.are_uses_of;
+      slot_uses_agree_unless_dead = uses_then port.0 b.probes_anew.result.next b.found s.probe_results s.slots b.slots (record { slot_states = at.uses; awaiting_disposition = at.awaiting_disposition }) p.slots (listed laws s new seen port state k is lives looks b)
+          (let four = k.slots_are_of_four_ports in let l = small in omega (arith, four, l)) b.has_no_used_slot.all_slots_are_free p.left at.slot_uses_agree_unless_dead;
       awaiting_disposition = p.slots.awaiting_disposition;
       only_dead_ports_park = unparked;
       driver_relation = p.passes.driver_relation;
@@ -156,7 +156,7 @@ module _ (laws : PrerequisiteLaws) (s new : ServerState) (seen : Device) (port :
 
     backed : TapeBacksSteps s.device new.device m steps
     unfolding steps
-    backed = laws.backed_parts s.device seen new.device m looked.0 p.passes.steps looked.3 p.passes.backed
+    backed = laws.backed_parts_join s.device seen new.device m looked.0 p.passes.steps looked.3 p.passes.backed
 
     devices : AllByDevice steps
     unfolding steps
@@ -204,7 +204,7 @@ module _ (laws : PrerequisiteLaws) (s new : ServerState) (seen : Device) (port :
         accesses_are_of_port = All-weaker (IsPart port) (SparesOtherPorts port) (λ access x. x.1) _ its;
         accesses_are_drivers_own = All-weaker (IsPart port) StaysInDriverFrames (λ access x. x.0) _ its;
         leaves_others = others laws s new seen port state k is lives looks b;
-        others_get_no_log = silent laws s new seen port state k is lives looks b;
+        others_get_no_log_unless_dead = silent laws s new seen port state k is lives looks b;
         simulates_turn = λ m reached stood. makes_try laws port s k (unready laws s new seen port state k is lives looks b) then settled_then (stopped_of port b.probes_anew.result.next) (stuck_if port b.found) _ (tells laws s new seen port state k is lives looks b) (boot_does laws s new seen port state k is lives looks b) m stood
             (adds m reached stood);
       }
@@ -215,7 +215,7 @@ module _ (laws : PrerequisiteLaws) (s new : ServerState) (seen : Device) (port :
 -- ---- it was looked at, and that is all
 
 -- a look leaves the engine of each port
-leaving : (port q : Port) (access : Access) → IsEventAccess port access → LeavesEngine q access
+leaving : (port q : Port) (access : Access) → IsEventAccess port access → WritesNeitherCmdNorSctl q access
 leaving port q access its = (looking_spares port q Cmd (λ e. let z : Is ≡ Cmd = e in cc) access its, looking_spares port q Sctl (λ e. let z : Is ≡ Sctl = e in cc) access its)
 
 module _ (laws : PrerequisiteLaws) (s : ServerState) (seen : Device) (port : Port) (state : PortState) (t : SettledInvariant s) (is : probe_result_of s.probe_results port.0 ≡ Unready state) (looks : IsSimulated (IsEventAccess port) AnySlotStates s.device seen) where
@@ -231,9 +231,9 @@ module _ (laws : PrerequisiteLaws) (s : ServerState) (seen : Device) (port : Por
     its_stuck = All-nil (λ q. q ≡ port);
     becomes = (
       λ dead. (refl, refl, refl, refl, refl, refl),
-      λ alive. (record { served_is_unchanged = refl; dead_is_stuck = (λ dead. absurd (alive dead), λ here. absurd (nowhere port here)); disk_is_remembered = λ other. (refl, refl) }, inl (refl, refl, refl, refl, refl, refl)),
+      λ alive. (record { served_is_unchanged = refl; dead_exactly_if_stuck = (λ dead. absurd (alive dead), λ here. absurd (nowhere port here)); disk_is_remembered_unless_ready = λ other. (refl, refl) }, inl (refl, refl, refl, refl, refl, refl)),
     );
-    engine = inl (All-weaker (IsEventAccess port) (LeavesEngine port) (leaving port port) looks.is_driven.accesses looks.is_driven.accesses_are_of_kind);
+    engine = inl (All-weaker (IsEventAccess port) (WritesNeitherCmdNorSctl port) (leaving port port) looks.is_driven.accesses looks.is_driven.accesses_are_of_kind);
     stops = λ here. absurd (nowhere port here);
     sticks = λ here. absurd (nowhere port here);
   }
@@ -255,7 +255,7 @@ module _ (laws : PrerequisiteLaws) (s : ServerState) (seen : Device) (port : Por
           ready_engine_runs = λ ready. absurd (never ready);
           bad_disk_is_shown_if_in = λ bad. shown_on laws port s.device seen t.in_call_invariant.adapter_is_on serves (was.bad_disk_is_shown_if_in bad);
           ready_has_disk_if_shown = λ ready. absurd (never ready);
-          queued_halt_has_taken_command = λ ready. absurd (never ready);
+          ready_is_not_log_only_and_halt_is_of_taken = λ ready. absurd (never ready);
         }
 
     other_port : (q : ℕ) → q < 4 → q ≢ port.0 → PortInvariant s.wanted s.probe_results q seen
@@ -284,7 +284,7 @@ module _ (laws : PrerequisiteLaws) (s : ServerState) (seen : Device) (port : Por
         accesses_are_of_port = All-weaker (IsEventAccess port) (SparesOtherPorts port) (laws.look_laws.look_access_is_of_port port) looks.is_driven.accesses looks.is_driven.accesses_are_of_kind;
         accesses_are_drivers_own = All-weaker (IsEventAccess port) StaysInDriverFrames (λ access its. (looking_part laws port access its).0) looks.is_driven.accesses looks.is_driven.accesses_are_of_kind;
         leaves_others = record { grants = refl; wanted = refl; last_id = refl; other_probe_results_are_same = λ q ne. refl; other_remembered_are_same = λ q ne. refl; other_modes_are_same = λ q ne. refl; other_slots_are_same = λ q ne. refl; others_requests_are_same = λ q ne. refl };
-        others_get_no_log = λ q other alive. looking_silent s seen port t.in_call_invariant laws looks q ReadLog refl (λ dead. alive (ap state_of dead));
+        others_get_no_log_unless_dead = λ q other alive. looking_silent s seen port t.in_call_invariant laws looks q ReadLog refl (λ dead. alive (ap state_of dead));
         simulates_turn = λ m reached stood.
             let x = followed_steps laws s seen (looks_serve laws port s.device seen looks) m reached stood in
             makes_try laws port s t.in_call_invariant never rest rests_settled [] [] looks.is_driven.accesses rests_told (rests_does s port state t.in_call_invariant is laws seen result l none looks.is_driven.accesses looks.is_driven.accesses_are_of_kind looks.is_driven.all_are_done) m stood

@@ -15,7 +15,7 @@ use Rattle.adapter.specs.KeptBySteps.{KeepsControlsFlagsRise, PortBitsOnlyFall}
 use Rattle.adapter.specs.Rules.{IsOn}
 use Rattle.adapter.specs.RegisterEffects.{PortRegisterRead}
 use Rattle.adapter.specs.declared.command.Operation.TheVariants.{Identify}
-use Rattle.refinement.specs.Fragments.{LeavesPort, GainsNoMove}
+use Rattle.refinement.specs.Fragments.{OnlyDeviceChangesPort, GainsNoMove}
 use Rattle.refinement.specs.PreservedParts.{SameAdapter}
 use Rattle.host_boot.specs.TakeOver.{StillBacksProbeResult}
 use Rattle.host_boot.specs.declared.ProbeResult.TheVariants.{Unready}
@@ -23,7 +23,7 @@ use Rattle.identify.specs.Wanted.{serial_of}
 use Rattle.identify.specs.declared.wanted.Wanted.{Wanted}
 use Rattle.port_boot.specs.States.{BacksState, HasLastIdentifyPage, IsUnfit}
 use Rattle.port_control.specs.Ports.{IsStopped, SawDevice}
-use Rattle.port_control.specs.DeviceChecks.{ChecksForChange}
+use Rattle.port_control.specs.DeviceChecks.{ChecksForChangeOrNoDevice}
 use Rattle.server_history.specs.Prerequisites.{PrerequisiteLaws}
 use Rattle.server_history.specs.Probing.{FindsReasonToBoot}
 use Rattle.server_history.proofs.state.PortGrounds.{left_on}
@@ -53,9 +53,9 @@ abbrev noted_before : Device → Device → Device
 noted_before old new = record new { port = λ q. record (new.port q) { notes = (old.port q).notes } }
 
 -- a port is left to the device, but for what was noted
-but_notes : (noted : Notes) (old new : DevicePort) → PortBitsOnlyFall old new → KeepsControlsFlagsRise old new → LeavesPort (record old { notes = noted }) (record new { notes = noted })
+but_notes : (noted : Notes) (old new : DevicePort) → PortBitsOnlyFall old new → KeepsControlsFlagsRise old new → OnlyDeviceChangesPort (record old { notes = noted }) (record new { notes = noted })
 but_notes noted old new k c = record {
-  port_is_kept_by_device = record { bases_are_kept = k.bases_are_kept; st_stays_clear = k.st_stays_clear; fre_stays_clear = k.fre_stays_clear; cr_stays_clear = k.cr_stays_clear; fr_stays_clear = k.fr_stays_clear; ci_stays_clear = k.ci_stays_clear; sact_stays_clear = k.sact_stays_clear; stays_without_commands = k.stays_without_commands; fall_drops_commands = k.fall_drops_commands; slots_stay_free = k.slots_stay_free };
+  bits_only_fall = record { bases_are_kept = k.bases_are_kept; st_stays_clear = k.st_stays_clear; fre_stays_clear = k.fre_stays_clear; cr_stays_clear = k.cr_stays_clear; fr_stays_clear = k.fr_stays_clear; ci_stays_clear = k.ci_stays_clear; sact_stays_clear = k.sact_stays_clear; none_stays_taken_while_cr_is_clear = k.none_stays_taken_while_cr_is_clear; cr_fall_drops_taken_commands = k.cr_fall_drops_taken_commands; slots_stay_free = k.slots_stay_free };
   controls = record { st_is_kept = c.st_is_kept; fre_is_kept = c.fre_is_kept; sctl_det_is_kept = c.sctl_det_is_kept; ie_is_kept = c.ie_is_kept; causes_stay_set = c.causes_stay_set; ips_is_kept = c.ips_is_kept; serr_n_stays_set = c.serr_n_stays_set; serr_x_stays_set = c.serr_x_stays_set; engine_stays_running = c.engine_stays_running };
   notes = refl;
 }
@@ -65,7 +65,7 @@ abbrev SameButAcknowledged : Notes → Notes → Type 0
 SameButAcknowledged old new = new ≡ record old { acknowledged = new.acknowledged }
 
 module _ (laws : PrerequisiteLaws) (wanted : Wanted) (port : Port) (first old new : Device) (v : ℕ) (on : IsOn old) (same : SameAdapter first new)
-    (left : LeavesPort (first.port port.0) (record (old.port port.0) { notes = (first.port port.0).notes })) (noted : SameButAcknowledged (first.port port.0).notes (old.port port.0).notes)
+    (left : OnlyDeviceChangesPort (first.port port.0) (record (old.port port.0) { notes = (first.port port.0).notes })) (noted : SameButAcknowledged (first.port port.0).notes (old.port port.0).notes)
     (reads : Reads (Px port Ssts) v old new) (silent : GainsNoMove port.0 Identify first new) where
   at : PortRegisterRead port.0 Ssts v old new
   at = laws.look_laws.port_register_read port Ssts v old new reads on.no_reset
@@ -101,7 +101,7 @@ module _ (laws : PrerequisiteLaws) (wanted : Wanted) (port : Port) (first old ne
   counted count = link_still laws port (Reading (Px port Ssts) v) old new on tt reads (ap (λ (n : Notes). n.link_wait_count) noted ∙ count)
 
   -- but for that, the port is left to the device
-  left_before : LeavesPort (first.port port.0) (before.port port.0)
+  left_before : OnlyDeviceChangesPort (first.port port.0) (before.port port.0)
   left_before =
       laws.look_laws.leaves_port_is_transitive (first.port port.0) (record (old.port port.0) { notes = was }) (before.port port.0) left
       (but_notes was (old.port port.0) (new.port port.0) (at.keeps.ports_keep_what_steps_keep port.0) (at.keeps.keeps_outside_reset.controls_are_kept port.0))
@@ -151,7 +151,7 @@ pub looked_stands : (laws : PrerequisiteLaws) (wanted : Wanted) (port : Port) (s
     → GainsNoMove port.0 Identify old new → StillBacksProbeResult wanted (Unready state) port.0 old → StillBacksProbeResult wanted (Unready state) port.0 new
 looked_stands laws wanted port state result old new on lives looks none same silent s = by state lives looks s
   where
-    change : (its : Shown) → its ≢ Dead → (ShowsAsBefore its ≡ (λ v. v % 16 ≡ 3)) → ChecksForChange port result old new → StillBacksProbeResult wanted (Unready its) port.0 old → StillBacksProbeResult wanted (Unready its) port.0 new
+    change : (its : Shown) → its ≢ Dead → (ShowsAsBefore its ≡ (λ v. v % 16 ≡ 3)) → ChecksForChangeOrNoDevice port result old new → StillBacksProbeResult wanted (Unready its) port.0 old → StillBacksProbeResult wanted (Unready its) port.0 new
     change its alive kind f behind =
         let first = laws.look_laws.port_register_read port Is f.causes old f.after_is_read f.reads on.no_reset in
         let there = laws.port_event_laws.access_keeps_on (Reading (Px port Is) f.causes) old f.after_is_read on (λ v e. absurd cc) f.reads in

@@ -51,7 +51,7 @@ module _ (laws : PrerequisiteLaws) (port : Port) where
   none_parts old mid new early late none = laws.port_event_laws.tape.no_disk_comes_in_parts port.0 old mid new early.0 late.0 early.1 late.1 none
 
   pub stays_vacant : (accesses : List Access) (old new : Device) → DoesAll accesses old new → NoDiskComes port.0 old new → IsVacant (old.port port.0) → IsVacant (new.port port.0)
-  stays_vacant = stays_so laws port IsVacant (laws.vacant_port_stays_vacant port)
+  stays_vacant = stays_so laws port IsVacant (laws.vacant_port_stays_vacant_if_no_disk_comes port)
 
   -- once the link was reset, the first FIS of a disk that shows has come
   reset_fresh : (accesses : List Access) (old new : Device) → ResetsLink port accesses → DoesAll accesses old new → NoDiskComes port.0 old new → HasFirstFisIfShown (new.port port.0)
@@ -60,7 +60,7 @@ module _ (laws : PrerequisiteLaws) (port : Port) where
       let x = split r.before (Writing (Px port Sctl) r.comreset_value ∷ rest) old new (subst (λ (list : List Access). DoesAll list old new) r.accesses_are_split does) in
       let sent = x.2.0 in
       let early = laws.port_event_laws.tape.growth_is_transitive old x.0 sent (grows_over laws r.before old x.0 x.1) (laws.port_event_laws.tape.access_grows (Writing (Px port Sctl) r.comreset_value) x.0 sent x.2.1) in
-      stays_so laws port HasFirstFisIfShown (laws.first_fis_stays port) rest sent new x.2.2 (none_parts old sent new early (grows_over laws rest sent new x.2.2) none).1 (laws.comreset_has_first_fis_if_shown port r.comreset_value x.0 sent r.sends_comreset x.2.1)
+      stays_so laws port HasFirstFisIfShown (laws.first_fis_if_shown_stays_if_no_disk_comes port) rest sent new x.2.2 (none_parts old sent new early (grows_over laws rest sent new x.2.2) none).1 (laws.comreset_has_first_fis_if_shown port r.comreset_value x.0 sent r.sends_comreset x.2.1)
 
   fresh_or_gone : (p : DevicePort) → HasFirstFisIfShown p → HasFirstFisOrNoDevice p
   fresh_or_gone p fresh = ⊎_elim (λ (shows : p.ssts_det ≡ 3). inl (fresh shows)) (λ (gone : p.ssts_det ≢ 3). inr gone) (cases_eq p.ssts_det 3)
@@ -75,7 +75,7 @@ module _ (laws : PrerequisiteLaws) (port : Port) where
       ⊎_elim
       (λ found. record { new_entries = grows.0; tape_is = grows.1; entry = found.0; entry_is_new = found.1; entry_is_of_kind = found.2 })
       (λ none. absurd (gone (⊎_elim (λ same. same.det ∙ shows) (λ up. up.det)
-      (laws.port_event_laws.access_leaves_link port (Reading (Px port Ssts) v) old new on.no_reset tt reads (record { new_entries = grows.0; tape_is = grows.1; no_such_entry = none })))))
+      (laws.port_event_laws.link_stays_or_comes_up port (Reading (Px port Ssts) v) old new on.no_reset tt reads (record { new_entries = grows.0; tape_is = grows.1; no_such_entry = none })))))
       (one_or_none (IsPlugEvent port.0) (is_plugging port.0) grows.0)
 
 -- ---- a look
@@ -138,21 +138,21 @@ module _ (wanted : Wanted) (port : Port) (old new : Device) where
     pub undue : NoDiskComes port.0 old new → (new.port port.0).link_due ≡ false
 
   early_clear : (state : Shown) → state ≢ Absent → EndsBeforeStart port state old new → LeavesClear
-  early_clear state other e = let f = e.device_is_found (λ none. other (subst (IsStateOfFault state) none e.state_is)) in record { clear = f.errors_are_clear; undue = f.no_link_is_due }
+  early_clear state other e = let f = e.device_is_found (λ none. other (subst (IsStateOfFault state) none e.state_is)) in record { clear = f.serr_shows_only_new_plugs; undue = f.no_link_is_due }
 
   late_clear : EndsAfterStart port old new → LeavesClear
-  late_clear e = record { clear = e.errors_are_clear; undue = λ none. e.no_link_is_due }
+  late_clear e = record { clear = e.serr_shows_only_new_plugs; undue = λ none. e.no_link_is_due }
 
   unready_clear : (state : Shown) → EndsUnready (serial_of wanted) port state old new → ShowsDisk state → LeavesClear
   unready_clear Absent x shows = absurd shows
   unready_clear Dead x shows = absurd shows
   unready_clear ReadyState x shows = absurd x.state_is_backed
-  unready_clear Foreign x shows = late_clear (x.ends_after_start tt)
+  unready_clear Foreign x shows = late_clear (x.stopped_state_ends_after_start tt)
   unready_clear (Unfit n) x shows = ⊎_elim
-      (λ (seven : n ≡ 7). early_clear (Unfit n) no (x.ends_before_start (inl seven)))
+      (λ (seven : n ≡ 7). early_clear (Unfit n) no (x.unstarted_state_ends_before_start (inl seven)))
       (λ (not_seven : n ≢ 7). ⊎_elim
-      (λ (eight : n ≡ 8). early_clear (Unfit n) no (x.ends_before_start (inr eight)))
-      (λ (not_eight : n ≢ 8). late_clear (x.ends_after_start (not_seven, not_eight)))
+      (λ (eight : n ≡ 8). early_clear (Unfit n) no (x.unstarted_state_ends_before_start (inr eight)))
+      (λ (not_eight : n ≢ 8). late_clear (x.stopped_state_ends_after_start (not_seven, not_eight)))
       (cases_eq n 8))
       (cases_eq n 7)
     where
@@ -161,5 +161,5 @@ module _ (wanted : Wanted) (port : Port) (old new : Device) where
 
   pub boot_clear : (found : ProbeResult) → BootsStopped wanted port found old new → ShowsDisk (state_of found) → LeavesClear
   boot_clear Unserved none shows = absurd none
-  boot_clear (Ready info) e shows = record { clear = e.shows_only_new_errors.errors_are_clear; undue = λ none. (e.shows_only_new_errors.faults_are_on_record e.ready.runs.st_is_set).no_link_is_due }
+  boot_clear (Ready info) e shows = record { clear = e.shows_only_new_errors.serr_shows_only_new_plugs; undue = λ none. (e.shows_only_new_errors.faults_are_on_record e.ready.runs.st_is_set).no_link_is_due }
   boot_clear (Unready state) e shows = unready_clear state e shows

@@ -17,12 +17,12 @@ use Rattle.block_machine.specs.Expected.{after}
 use Rattle.block_machine.specs.Ports.{Evidence, IsStoppedOrStuck, IsServiced, SamePort}
 use Rattle.block_machine.specs.State.{Machine}
 use Rattle.block_machine.specs.Steps.{Step}
-use Rattle.driver_history.specs.EvidenceHandling.{OnlyFailedPortsRequeueOrFault}
+use Rattle.driver_history.specs.EvidenceHandling.{OnlyFailedPortsRequeueAbortRevokeOrFault}
 use Rattle.driver_history.specs.Evidence.{IsEvidencedOf}
 use Rattle.driver_history.specs.Histories.{LosesNoPortError, RunsWellAnew, ProbesDisk}
 use Rattle.driver_history.specs.PortInvariants.{HasNoUnanswered}
-use Rattle.driver_history.specs.AccessTrace.{LeavesEngine, ResetsLink}
-use Rattle.driver_history.specs.PortTurn.{EndsNoLinkDue}
+use Rattle.driver_history.specs.AccessTrace.{WritesNeitherCmdNorSctl, ResetsLink}
+use Rattle.driver_history.specs.PortTurn.{ChangedUnreadyPortEndsNoLinkDue}
 use Rattle.host_boot.specs.TakeOver.{probe_result_of}
 use Rattle.port_control.specs.Engines.{EngineSticks, Stops}
 use Rattle.request_queue.specs.BookEntries.{BookEntry}
@@ -48,9 +48,9 @@ pub record TellsTried (port : Port) (stopped stuck : List Port) (accesses : List
   pub its_stopped : All (λ q. q ≡ port) stopped
   pub its_stuck : All (λ q. q ≡ port) stuck
   pub becomes : IsServiced (ports_of old) (evidence_tried stopped stuck) (ports_of new) port
-  pub engine : All (LeavesEngine port) accesses ⊎ IsStoppedOrStuck (evidence_tried stopped stuck) port
+  pub engine : All (WritesNeitherCmdNorSctl port) accesses ⊎ IsStoppedOrStuck (evidence_tried stopped stuck) port
   pub stops : Contains stopped port → Stops port accesses
-  pub sticks : Contains stuck port → EngineSticks port accesses × ((new.device.port port.0).notes.engine_count ≡ MOST_READINGS)
+  pub sticks : Contains stuck port → EngineSticks port accesses × ((new.device.port port.0).notes.engine_wait_count ≡ MOST_READINGS)
 
 -- The device's steps lead a machine that stands for the one server to one that stands for the other.
 pub record AddsTried (port : Port) (old new : ServerState) (m : Machine) : Type 0 where
@@ -65,7 +65,7 @@ pub record AddsTried (port : Port) (old new : ServerState) (m : Machine) : Type 
 -- absent; and no trouble of it is lost.
 pub record DoesTried (port : Port) (evidence : Evidence) (accesses : List Access) (old new : ServerState) : Type 0 where
   pub probes : (m : Machine) → NoDiskComes port.0 old.device new.device → ProbesDisk accesses (joint_state_of old m) (ports_of new) new.device port
-  pub linked : (m : Machine) → EndsNoLinkDue port (joint_state_of old m) (ports_of new) new.device
+  pub linked : (m : Machine) → ChangedUnreadyPortEndsNoLinkDue port (joint_state_of old m) (ports_of new) new.device
   pub boots : SamePort (ports_of old) (ports_of new) port ⊎ (((ports_of new).state port ≡ Dead) ⊎ (((ports_of new).state port ≡ Absent) ⊎ ResetsLink port accesses))
   pub port_error : (m : Machine) → LosesNoPortError evidence (joint_state_of old m) (ports_of new) new.device port
   pub well : (m : Machine) → RunsWellAnew evidence accesses (joint_state_of old m) (ports_of new) new.device port
@@ -80,7 +80,7 @@ module _ (laws : PrerequisiteLaws) (port : Port) (old : ServerState) (k : InCall
   module _ (m : Machine) (is : MachineRelation old m) (steps : List Step) (only : AllByDevice steps) where
     pub none_waits : HasNoUnanswered (after m steps) port
     none_waits e here same =
-        let b = laws.steps_and_accesses.found_before m.book (after m steps).book e (laws.steps_and_accesses.device_steps_spare_book m steps only).book here in
+        let b = laws.steps_and_accesses.entry_is_found_in_earlier_book m.book (after m steps).book e (laws.steps_and_accesses.device_steps_spare_book m steps only).book here in
         let h = at_right EntryRelation old.book m.book is.book b.0 b.1 in
         none_held h.0 h.1 (sym h.2.port ∙ ap (λ r. r.port) (sym b.2.request) ∙ same)
 
@@ -101,15 +101,15 @@ module _ (laws : PrerequisiteLaws) (port : Port) (old : ServerState) (k : InCall
 
     evidenced : (m : Machine) → IsEvidencedOf Service (Replied []) accesses (joint_state_of old m) (ports_of new) new.device its port
     evidenced m = record {
-      lost_only = λ here. absurd (nowhere port here);
-      link_changed_all = λ ready. absurd (unready ready);
-      link_changed_only = λ here. absurd (nowhere port here);
-      showing_error_all = λ ready. absurd (unready ready);
-      showing_error_only = λ here. absurd (nowhere port here);
-      showing_fatal_error_all = λ ready. absurd (unready ready);
-      showing_fatal_error_only = λ here. absurd (nowhere port here);
+      named_lost_may_have_lost_disk = λ here. absurd (nowhere port here);
+      shown_loss_of_ready_is_named = λ ready. absurd (unready ready);
+      named_link_changed_had_change_or_no_device = λ here. absurd (nowhere port here);
+      shown_failure_of_ready_is_named = λ ready. absurd (unready ready);
+      named_showing_error_had_error = λ here. absurd (nowhere port here);
+      shown_fatal_of_ready_is_named = λ ready. absurd (unready ready);
+      named_showing_fatal_had_fatal = λ here. absurd (nowhere port here);
       engine_is_left_or_stopped = t.engine;
-      stopped_only = λ here. inl (t.stops here);
+      named_stopped_was_stopped_or_reset = λ here. inl (t.stops here);
       stuck_only = λ here. inl (t.sticks here);
     }
 
@@ -126,13 +126,13 @@ module _ (laws : PrerequisiteLaws) (port : Port) (old : ServerState) (k : InCall
       unplugs = record { none_is_left = λ e other here. absurd (no_answer x.steps x.only e Unplugged here); none_is_told_dead = λ e other here. absurd (no_answer x.steps x.only e Unplugged here) }
 
       owes : MeetsTurnDuty InProbe port accesses old new m its x.steps
-      owes = (devices_all (OnlyFailedPortsRequeueOrFault its) (device_grounded its) tt x.steps x.only, refl, refl)
+      owes = (devices_all (OnlyFailedPortsRequeueAbortRevokeOrFault its) (device_grounded its) tt x.steps x.only, refl, refl)
 
       ties : TurnCorresponds InProbe port [] accesses old new m its x.steps
       ties = (
         record {
           finds_done = λ ready. absurd (unready ready);
-          plain_faults_are_told = λ alone. absurd (unready alone.ready);
+          lone_plain_faults_are_told_unless_dead = λ alone. absurd (unready alone.ready);
           probes_disk = λ served comes. did.probes m comes;
           boots_anew = (λ ready. absurd (unready ready), did.boots);
           loses_no_error = did.port_error m;

@@ -22,7 +22,7 @@ use Rattle.block_machine.specs.Ports.{Evidence, IsStoppedOrStuck}
 use Rattle.block_machine.specs.State.{Machine}
 use Rattle.driver_history.specs.Histories.{IsForeignOrUnfit, HasFirstFisOrNoDevice, ProbesDisk}
 use Rattle.driver_history.specs.AccessTrace.{ResetsLink}
-use Rattle.driver_history.specs.PortTurn.{EndsNoLinkDue}
+use Rattle.driver_history.specs.PortTurn.{ChangedUnreadyPortEndsNoLinkDue}
 use Rattle.error_recovery.specs.Evidence.{GainsSinceStart, HidesNoTrouble}
 use Rattle.error_recovery.specs.declared.Next.{Next}
 use Rattle.error_recovery.specs.declared.Next.TheVariants as next
@@ -33,7 +33,7 @@ use Rattle.host_boot.specs.declared.ProbeResult.{ProbeResult}
 use Rattle.host_boot.specs.declared.ProbeResult.TheVariants.{Ready, Unready}
 use Rattle.identify.specs.declared.DiskInfo.{DiskInfo}
 use Rattle.port_control.specs.declared.Stopped.{Stopped}
-use Rattle.port_control.specs.DeviceChecks.{ChecksForChange, ChecksForDevice}
+use Rattle.port_control.specs.DeviceChecks.{ChecksForChangeOrNoDevice, ChecksForDevice}
 use Rattle.port_control.specs.PortEvents.{IsEventAccess}
 use Rattle.server_history.specs.Prerequisites.{PrerequisiteLaws}
 use Rattle.server_history.specs.ServerState.{InCallInvariant, ServerState, is_served, ports_of, state_of}
@@ -72,7 +72,7 @@ module _ (s : ServerState) (port : Port) (state : PortState) (k : InCallInvarian
     device_found : (ports_of s).state port ≡ Absent → ChecksForDevice port result s.device seen
     device_found absent = subst (λ (its : PortState). FindsReasonToBoot its port result s.device seen) (sym (ap state_of is) ∙ absent) l
 
-    change_found : IsForeignOrUnfit (ports_of s) port → ChecksForChange port result s.device seen
+    change_found : IsForeignOrUnfit (ports_of s) port → ChecksForChangeOrNoDevice port result s.device seen
     change_found bad = ⊎_elim
         (λ foreign. subst (λ (its : PortState). FindsReasonToBoot its port result s.device seen) (sym (ap state_of is) ∙ foreign) l)
         (λ unfit. subst (λ (its : PortState). FindsReasonToBoot its port result s.device seen) (sym (ap state_of is) ∙ unfit.1) l)
@@ -100,10 +100,10 @@ module _ (s : ServerState) (port : Port) (state : PortState) (k : InCallInvarian
 
     rests_tries : NoDiskComes port.0 s.device seen → (made : List Access) (m : Machine) → ProbesDisk made (joint_state_of s m) (ports_of s) seen port
     rests_tries comes made m = record {
-      absent_with_device_is_booted = λ absent shows. let f = device_found absent in inr (inr (has_gone laws port f.status s.device seen k.adapter_is_on f.reads shows (gone absent)));
-      absent_gets_first_fis = λ absent shows fresh. inr (inr (gone absent));
-      missing_disk_makes_absent = λ bad out. absurd (still_there comes bad out);
-      changed_disk_is_booted = λ bad came. absurd (still_same bad came);
+      absent_with_device_is_booted_dead_or_has_plug_event = λ absent shows. let f = device_found absent in inr (inr (has_gone laws port f.status s.device seen k.adapter_is_on f.reads shows (gone absent)));
+      absent_gets_first_fis_or_dead_or_no_device = λ absent shows fresh. inr (inr (gone absent));
+      missing_disk_makes_absent_or_dead = λ bad out. absurd (still_there comes bad out);
+      changed_disk_is_booted_or_absent_or_dead = λ bad came. absurd (still_same bad came);
     }
 
     -- but for that, the port is what it was
@@ -113,11 +113,11 @@ module _ (s : ServerState) (port : Port) (state : PortState) (k : InCallInvarian
       linked = λ m bad came comes. absurd (still_same bad came);
       boots = inl (refl, refl, refl, refl, refl, refl);
       port_error = λ m. record {
-        errors_are_handled_or_shown = λ ready. absurd (never ready);
-        changes_are_handled_or_shown = λ _ port_error. inr (change_shown laws port made s.device seen k.adapter_is_on only did port_error);
-        new_fault_is_shown = λ ready. absurd (never ready);
-        new_fatal_is_shown = λ ready. absurd (never ready);
-        new_plug_event_is_shown = λ ready. absurd (never ready);
+        ready_errors_are_handled_or_shown = λ ready. absurd (never ready);
+        changes_are_handled_or_shown_unless_dead = λ _ port_error. inr (change_shown laws port made s.device seen k.adapter_is_on only did port_error);
+        ready_shows_fault_since_start = λ ready. absurd (never ready);
+        ready_shows_fatal_since_start = λ ready. absurd (never ready);
+        ready_shows_plug_event_since_start = λ ready. absurd (never ready);
       };
       well = λ m _ ready. absurd (never ready);
     }
@@ -204,7 +204,7 @@ module _ (laws : PrerequisiteLaws) (s new : ServerState) (seen : Device) (port :
   since : (f : FindsSome) → ShowsDisk (state_of f.booted.found) → NoDiskComes port.0 s.device new.device → NoDiskComes port.0 f.boots.device_after_survey new.device
   since f shows comes = let x = sees f shows in (none_parts laws port s.device f.boots.device_after_survey new.device x.before x.since comes).1
 
-  boot_linked : (m : Machine) → EndsNoLinkDue port (joint_state_of s m) (ports_of then) new.device
+  boot_linked : (m : Machine) → ChangedUnreadyPortEndsNoLinkDue port (joint_state_of s m) (ports_of then) new.device
   boot_linked m bad came comes = ⊎_elim
       (λ dead. inr (inl dead))
       (λ f. ⊎_elim (λ shows. inr (inr ((clear f shows).undue (since f shows comes)))) (λ absent. inl absent) f.shows)
@@ -212,10 +212,10 @@ module _ (laws : PrerequisiteLaws) (s new : ServerState) (seen : Device) (port :
 
   boot_tries : (m : Machine) → NoDiskComes port.0 s.device new.device → ProbesDisk made (joint_state_of s m) (ports_of then) new.device port
   boot_tries m comes = record {
-    absent_with_device_is_booted = λ absent shows. ⊎_elim (λ dead. inl dead) (λ f. inr (inl f.resets)) finds;
-    absent_gets_first_fis = λ absent shows fresh. ⊎_elim (λ dead. inl dead) (λ f. inr (fresh_then f)) finds;
-    missing_disk_makes_absent = λ bad out. ⊎_elim (λ dead. inr dead) (λ f. inl (saw_none comes f bad out)) finds;
-    changed_disk_is_booted = λ bad came. ⊎_elim (λ dead. inr (inl dead)) (λ f. ⊎_elim (λ shows. inr (inr (f.resets, (clear f shows).clear.serr_x_is_clear (since f shows comes), fresh_then f))) (λ absent. inl absent) f.shows) finds;
+    absent_with_device_is_booted_dead_or_has_plug_event = λ absent shows. ⊎_elim (λ dead. inl dead) (λ f. inr (inl f.resets)) finds;
+    absent_gets_first_fis_or_dead_or_no_device = λ absent shows fresh. ⊎_elim (λ dead. inl dead) (λ f. inr (fresh_then f)) finds;
+    missing_disk_makes_absent_or_dead = λ bad out. ⊎_elim (λ dead. inr dead) (λ f. inl (saw_none comes f bad out)) finds;
+    changed_disk_is_booted_or_absent_or_dead = λ bad came. ⊎_elim (λ dead. inr (inl dead)) (λ f. ⊎_elim (λ shows. inr (inr (f.resets, (clear f shows).clear.serr_x_is_clear (since f shows comes), fresh_then f))) (λ absent. inl absent) f.shows) finds;
   }
     where
       fresh_then : (f : FindsSome) → HasFirstFisOrNoDevice (new.device.port port.0)
@@ -257,11 +257,11 @@ module _ (laws : PrerequisiteLaws) (s new : ServerState) (seen : Device) (port :
     linked = boot_linked;
     boots = inr (⊎_elim (λ dead. inl dead) (λ f. inr (inr f.resets)) finds);
     port_error = λ m. record {
-      errors_are_handled_or_shown = λ _ _. inl stops;
-      changes_are_handled_or_shown = λ _ _. inl stops;
-      new_fault_is_shown = λ ready. (shows_trouble (some_found ready) ready).fault_is_shown;
-      new_fatal_is_shown = λ ready. (shows_trouble (some_found ready) ready).fatal_is_shown;
-      new_plug_event_is_shown = λ ready. (shows_trouble (some_found ready) ready).plug_is_shown;
+      ready_errors_are_handled_or_shown = λ _ _. inl stops;
+      changes_are_handled_or_shown_unless_dead = λ _ _. inl stops;
+      ready_shows_fault_since_start = λ ready. (shows_trouble (some_found ready) ready).fault_is_shown;
+      ready_shows_fatal_since_start = λ ready. (shows_trouble (some_found ready) ready).fatal_is_shown;
+      ready_shows_plug_event_since_start = λ ready. (shows_trouble (some_found ready) ready).plug_is_shown;
     };
     well = λ m _ ready none unfailed unbroken _. runs_well (some_found ready) ready none unfailed unbroken;
   }

@@ -31,7 +31,7 @@ use Rattle.host_boot.specs.TakeOver.{probe_result_of}
 use Rattle.host_boot.specs.declared.ProbeResult.{ProbeResult}
 use Rattle.host_boot.specs.declared.ProbeResult.TheVariants.{Unserved, Ready, Unready}
 use Rattle.driver_history.specs.Evidence.{BacksPlainFault, BacksQueuedFault, IsEvidencedOf}
-use Rattle.error_recovery.specs.Evidence.{BringsLog, HasFailed}
+use Rattle.error_recovery.specs.Evidence.{BringsLastLogPage, HasFailed}
 use Rattle.driver_history.specs.Histories.{IssuesDue}
 use Rattle.driver_history.specs.PortTurn.{HasTurnIn, IsOfOtherPort, EvidenceAgreesOn}
 use Rattle.driver_history.specs.AccessTrace.{UsesPortsAndNotGhc}
@@ -381,7 +381,7 @@ module _ (plan : Plan) (laws : PrerequisiteLaws) (s : ServerState) (start : Sett
       unfolding turn_of
       its_failed fault had = subst (λ (list : List Access). HasFailed (port_at n) (p.accesses ++ list) s.device mid.device fault) (append-nil part.accesses) (laws.calls.turn_failure_is_calls (port_at n) s.device mid.device fault kept.adapter_is_on turn_of had)
 
-      its_page : (page : List ℕ) → BringsLog (port_at n) c.device mid.device page → BringsLog (port_at n) s.device mid.device page
+      its_page : (page : List ℕ) → BringsLastLogPage (port_at n) c.device mid.device page → BringsLastLogPage (port_at n) s.device mid.device page
       unfolding turn_of
       its_page page brings = laws.calls.turn_log_page_is_calls (port_at n) s.device mid.device page kept.adapter_is_on turn_of ([], sym (append-nil mid.device.tape), All-nil (λ e. IsMove n ReadLog e → ⊥)) brings
 
@@ -389,7 +389,7 @@ module _ (plan : Plan) (laws : PrerequisiteLaws) (s : ServerState) (start : Sett
       alone : f.used.queued ≡ false → (other : Pending) → Contains old.machine.book other → other.request.port ≡ port_at n → other.issued ≡ true → other.request.id ≡ by.serves.pending.request.id
       alone plain other there own issued =
           let h = issued_has s old.machine (port_at n) at kept ready other there own issued in
-          let a = kept.plain_stands_alone n f.slot f.used used_s plain in
+          let a = kept.plain_is_alone_in_slot_0 n f.slot f.used used_s plain in
           sym h.id_is ∙ ⊎_elim
           (λ (head : h.slot ≡ 0). let z : Some h.used ≡ Some f.used = sym h.used_is ∙ ap (used_for s.slots n) (head ∙ sym a.0) ∙ used_s in ap (λ (u : SlotUse). u.id) (same_some z))
           (λ (other_slot : h.slot ≢ 0). let z : None ≡ Some h.used = sym (a.1 h.slot other_slot) ∙ h.used_is in absurd cc)
@@ -414,7 +414,7 @@ module _ (plan : Plan) (laws : PrerequisiteLaws) (s : ServerState) (start : Sett
             fault = i.0.0;
             failed = subst (λ (q : Port). HasFailed q accesses s.device mid.device i.0.0) (sym port_is) (its_failed i.0.0 i.0.1);
             page = i.1.0;
-            brings_log = subst (λ (q : Port). BringsLog q s.device mid.device i.1.0) (sym port_is) (its_page i.1.0 i.1.1);
+            brings_log = subst (λ (q : Port). BringsLastLogPage q s.device mid.device i.1.0) (sym port_is) (its_page i.1.0 i.1.1);
             page_tells_error = i.1.2;
           }
 
@@ -432,7 +432,7 @@ module _ (plan : Plan) (laws : PrerequisiteLaws) (s : ServerState) (start : Sett
           backs_queued_fault = λ queued. by_log (sym kind_is ∙ kind_same ∙ queued);
         };
         served = subst (HadTurn (n + 1)) (sym port_is) (omega arith, takes);
-        lives = λ queued dead. f.port_is_not_dead (sym kind_is ∙ kind_same ∙ queued) (ap (λ (q : Port). state_of (probe_result_of mid.probe_results q.0)) (sym port_is) ∙ dead);
+        lives = λ queued dead. f.port_is_not_dead_if_queued (sym kind_is ∙ kind_same ∙ queued) (ap (λ (q : Port). state_of (probe_result_of mid.probe_results q.0)) (sym port_is) ∙ dead);
       }
         where
           kind_same : is_queued by.serves.command.operation ≡ is_queued (subst (λ (q : ℕ). ServesRequest old.machine s.device.memory (s.device.port q) q f.slot told.id) (sym (ap (λ (q : Port). q.0) port_is))
@@ -451,9 +451,9 @@ module _ (plan : Plan) (laws : PrerequisiteLaws) (s : ServerState) (start : Sett
       unfolding turn_before
       still_failed fault had = laws.calls.turn_failure_is_calls its_port s.device mid.device fault kept.adapter_is_on (turn_before its_port not_n) had
 
-      still_brought : (page : List ℕ) → state_of (probe_result_of c.probe_results its_port.0) ≢ Dead → BringsLog its_port s.device c.device page → BringsLog its_port s.device mid.device page
+      still_brought : (page : List ℕ) → state_of (probe_result_of c.probe_results its_port.0) ≢ Dead → BringsLastLogPage its_port s.device c.device page → BringsLastLogPage its_port s.device mid.device page
       unfolding turn_before
-      still_brought page lives brings = laws.calls.turn_log_page_is_calls its_port s.device mid.device page kept.adapter_is_on (turn_before its_port not_n) (part.others_get_no_log its_port.0 not_n lives) brings
+      still_brought page lives brings = laws.calls.turn_log_page_is_calls its_port s.device mid.device page kept.adapter_is_on (turn_before its_port not_n) (part.others_get_no_log_unless_dead its_port.0 not_n lives) brings
 
       fault_before : HasTold (n + 1) mid accesses told
       fault_before = record {
@@ -492,7 +492,7 @@ module _ (plan : Plan) (laws : PrerequisiteLaws) (s : ServerState) (start : Sett
       steps = all;
       turns = its_turns;
       machine_relation = subst (MachineRelation mid) (sym whole_is) x.machine_relation;
-      backed = laws.backed_parts s.device c.device mid.device old.machine p.steps x.steps p.backed x.is_backed;
+      backed = laws.backed_parts_join s.device c.device mid.device old.machine p.steps x.steps p.backed x.is_backed;
       belong = belong_join (asks_for plan) (ports_of mid) x.steps p.steps (subst (λ (ask : AbstractCall DeviceStep). AreStepsOfCall ask (ports_of mid) x.steps) (asks_so plan (probe_result_of s.probe_results n) n) x.steps_are_of_call)
           (belong_on plan (λ q. q.0 < n) (ports_of c) (ports_of mid) (λ q lt. let same = same_other q (λ is. omega (arith, lt, is)) in (same.1, same.5)) p.steps p.turns.below p.belong);
       evidence = evidence;

@@ -24,7 +24,7 @@ use Rattle.block_machine.specs.Ports.{Evidence, Ports, SameSerialAndSize, SamePo
 use Rattle.block_machine.specs.State.{Machine, Pending}
 use Rattle.block_machine.specs.Steps.{Step, WaitAgain, Answer}
 use Rattle.driver_history.specs.PortTurn.{IsOfOtherPort, EvidenceAgreesOn}
-use Rattle.driver_history.specs.AccessTrace.{StaysInDriverFrames, UsesPortsAndNotGhc, LeavesEngine, ResetsLink}
+use Rattle.driver_history.specs.AccessTrace.{StaysInDriverFrames, UsesPortsAndNotGhc, WritesNeitherCmdNorSctl, ResetsLink}
 use Rattle.host_boot.specs.TakeOver.{probe_result_of}
 use Rattle.host_boot.specs.declared.ProbeResult.{ProbeResult}
 use Rattle.server_history.specs.Prerequisites.{PrerequisiteLaws}
@@ -216,7 +216,7 @@ module _ (hung : ℕ → Bool) (laws : PrerequisiteLaws) (s : ServerState) (star
             boots = ⊎_elim
                 (λ dead. inl (same.1 ∙ dead))
                 (λ resets. inr (resets_then q p.accesses part.accesses
-                (All-weaker (LeavesEngine q) (DoesNotWrite (Px q Sctl)) (λ access leaves. leaves.1) part.accesses (others_leave plan laws s start old reached at ports_are q part.accesses of_others)) resets))
+                (All-weaker (WritesNeitherCmdNorSctl q) (DoesNotWrite (Px q Sctl)) (λ access leaves. leaves.1) part.accesses (others_leave plan laws s start old reached at ports_are q part.accesses of_others)) resets))
                 r.boots;
             ended = carrying.ended_still plan laws s start old reached at ports_are n c mid before its p part m_reached q apart r.ended;
             interrupts = carrying.named plan laws s start old reached at ports_are n c mid before its p part m_reached q apart evidence alike r.interrupts;

@@ -101,7 +101,7 @@ module _ (laws : PrerequisiteLaws) (s : ServerState) (start : SettledInvariant s
             serves.link_change_leaves_none (alike.link_changed.1 gone) b.was b.here (ap (λ r. r.port) b.request ∙ own);
         link_change_tells_alike = λ gone. ⊎_elim (λ a. inl (told_whole _ a)) (λ b. inr (told_whole _ b)) (serves.link_change_tells_alike (alike.link_changed.1 gone));
         trouble_interrupts = λ port_error. carrying.named AService laws s start old reached at ports_are n c mid before its p part m_reached q apart evidence alike (serves.trouble_interrupts (⊎_elim (λ failed. inl (alike.showing_error.1 failed)) (λ gone. inr (alike.link_changed.1 gone)) port_error));
-        trouble_leaves_none_issued = λ port_error. carrying.anew_still AService laws s start old reached at ports_are n c mid before its p part m_reached q apart (serves.trouble_leaves_none_issued (⊎_elim (λ failed. inl (alike.showing_error.1 failed)) (λ stopped. inr (alike.stopped.1 stopped)) port_error));
+        error_or_stop_leaves_no_old_issue = λ port_error. carrying.anew_still AService laws s start old reached at ports_are n c mid before its p part m_reached q apart (serves.error_or_stop_leaves_no_old_issue (⊎_elim (λ failed. inl (alike.showing_error.1 failed)) (λ stopped. inr (alike.stopped.1 stopped)) port_error));
         one_fault_at_most = let one = serves.one_fault_at_most in omega (arith, counted, one);
         fatal_tells_no_fault = λ here. let y = serves.fatal_tells_no_fault (alike.showing_fatal_error.1 here) in (alike.showing_error.0 y.0, counted ∙ y.1);
         shown_disk_was_in_or_came = carrying.disk_still AService laws s start old reached at ports_are n c mid before its p part m_reached q apart same serves.shown_disk_was_in_or_came;
@@ -122,7 +122,7 @@ module _ (laws : PrerequisiteLaws) (s : ServerState) (start : SettledInvariant s
 
       -- and where it showed a failure when the call began, or a change of its link, it was stopped
       stops_troubled : ShowsFailure (s.device.port q.0) ⊎ ShowsLinkChange (s.device.port q.0) → IsStoppedOrStuck p.evidence q
-      stops_troubled port_error = serves.trouble_interrupts (⊎_elim (λ failure. inl (d.evidenced.showing_error_all asked failure)) (λ change. inr (d.evidenced.link_changed_all asked (inl change))) port_error)
+      stops_troubled port_error = serves.trouble_interrupts (⊎_elim (λ failure. inl (d.evidenced.shown_failure_of_ready_is_named asked failure)) (λ change. inr (d.evidenced.shown_loss_of_ready_is_named asked (inl change))) port_error)
 
       -- ---- the whole
 
@@ -138,15 +138,15 @@ module _ (laws : PrerequisiteLaws) (s : ServerState) (start : SettledInvariant s
       pub ties_still : PortCorresponds began (joint_event_of_turn ServingReady [] mid evidence all) accesses q
       ties_still = record {
         finds_done = λ is_ready e own. carrying.finds_more AService laws s start old reached at ports_are n c mid before its p part m_reached q apart (did.finds_done is_ready e own);
-        plain_faults_are_told = λ alone e slot own unended says plain. ⊎_elim
+        lone_plain_faults_are_told_unless_dead = λ alone e slot own unended says plain. ⊎_elim
             (λ (a : IsAnsweredFaulty e p.steps). inl (a.0, a.1, a.2, a.3, Contains-append_right x.steps p.steps (Answer a.0 (DeviceError a.1 a.2)) a.4))
             (λ dead. inr (same.1 ∙ dead))
-            (did.plain_faults_are_told (alone_so_far alone) e slot own unended says plain);
+            (did.lone_plain_faults_are_told_unless_dead (alone_so_far alone) e slot own unended says plain);
         probes_disk = λ served coming. record {
-          absent_with_device_is_booted = λ absent det. absurd (not_absent absent);
-          absent_gets_first_fis = λ absent det fresh. absurd (not_absent absent);
-          missing_disk_makes_absent = λ bad. absurd (not_bad bad);
-          changed_disk_is_booted = λ bad. absurd (not_bad bad);
+          absent_with_device_is_booted_dead_or_has_plug_event = λ absent det. absurd (not_absent absent);
+          absent_gets_first_fis_or_dead_or_no_device = λ absent det fresh. absurd (not_absent absent);
+          missing_disk_makes_absent_or_dead = λ bad. absurd (not_bad bad);
+          changed_disk_is_booted_or_absent_or_dead = λ bad. absurd (not_bad bad);
         };
         boots_anew = laws.calls.turn_boots_are_calls q began old (ports_of c) (ports_of mid) mid.device (Replied []) (Replied []) kept.adapter_is_on (λ _. undue) t p.adapter_is_on same same_self did.boots_anew;
         loses_no_error = heeds_trouble.loses_no_error;

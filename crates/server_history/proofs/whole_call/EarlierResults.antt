@@ -166,10 +166,10 @@ module _ (plan : Plan) (laws : PrerequisiteLaws) (s : ServerState) (start : Sett
             (λ stops. laws.calls.stopped_port_set_st_since q p.accesses s.device c.device kept.adapter_is_on
             (All-weaker (UsesPortsAndNotGhc (Uses plan old.ports)) (DoesNotWrite Ghc) (λ access serving. serving.1) p.accesses p.serving) p.turn_is_taken stops (runs_so_far ready_c).st_is_set)
             (λ (reset : _ × _). absurd (no_reset plan [] reset.0))
-            (d.evidenced.stopped_only stopped))
+            (d.evidenced.named_stopped_was_stopped_or_reset stopped))
             (λ stuck. ⊎_elim
             (λ (dead : old.ports.state q ≡ Dead). let z : ReadyState ≡ Dead = sym ready_c ∙ (d.becomes.0 dead).1 ∙ dead in absurd cc)
-            (λ (lives : old.ports.state q ≢ Dead). let z : ReadyState ≡ Dead = sym ready_c ∙ (d.becomes.1 lives).0.dead_is_stuck.1 stuck in absurd cc)
+            (λ (lives : old.ports.state q ≢ Dead). let z : ReadyState ≡ Dead = sym ready_c ∙ (d.becomes.1 lives).0.dead_exactly_if_stuck.1 stuck in absurd cc)
             (dead_or_not (old.ports.state q)))
             i
 

@@ -27,8 +27,8 @@ use Rattle.host_boot.specs.TakeOver.{probe_result_of}
 use Rattle.driver_history.specs.Evidence.{IsEvidencedOf, IsFaultTold}
 use Rattle.driver_history.specs.Histories.{FindsDone, IsForeignOrUnfit, IssuesDue, PortCorresponds}
 use Rattle.driver_history.specs.PortInvariants.{HasNoUnanswered}
-use Rattle.driver_history.specs.PortTurn.{EndsNoLinkDue, IsOfOtherPort}
-use Rattle.driver_history.specs.AccessTrace.{UsesPortsAndNotGhc, LeavesEngine, ResetsLink}
+use Rattle.driver_history.specs.PortTurn.{ChangedUnreadyPortEndsNoLinkDue, IsOfOtherPort}
+use Rattle.driver_history.specs.AccessTrace.{UsesPortsAndNotGhc, WritesNeitherCmdNorSctl, ResetsLink}
 use Rattle.server_history.specs.Prerequisites.{PrerequisiteLaws}
 use Rattle.server_history.specs.Turns.{HandlesShownErrors, ServingReady, IsByDeviceOrOnSuchPort, abstract_state_of, joint_event_of_turn}
 use Rattle.server_history.proofs.whole_call.ServiceAndTick.{AService, ATick, OwesBy, Plan, TakesTurn, Uses, asks_for, owes_nothing, ready_takes}
@@ -69,7 +69,7 @@ pub record HasTicked (hung : ℕ → Bool) (s : ServerState) (old : AbstractStat
 
 abbrev pub TiesSoFar : Plan → ServerState → AbstractState → Port → List Access → ServerState → Evidence → List Step → Type 0
 TiesSoFar AService s old port accesses c evidence steps =
-    PortCorresponds (record { device = s.device; abstract = old }) (joint_event_of_turn ServingReady [] c evidence steps) accesses port × EndsNoLinkDue port (record { device = s.device; abstract = old }) (ports_of c) c.device
+    PortCorresponds (record { device = s.device; abstract = old }) (joint_event_of_turn ServingReady [] c evidence steps) accesses port × ChangedUnreadyPortEndsNoLinkDue port (record { device = s.device; abstract = old }) (ports_of c) c.device
 TiesSoFar (ATick hung) s old port accesses c evidence steps = HasTicked hung s old port accesses c evidence steps
 
 -- nothing is done of a port that had no turn
@@ -78,20 +78,20 @@ rested_ties : (plan : Plan) (s : ServerState) (old : AbstractState) (port : Port
 rested_ties AService s old port accesses c evidence steps ports_are not rests = (
   record {
     finds_done = λ ready. absurd (unready ready);
-    plain_faults_are_told = λ alone. absurd (unready alone.ready);
+    lone_plain_faults_are_told_unless_dead = λ alone. absurd (unready alone.ready);
     probes_disk = λ served comes. record {
-      absent_with_device_is_booted = λ absent. absurd (not (sym (ap (λ (ports : Ports). ports.served port) ports_are) ∙ served, λ dead. let z : Absent ≡ Dead = sym absent ∙ state_was ∙ dead in cc));
-      absent_gets_first_fis = λ absent. absurd (not (sym (ap (λ (ports : Ports). ports.served port) ports_are) ∙ served, λ dead. let z : Absent ≡ Dead = sym absent ∙ state_was ∙ dead in cc));
-      missing_disk_makes_absent = λ bad. absurd (no_bad bad);
-      changed_disk_is_booted = λ bad. absurd (no_bad bad);
+      absent_with_device_is_booted_dead_or_has_plug_event = λ absent. absurd (not (sym (ap (λ (ports : Ports). ports.served port) ports_are) ∙ served, λ dead. let z : Absent ≡ Dead = sym absent ∙ state_was ∙ dead in cc));
+      absent_gets_first_fis_or_dead_or_no_device = λ absent. absurd (not (sym (ap (λ (ports : Ports). ports.served port) ports_are) ∙ served, λ dead. let z : Absent ≡ Dead = sym absent ∙ state_was ∙ dead in cc));
+      missing_disk_makes_absent_or_dead = λ bad. absurd (no_bad bad);
+      changed_disk_is_booted_or_absent_or_dead = λ bad. absurd (no_bad bad);
     };
     boots_anew = (λ ready. absurd (unready ready), inl rests.same);
     loses_no_error = record {
-      errors_are_handled_or_shown = λ ready. absurd (unready ready);
-      changes_are_handled_or_shown = λ tends. absurd (not (sym (ap (λ (ports : Ports). ports.served port) ports_are) ∙ tends.0, λ dead. tends.1 (state_was ∙ dead)));
-      new_fault_is_shown = λ ready. absurd (unready (sym rests.same.1 ∙ ready));
-      new_fatal_is_shown = λ ready. absurd (unready (sym rests.same.1 ∙ ready));
-      new_plug_event_is_shown = λ ready. absurd (unready (sym rests.same.1 ∙ ready));
+      ready_errors_are_handled_or_shown = λ ready. absurd (unready ready);
+      changes_are_handled_or_shown_unless_dead = λ tends. absurd (not (sym (ap (λ (ports : Ports). ports.served port) ports_are) ∙ tends.0, λ dead. tends.1 (state_was ∙ dead)));
+      ready_shows_fault_since_start = λ ready. absurd (unready (sym rests.same.1 ∙ ready));
+      ready_shows_fatal_since_start = λ ready. absurd (unready (sym rests.same.1 ∙ ready));
+      ready_shows_plug_event_since_start = λ ready. absurd (unready (sym rests.same.1 ∙ ready));
     };
     runs_well_anew = λ i. absurd (rests.uninterrupted i);
     handles_evidence = λ ready. absurd (unready ready);
@@ -191,7 +191,7 @@ module _ (plan : Plan) (laws : PrerequisiteLaws) (s : ServerState) (start : Sett
     steps = [];
     turns = no_turns laws old reached;
     machine_relation = at;
-    backed = laws.backed_none s.device old.machine;
+    backed = laws.empty_steps_are_backed s.device old.machine;
     belong = tt;
     evidence = no_evidence;
     names = record {
@@ -233,8 +233,8 @@ module _ (plan : Plan) (laws : PrerequisiteLaws) (s : ServerState) (start : Sett
     (λ here. none (All-contains (HadTurn n) evidence.stuck q names.stuck here)),
   )
 
-  pub others_leave : (q : Port) (accesses : List Access) → All (IsOfOtherPort q) accesses → All (LeavesEngine q) accesses
-  others_leave q accesses of = All-weaker (IsOfOtherPort q) (LeavesEngine q) (λ access x. (laws.one_port_spares_registers x.0 q Cmd x.1 access x.2, laws.one_port_spares_registers x.0 q Sctl x.1 access x.2)) accesses of
+  pub others_leave : (q : Port) (accesses : List Access) → All (IsOfOtherPort q) accesses → All (WritesNeitherCmdNorSctl q) accesses
+  others_leave q accesses of = All-weaker (IsOfOtherPort q) (WritesNeitherCmdNorSctl q) (λ access x. (laws.one_port_spares_registers x.0 q Cmd x.1 access x.2, laws.one_port_spares_registers x.0 q Sctl x.1 access x.2)) accesses of
 
   -- nothing is asked of the evidence of a port that has no turn, and that it doesn't name
   none_evidenced : (accesses : List Access) (new : Device) (ports : Ports) (evidence : Evidence) (q : Port) → (Takes q → ⊥) → NamesSome Takes evidence → All (IsOfOtherPort q) accesses
@@ -242,15 +242,15 @@ module _ (plan : Plan) (laws : PrerequisiteLaws) (s : ServerState) (start : Sett
   none_evidenced accesses new ports evidence q not names of =
       let was_ready : old.ports.state q ≡ ReadyState → ⊥ = λ is. not (ready_takes plan (probe_result_of s.probe_results q.0) (sym (ap (λ (ports : Ports). ports.state q) ports_are) ∙ is)) in
       record {
-        lost_only = λ here. absurd (not (All-contains Takes evidence.lost q names.lost here));
-        link_changed_all = λ is. absurd (was_ready is);
-        link_changed_only = λ here. absurd (not (All-contains Takes evidence.link_changed q names.gone here));
-        showing_error_all = λ is. absurd (was_ready is);
-        showing_error_only = λ here. absurd (not (All-contains Takes evidence.showing_error q names.failed here));
-        showing_fatal_error_all = λ is. absurd (was_ready is);
-        showing_fatal_error_only = λ here. absurd (not (All-contains Takes evidence.showing_fatal_error q names.fatal here));
+        named_lost_may_have_lost_disk = λ here. absurd (not (All-contains Takes evidence.lost q names.lost here));
+        shown_loss_of_ready_is_named = λ is. absurd (was_ready is);
+        named_link_changed_had_change_or_no_device = λ here. absurd (not (All-contains Takes evidence.link_changed q names.gone here));
+        shown_failure_of_ready_is_named = λ is. absurd (was_ready is);
+        named_showing_error_had_error = λ here. absurd (not (All-contains Takes evidence.showing_error q names.failed here));
+        shown_fatal_of_ready_is_named = λ is. absurd (was_ready is);
+        named_showing_fatal_had_fatal = λ here. absurd (not (All-contains Takes evidence.showing_fatal_error q names.fatal here));
         engine_is_left_or_stopped = inl (others_leave q accesses of);
-        stopped_only = λ here. absurd (not (All-contains Takes evidence.stopped q names.stopped here));
+        named_stopped_was_stopped_or_reset = λ here. absurd (not (All-contains Takes evidence.stopped q names.stopped here));
         stuck_only = λ here. absurd (not (All-contains Takes evidence.stuck q names.stuck here));
       }
 
@@ -266,8 +266,8 @@ module _ (plan : Plan) (laws : PrerequisiteLaws) (s : ServerState) (start : Sett
           λ lives. (
             record {
               served_is_unchanged = same.0;
-              dead_is_stuck = (λ dead. absurd (lives (sym same.1 ∙ dead)), λ named. absurd (un.5 named));
-              disk_is_remembered = λ x. (same.2, same.3);
+              dead_exactly_if_stuck = (λ dead. absurd (lives (sym same.1 ∙ dead)), λ named. absurd (un.5 named));
+              disk_is_remembered_unless_ready = λ x. (same.2, same.3);
             },
             inl same,
           ),

@@ -106,7 +106,7 @@ module _ (laws : PrerequisiteLaws) (s new : ServerState) (replies : List Reply) 
     replies_match = record { answers = p.answers; is_permutation = p.permuted; ordered = p.book_is_in_order; replies_are_of_answers = p.told };
     dead_ports_tell_only_port_dead = λ e o h dead. absurd ((answered_was AService laws s start old reached at same ends.count new replies p e o h).1 (sym (is_ready e.request.port) ∙ dead));
     unplugged_empties_port = p.unplugs;
-    none_is_due = λ port ready. none_due new (after old.machine p.steps) p.machine_relation (mode_in new port) port (p.settled_invariant.nothing_is_due port);
+    none_is_due_where_ready = λ port ready. none_due new (after old.machine p.steps) p.machine_relation (mode_in new port) port (p.settled_invariant.nothing_is_due port);
     empty_unless_ready = none_waits;
     answers_ended = λ port ready. ((done port).ties.0.handles_evidence ready).answers_ended;
     port_is_serviced = λ port. (done port).becomes;
@@ -122,15 +122,15 @@ module _ (laws : PrerequisiteLaws) (s new : ServerState) (replies : List Reply) 
     each_port_is_evidenced = λ port.
         let v = (done port).evidenced in
         record {
-          lost_only = v.lost_only;
-          link_changed_all = v.link_changed_all;
-          link_changed_only = v.link_changed_only;
-          showing_error_all = v.showing_error_all;
-          showing_error_only = v.showing_error_only;
-          showing_fatal_error_all = v.showing_fatal_error_all;
-          showing_fatal_error_only = v.showing_fatal_error_only;
+          named_lost_may_have_lost_disk = v.named_lost_may_have_lost_disk;
+          shown_loss_of_ready_is_named = v.shown_loss_of_ready_is_named;
+          named_link_changed_had_change_or_no_device = v.named_link_changed_had_change_or_no_device;
+          shown_failure_of_ready_is_named = v.shown_failure_of_ready_is_named;
+          named_showing_error_had_error = v.named_showing_error_had_error;
+          shown_fatal_of_ready_is_named = v.shown_fatal_of_ready_is_named;
+          named_showing_fatal_had_fatal = v.named_showing_fatal_had_fatal;
           engine_is_left_or_stopped = v.engine_is_left_or_stopped;
-          stopped_only = v.stopped_only;
+          named_stopped_was_stopped_or_reset = v.named_stopped_was_stopped_or_reset;
           stuck_only = v.stuck_only;
         };
   }
@@ -139,7 +139,7 @@ module _ (laws : PrerequisiteLaws) (s new : ServerState) (replies : List Reply) 
   port_part : (port : Port) → PortCorresponds began (happening_with p.evidence new.device Service (Replied replies) p.steps (ports_of new)) p.accesses port
   port_part port =
       let did = (done port).ties.0 in
-      record { finds_done = did.finds_done; plain_faults_are_told = did.plain_faults_are_told; probes_disk = did.probes_disk; boots_anew = did.boots_anew; loses_no_error = did.loses_no_error; runs_well_anew = did.runs_well_anew; handles_evidence = did.handles_evidence }
+      record { finds_done = did.finds_done; lone_plain_faults_are_told_unless_dead = did.lone_plain_faults_are_told_unless_dead; probes_disk = did.probes_disk; boots_anew = did.boots_anew; loses_no_error = did.loses_no_error; runs_well_anew = did.runs_well_anew; handles_evidence = did.handles_evidence }
 
   pub service_event : (h : JointEvent Device DeviceStep) × (h.event.call ≡ Service) × (h.event.result ≡ Replied replies) × LeadsToServer first (h ∷ past) new
   service_event =

@@ -16,7 +16,7 @@ use Rattle.block_machine.specs.Ports.{Evidence, Ports}
 use Rattle.block_machine.specs.State.{Machine, Pending}
 use Rattle.block_machine.specs.Steps.{Step, WaitAgain, Answer, Issue}
 use Rattle.block_machine.specs.declared.due.QueueMode.{QueueMode}
-use Rattle.driver_history.specs.EvidenceHandling.{OnlyFailedPortsRequeueOrFault}
+use Rattle.driver_history.specs.EvidenceHandling.{OnlyFailedPortsRequeueAbortRevokeOrFault}
 use Rattle.driver_history.specs.Evidence.{IsEndedReset, IsEvidencedOf}
 use Rattle.driver_history.specs.Histories.{IsServedAndNotDead}
 use Rattle.host_boot.specs.declared.ProbeResult.{ProbeResult}
@@ -76,7 +76,7 @@ Uses (ATick hung) ports port = (ports.state port ≡ ReadyState) × (hung port.0
 
 -- what it owes by its evidence
 abbrev pub OwesBy : Plan → Evidence → List Step → Type 0
-OwesBy AService evidence steps = OnlyFailedPortsRequeueOrFault evidence steps
+OwesBy AService evidence steps = OnlyFailedPortsRequeueAbortRevokeOrFault evidence steps
 OwesBy (ATick hung) evidence steps = evidence.faults ≡ []
 
 pub owes_nothing : (plan : Plan) → OwesBy plan no_evidence []
@@ -122,27 +122,27 @@ belong_on plan Such old new same (step ∷ steps) all a = (belong_on plan Such o
 pub any_said : (plan : Plan) (one other : List Reply) (made : List Access) (i : JointState Device) (ports : Ports) (d : Device) (e : Evidence) (q : Port) → IsEvidencedOf (asks_for plan) (Replied one) made i ports d e q
     → IsEvidencedOf (asks_for plan) (Replied other) made i ports d e q
 any_said AService one other made i ports d e q v = record {
-  lost_only = v.lost_only;
-  link_changed_all = v.link_changed_all;
-  link_changed_only = v.link_changed_only;
-  showing_error_all = v.showing_error_all;
-  showing_error_only = v.showing_error_only;
-  showing_fatal_error_all = v.showing_fatal_error_all;
-  showing_fatal_error_only = v.showing_fatal_error_only;
+  named_lost_may_have_lost_disk = v.named_lost_may_have_lost_disk;
+  shown_loss_of_ready_is_named = v.shown_loss_of_ready_is_named;
+  named_link_changed_had_change_or_no_device = v.named_link_changed_had_change_or_no_device;
+  shown_failure_of_ready_is_named = v.shown_failure_of_ready_is_named;
+  named_showing_error_had_error = v.named_showing_error_had_error;
+  shown_fatal_of_ready_is_named = v.shown_fatal_of_ready_is_named;
+  named_showing_fatal_had_fatal = v.named_showing_fatal_had_fatal;
   engine_is_left_or_stopped = v.engine_is_left_or_stopped;
-  stopped_only = v.stopped_only;
+  named_stopped_was_stopped_or_reset = v.named_stopped_was_stopped_or_reset;
   stuck_only = v.stuck_only;
 }
 any_said (ATick hung) one other made i ports d e q v = record {
-  lost_only = v.lost_only;
-  link_changed_all = v.link_changed_all;
-  link_changed_only = v.link_changed_only;
-  showing_error_all = v.showing_error_all;
-  showing_error_only = v.showing_error_only;
-  showing_fatal_error_all = v.showing_fatal_error_all;
-  showing_fatal_error_only = v.showing_fatal_error_only;
+  named_lost_may_have_lost_disk = v.named_lost_may_have_lost_disk;
+  shown_loss_of_ready_is_named = v.shown_loss_of_ready_is_named;
+  named_link_changed_had_change_or_no_device = v.named_link_changed_had_change_or_no_device;
+  shown_failure_of_ready_is_named = v.shown_failure_of_ready_is_named;
+  named_showing_error_had_error = v.named_showing_error_had_error;
+  shown_fatal_of_ready_is_named = v.shown_fatal_of_ready_is_named;
+  named_showing_fatal_had_fatal = v.named_showing_fatal_had_fatal;
   engine_is_left_or_stopped = v.engine_is_left_or_stopped;
-  stopped_only = v.stopped_only;
+  named_stopped_was_stopped_or_reset = v.named_stopped_was_stopped_or_reset;
   stuck_only = v.stuck_only;
 }
 
@@ -153,7 +153,7 @@ owes_join AService found n port accesses old new m early its steps late so_far t
     (grounded_on its (joined early its) (λ q there. Contains-append_right early.showing_error its.showing_error q there) late (by found turn))
     (grounded_on early (joined early its) (λ q there. Contains-append_left early.showing_error its.showing_error q there) steps so_far)
   where
-    by : (was : ProbeResult) → MeetsTurnDuty (turn_at AService was n) port accesses old new m its late → OnlyFailedPortsRequeueOrFault its late
+    by : (was : ProbeResult) → MeetsTurnDuty (turn_at AService was n) port accesses old new m its late → OnlyFailedPortsRequeueAbortRevokeOrFault its late
     by (Ready info) o = o
     by (Unready state) o = o.0
     by Unserved o = o.0

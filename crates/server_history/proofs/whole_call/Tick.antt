@@ -36,7 +36,7 @@ use Rattle.server_history.proofs.state.ListMembers.{contains_cases, contains_her
 use Rattle.driver_history.specs.Evidence.{IsEvidenced}
 use Rattle.driver_history.specs.Histories.{FindsDone, IssuesDue, PortCorresponds}
 use Rattle.driver_history.specs.PortTurn.{IsOfOtherPort}
-use Rattle.driver_history.specs.AccessTrace.{ClearsNoError, StaysInDriverFrames, UsesPortsAndNotGhc, LeavesEngine}
+use Rattle.driver_history.specs.AccessTrace.{ClearsNoError, StaysInDriverFrames, UsesPortsAndNotGhc, WritesNeitherCmdNorSctl}
 use Rattle.host_boot.specs.TakeOver.{probe_result_of}
 use Rattle.host_boot.specs.declared.ProbeResult.{ProbeResult}
 use Rattle.host_boot.specs.declared.ProbeResult.TheVariants.{Ready, Unready, Unserved}
@@ -105,13 +105,13 @@ module _ (laws : PrerequisiteLaws) (port : Port) (low : port.0 < 4) (c : ServerS
       other_slots_are_same = λ q apart. refl;
       others_requests_are_same = λ q apart. refl;
     };
-    others_get_no_log = λ q apart lives. silent_none q ReadLog c.device;
+    others_get_no_log_unless_dead = λ q apart lives. silent_none q ReadLog c.device;
     simulates_turn = λ m reached is. record {
       steps = [];
       evidence = told_of (port ∷ []) c.device (ports_of c);
       steps_are_enabled = tt;
       machine_relation = is;
-      is_backed = laws.backed_none c.device m;
+      is_backed = laws.empty_steps_are_backed c.device m;
       steps_are_of_turn = All-nil (IsByDeviceOrOnSuchPort (λ q. q ≡ port));
       steps_are_of_call = tt;
       issues_are_last = tt;
@@ -127,11 +127,11 @@ module _ (laws : PrerequisiteLaws) (port : Port) (low : port.0 < 4) (c : ServerS
       meets_turn_duty = (refl, refl, refl, uninterrupted);
       replies_match = record { answers = []; is_permutation = IsPermutation-refl []; ordered = λ i j d lt below. absurd (omega (arith, lt, below)); replies_are_of_answers = refl };
       unplugged_empties_port = record { none_is_left = λ e other here there. absurd (nowhere (Answer e Unplugged) here); none_is_told_dead = λ e other here there. absurd (nowhere (Answer e Unplugged) here) };
-      port_is_serviced = (λ dead. same, λ lives. (record { served_is_unchanged = refl; dead_is_stuck = (λ dead. absurd (lives dead), λ named. absurd (nowhere port named)); disk_is_remembered = λ unready. (refl, refl) }, inl same));
+      port_is_serviced = (λ dead. same, λ lives. (record { served_is_unchanged = refl; dead_exactly_if_stuck = (λ dead. absurd (lives dead), λ named. absurd (nowhere port named)); disk_is_remembered_unless_ready = λ unready. (refl, refl) }, inl same));
       shown_disk_was_in_or_came = inl same;
       same_disk_or_none_unanswered = inl (refl, refl);
       issues_due = λ ready. none_issued c m is [] (λ id. refl) (mode_in c port) port (settled.nothing_is_due port);
-      is_evidenced = evidenced_of (port ∷ []) Tick (Replied []) [] (joint_state_of c m) (ports_of c) c.device port (λ ready. contains_here port [] port refl) (All-nil (LeavesEngine port));
+      is_evidenced = evidenced_of (port ∷ []) Tick (Replied []) [] (joint_state_of c m) (ports_of c) c.device port (λ ready. contains_here port [] port refl) (All-nil (WritesNeitherCmdNorSctl port));
       faults_are_told = λ told here. absurd (nowhere told here);
       turn_corresponds = tt;
       finds_done = λ is. let z : RestingInTick ≡ ServingReady = is in absurd cc;
@@ -411,7 +411,7 @@ module _ (laws : PrerequisiteLaws) (s new : ServerState) (replies : List Reply) 
     only_timed_out_are_answered = λ e o here. is_hung e.request.port (answered_hung e o (in_steps e o here));
     answers_ended = λ port h. ended_before port (restart port h).ended;
     none_stays_issued = λ port h. anew_before port (restart port h).anew;
-    timed_out_iff_interrupted = λ port. (λ h. (restart port h).interrupts, λ i. ⊎_elim (λ r. is_hung port r.0) (λ r. absurd (r.1.uninterrupted i)) (restarted_or_not port));
+    timed_out_iff_stopped_or_stuck = λ port. (λ h. (restart port h).interrupts, λ i. ⊎_elim (λ r. is_hung port r.0) (λ r. absurd (r.1.uninterrupted i)) (restarted_or_not port));
     unplugged_lost_disk = λ e here.
         let early = in_steps e Unplugged here in
         (restart e.request.port (is_hung e.request.port (answered_hung e Unplugged early))).another e early refl;
@@ -441,7 +441,7 @@ module _ (laws : PrerequisiteLaws) (s new : ServerState) (replies : List Reply) 
       none_is_left = λ e other here there. p.unplugs.none_is_left e other (in_steps e Unplugged here) (in_end other there);
       none_is_told_dead = λ e other here there. p.unplugs.none_is_told_dead e other (in_steps e Unplugged here) (in_steps other PortDead there);
     };
-    none_is_due = λ port is. none_due new end.machine stands_then (mode_in new port) port (p.settled_invariant.nothing_is_due port);
+    none_is_due_where_ready = λ port is. none_due new end.machine stands_then (mode_in new port) port (p.settled_invariant.nothing_is_due port);
     was_ready_empty_unless_ready = λ port _. none_waits port;
   }
     where
@@ -462,15 +462,15 @@ module _ (laws : PrerequisiteLaws) (s new : ServerState) (replies : List Reply) 
     each_port_is_evidenced = λ port.
         let v = (done port).evidenced in
         record {
-          lost_only = v.lost_only;
-          link_changed_all = v.link_changed_all;
-          link_changed_only = v.link_changed_only;
-          showing_error_all = v.showing_error_all;
-          showing_error_only = v.showing_error_only;
-          showing_fatal_error_all = v.showing_fatal_error_all;
-          showing_fatal_error_only = v.showing_fatal_error_only;
+          named_lost_may_have_lost_disk = v.named_lost_may_have_lost_disk;
+          shown_loss_of_ready_is_named = v.shown_loss_of_ready_is_named;
+          named_link_changed_had_change_or_no_device = v.named_link_changed_had_change_or_no_device;
+          shown_failure_of_ready_is_named = v.shown_failure_of_ready_is_named;
+          named_showing_error_had_error = v.named_showing_error_had_error;
+          shown_fatal_of_ready_is_named = v.shown_fatal_of_ready_is_named;
+          named_showing_fatal_had_fatal = v.named_showing_fatal_had_fatal;
           engine_is_left_or_stopped = v.engine_is_left_or_stopped;
-          stopped_only = v.stopped_only;
+          named_stopped_was_stopped_or_reset = v.named_stopped_was_stopped_or_reset;
           stuck_only = v.stuck_only;
         };
   }
@@ -501,10 +501,10 @@ module _ (laws : PrerequisiteLaws) (s new : ServerState) (replies : List Reply) 
       let t = trouble_of port in
       record {
         finds_done = λ h. finds_before port (restart port h).finds;
-        plain_faults_are_told = tt;
+        lone_plain_faults_are_told_unless_dead = tt;
         probes_disk = tt;
         boots_anew = λ h. (restart port h).boots;
-        loses_no_error = record { errors_are_handled_or_shown = t.loses_no_error.errors_are_handled_or_shown; changes_are_handled_or_shown = t.loses_no_error.changes_are_handled_or_shown; new_fault_is_shown = t.loses_no_error.new_fault_is_shown; new_fatal_is_shown = t.loses_no_error.new_fatal_is_shown; new_plug_event_is_shown = t.loses_no_error.new_plug_event_is_shown };
+        loses_no_error = record { ready_errors_are_handled_or_shown = t.loses_no_error.ready_errors_are_handled_or_shown; changes_are_handled_or_shown_unless_dead = t.loses_no_error.changes_are_handled_or_shown_unless_dead; ready_shows_fault_since_start = t.loses_no_error.ready_shows_fault_since_start; ready_shows_fatal_since_start = t.loses_no_error.ready_shows_fatal_since_start; ready_shows_plug_event_since_start = t.loses_no_error.ready_shows_plug_event_since_start };
         runs_well_anew = t.runs_well_anew;
         handles_evidence = tt;
       }
@@ -525,7 +525,7 @@ module _ (laws : PrerequisiteLaws) (s new : ServerState) (replies : List Reply) 
       evidenced
       due_then
       port_part
-      (laws.backed_parts s.device s.device new.device was.machine (Age ready ∷ []) p.steps (laws.backed_own s.device was.machine (Age ready) (λ x. x)) p.backed)
+      (laws.backed_parts_join s.device s.device new.device was.machine (Age ready ∷ []) p.steps (laws.drivers_own_step_is_backed s.device was.machine (Age ready) (λ x. x)) p.backed)
       (subst (MachineRelation new) (sym whole_is) p.machine_relation)
 
 pub law_ticks_extend_history : PrerequisiteLaws → (s new : ServerState) (replies : List Reply) → SettledInvariant s → Ticks replies s new → ExtendsSettled s new Tick (Replied replies)

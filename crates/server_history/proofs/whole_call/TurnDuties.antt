@@ -26,7 +26,7 @@ use Rattle.host_boot.specs.TakeOver.{probe_result_of}
 use Rattle.host_boot.specs.declared.ProbeResult.{ProbeResult}
 use Rattle.driver_history.specs.EvidenceHandling.{ToldOkOr, IsLeftAlone, ServicesReadyPort, tells_fault}
 use Rattle.driver_history.specs.Evidence.{ShowsLinkChange, ShowsFailure}
-use Rattle.driver_history.specs.Histories.{BootsAnew, FindsDone, IsForeignOrUnfit, HasOnlyTaskFileError, IsAnsweredFaulty, IsIssuedOn, PortCorresponds}
+use Rattle.driver_history.specs.Histories.{BootsAnewWhereRequired, FindsDone, IsForeignOrUnfit, HasOnlyTaskFileError, IsAnsweredFaulty, IsIssuedOn, PortCorresponds}
 use Rattle.driver_history.specs.PortTurn.{HasTurnIn, EvidenceAgreesOn}
 use Rattle.server_history.specs.Prerequisites.{PrerequisiteLaws}
 use Rattle.server_history.specs.Turns.{IsPortTurn, HandlesShownErrors, ServingReady, SimulatesTurn, TurnCorresponds, Turn, joint_state_of, abstract_state_of, joint_event_of_turn}
@@ -152,9 +152,9 @@ module _ (laws : PrerequisiteLaws) (s : ServerState) (start : SettledInvariant s
 
         used_still : InUse (c.device.port n) it.has.slot
         used_still =
-            let sole = p.settled_invariant.in_call_invariant.plain_stands_alone n it.has.slot it.has.used it.has.used_is used_plain in
+            let sole = p.settled_invariant.in_call_invariant.plain_is_alone_in_slot_0 n it.has.slot it.has.used it.has.used_is used_plain in
             subst (InUse (c.device.port n)) (laws.slots.shown_fault_is_of_lone_slot p.machine_relation.uses m c.device n it.has.slot (drop (c.device.port n).notes.st_set_at c.device.tape) p.machine_relation.driver_relation.state_relation fault
-            (λ other apart. free_unused c m n p.machine_relation ready_c other (sole.1 other (λ zero. apart (zero ∙ sym sole.0))))) fault.slot_is_in_use
+            (λ other apart. free_unused c m n p.machine_relation ready_c other (sole.1 other (λ zero. apart (zero ∙ sym sole.0))))) fault.slot_is_issued_or_taken
 
         -- so it hasn't ended
         unended_now : it.now_is.ended ≡ false
@@ -165,11 +165,11 @@ module _ (laws : PrerequisiteLaws) (s : ServerState) (start : SettledInvariant s
             (λ no. no)
             (cases_Bool it.now_is.ended)
 
-        fault_told : IsAnsweredFaulty e all ⊎ (state_of (probe_result_of mid.probe_results n) ≡ Dead)
-        fault_told = ⊎_elim
+        tfes_read_means_faulted : IsAnsweredFaulty e all ⊎ (state_of (probe_result_of mid.probe_results n) ≡ Dead)
+        tfes_read_means_faulted = ⊎_elim
             (λ (a : IsAnsweredFaulty it.now_is x.steps). inl (a.0, a.1, a.2, a.3 ∙ it.same_as.request, Contains-append_left x.steps p.steps (Answer a.0 (DeviceError a.1 a.2)) a.4))
             (λ dead. inr dead)
-            (did.plain_faults_are_told alone_now it.now_is it.has.slot (then_issued e own it) unended_now (lifting.by AService laws s start old reached at ports_are n c mid before its p next part m_reached on_mid ready e it).serves plain_now)
+            (did.lone_plain_faults_are_told_unless_dead alone_now it.now_is it.has.slot (then_issued e own it) unended_now (lifting.by AService laws s start old reached at ports_are n c mid before its p next part m_reached on_mid ready e it).serves plain_now)
 
       -- ---- what it heeds
 
@@ -197,7 +197,7 @@ module _ (laws : PrerequisiteLaws) (s : ServerState) (start : SettledInvariant s
         link_change_leaves_none = λ gone e here. serves.link_change_leaves_none (alike.link_changed.1 gone) e (subst (λ (k : Machine). Contains k.book e) whole_is here);
         link_change_tells_alike = λ gone. ⊎_elim (λ a. inl (told_whole _ a)) (λ b. inr (told_whole _ b)) (serves.link_change_tells_alike (alike.link_changed.1 gone));
         trouble_interrupts = λ port_error. lifting.named AService laws s start old reached at ports_are n c mid before its p next part m_reached on_mid evidence alike (serves.trouble_interrupts (⊎_elim (λ failed. inl (alike.showing_error.1 failed)) (λ gone. inr (alike.link_changed.1 gone)) port_error));
-        trouble_leaves_none_issued = λ port_error. lifting.anew_whole AService laws s start old reached at ports_are n c mid before its p next part m_reached on_mid (serves.trouble_leaves_none_issued (⊎_elim (λ failed. inl (alike.showing_error.1 failed)) (λ stopped. inr (alike.stopped.1 stopped)) port_error));
+        error_or_stop_leaves_no_old_issue = λ port_error. lifting.anew_whole AService laws s start old reached at ports_are n c mid before its p next part m_reached on_mid (serves.error_or_stop_leaves_no_old_issue (⊎_elim (λ failed. inl (alike.showing_error.1 failed)) (λ stopped. inr (alike.stopped.1 stopped)) port_error));
         one_fault_at_most = let one = serves.one_fault_at_most in omega (arith, counted, one);
         fatal_tells_no_fault = λ here. let y = serves.fatal_tells_no_fault (alike.showing_fatal_error.1 here) in (alike.showing_error.0 y.0, counted ∙ y.1);
         shown_disk_was_in_or_came = lifting.disk_whole AService laws s start old reached at ports_are n c mid before its p next part m_reached on_mid serves.shown_disk_was_in_or_came;
@@ -218,7 +218,7 @@ module _ (laws : PrerequisiteLaws) (s : ServerState) (start : SettledInvariant s
 
       -- where the port showed a failure when it began, or a change of its link, the turn stopped it
       stops_troubled : ShowsFailure (c.device.port n) ⊎ ShowsLinkChange (c.device.port n) → IsStoppedOrStuck x.evidence (port_at n)
-      stops_troubled port_error = serves.trouble_interrupts (⊎_elim (λ failure. inl (x.is_evidenced.showing_error_all ready_c failure)) (λ change. inr (x.is_evidenced.link_changed_all ready_c (inl change))) port_error)
+      stops_troubled port_error = serves.trouble_interrupts (⊎_elim (λ failure. inl (x.is_evidenced.shown_failure_of_ready_is_named ready_c failure)) (λ change. inr (x.is_evidenced.shown_loss_of_ready_is_named ready_c (inl change))) port_error)
 
       -- ---- the whole
 
@@ -234,14 +234,14 @@ module _ (laws : PrerequisiteLaws) (s : ServerState) (start : SettledInvariant s
       pub ties_whole : PortCorresponds began (joint_event_of_turn ServingReady [] mid evidence all) accesses (port_at n)
       ties_whole = record {
         finds_done = λ _ e own. finding e own;
-        plain_faults_are_told = λ alone e slot own unended says plain. fault_told alone e slot own unended says plain;
+        lone_plain_faults_are_told_unless_dead = λ alone e slot own unended says plain. tfes_read_means_faulted alone e slot own unended says plain;
         probes_disk = λ served coming. record {
-          absent_with_device_is_booted = λ absent det. absurd (not_absent absent);
-          absent_gets_first_fis = λ absent det fresh. absurd (not_absent absent);
-          missing_disk_makes_absent = λ bad. absurd (not_bad bad);
-          changed_disk_is_booted = λ bad. absurd (not_bad bad);
+          absent_with_device_is_booted_dead_or_has_plug_event = λ absent det. absurd (not_absent absent);
+          absent_gets_first_fis_or_dead_or_no_device = λ absent det fresh. absurd (not_absent absent);
+          missing_disk_makes_absent_or_dead = λ bad. absurd (not_bad bad);
+          changed_disk_is_booted_or_absent_or_dead = λ bad. absurd (not_bad bad);
         };
-        boots_anew = subst (λ (list : List Access). BootsAnew Service (Replied []) (p.accesses ++ list) began (ports_of mid) mid.device (port_at n)) (append-nil part.accesses)
+        boots_anew = subst (λ (list : List Access). BootsAnewWhereRequired Service (Replied []) (p.accesses ++ list) began (ports_of mid) mid.device (port_at n)) (append-nil part.accesses)
             (laws.calls.turn_boots_are_calls (port_at n) began (abstract_state_of c m) (ports_of mid) (ports_of mid) mid.device (Replied its) (Replied []) kept.adapter_is_on (λ _. undue) t on_mid same_self same_n did.boots_anew);
         loses_no_error = heeds_trouble.loses_no_error;
         runs_well_anew = heeds_trouble.runs_well_anew;

@@ -33,7 +33,7 @@ use Rattle.driver_history.specs.EvidenceHandling.{tells_fault}
 use Rattle.driver_history.specs.Evidence.{ShowsLinkChange, ShowsFailure}
 use Rattle.driver_history.specs.Histories.{FindsDone, IsAnsweredOk, IsIssuedOn, RunsWellAnew}
 use Rattle.driver_history.specs.PortTurn.{HasTurnIn, IsOfOtherPort, EvidenceAgreesOn}
-use Rattle.driver_history.specs.AccessTrace.{DoesNotWriteCmd, LeavesEngine, ResetsLink}
+use Rattle.driver_history.specs.AccessTrace.{DoesNotWriteCmd, WritesNeitherCmdNorSctl, ResetsLink}
 use Rattle.driver_history.specs.PortInvariants.{EngineRuns}
 use Rattle.server_history.specs.Prerequisites.{PrerequisiteLaws}
 use Rattle.server_history.specs.Turns.{FindsDoneInTurn, IsPortTurn, HandlesShownErrors, SimulatesTurn, joint_state_of, abstract_state_of}
@@ -156,10 +156,10 @@ module _ (plan : Plan) (laws : PrerequisiteLaws) (s : ServerState) (start : Sett
         (λ stops. laws.calls.stopped_port_set_st_since (port_at n) part.accesses c.device mid.device p.adapter_is_on
         (All-weaker (SparesOtherPorts (port_at n)) (DoesNotWrite Ghc) (λ access of. laws.one_port_spares_ghc (port_at n) access of) part.accesses part.accesses_are_of_port) part.accesses_are_done stops (runs_then ready_mid).st_is_set)
         (λ (reset : _ × _). absurd (not_reset plan (probe_result_of s.probe_results n) n its reset.0))
-        (x.is_evidenced.stopped_only stopped))
+        (x.is_evidenced.named_stopped_was_stopped_or_reset stopped))
         (λ stuck. ⊎_elim
         (λ (dead : state_of (probe_result_of c.probe_results n) ≡ Dead). let z : ReadyState ≡ Dead = sym ready_mid ∙ (x.port_is_serviced.0 dead).1 ∙ dead in absurd cc)
-        (λ (lives : state_of (probe_result_of c.probe_results n) ≢ Dead). let z : ReadyState ≡ Dead = sym ready_mid ∙ (x.port_is_serviced.1 lives).0.dead_is_stuck.1 stuck in absurd cc)
+        (λ (lives : state_of (probe_result_of c.probe_results n) ≢ Dead). let z : ReadyState ≡ Dead = sym ready_mid ∙ (x.port_is_serviced.1 lives).0.dead_exactly_if_stuck.1 stuck in absurd cc)
         (dead_or_not (state_of (probe_result_of c.probe_results n))))
         i
 
@@ -300,7 +300,7 @@ module _ (plan : Plan) (laws : PrerequisiteLaws) (s : ServerState) (start : Sett
             accesses_are_split = ap (λ (late : List Access). p.accesses ++ late) f.finds_done.reads.accesses_are_split
                 ∙ sym (append_assoc p.accesses f.finds_done.reads.before (Reading (Px (port_at n) Ci) f.finds_done.ci ∷ Reading (Px (port_at n) Sact) f.finds_done.sact ∷ f.finds_done.reads.later));
             cmd_is_unwritten_before = All-append (DoesNotWriteCmd (port_at n)) p.accesses f.finds_done.reads.before
-                (All-weaker (LeavesEngine (port_at n)) (DoesNotWriteCmd (port_at n)) (λ access leaves. leaves.0) p.accesses (others_leave plan laws s start old reached at ports_are (port_at n) p.accesses (p.others (port_at n) not_yet)))
+                (All-weaker (WritesNeitherCmdNorSctl (port_at n)) (DoesNotWriteCmd (port_at n)) (λ access leaves. leaves.0) p.accesses (others_leave plan laws s start old reached at ports_are (port_at n) p.accesses (p.others (port_at n) not_yet)))
                 f.finds_done.reads.cmd_is_unwritten_before;
           };
           answered_iff_done = λ other slot own says. ⊎_elim

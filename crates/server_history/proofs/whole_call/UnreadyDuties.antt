@@ -14,8 +14,8 @@ use Rattle.block_machine.specs.Expected.{after}
 use Rattle.block_machine.specs.Ports.{Evidence, IsStoppedOrStuck, Ports, SamePort}
 use Rattle.block_machine.specs.State.{Machine}
 use Rattle.block_machine.specs.Steps.{Step}
-use Rattle.driver_history.specs.Histories.{BootsAnew, IsForeignOrUnfit, ProbesDisk, PortCorresponds}
-use Rattle.driver_history.specs.PortTurn.{EndsNoLinkDue, HasTurnIn, EvidenceAgreesOn}
+use Rattle.driver_history.specs.Histories.{BootsAnewWhereRequired, IsForeignOrUnfit, ProbesDisk, PortCorresponds}
+use Rattle.driver_history.specs.PortTurn.{ChangedUnreadyPortEndsNoLinkDue, HasTurnIn, EvidenceAgreesOn}
 use Rattle.driver_history.specs.AccessTrace.{ResetsLink}
 use Rattle.host_boot.specs.TakeOver.{probe_result_of}
 use Rattle.host_boot.specs.declared.ProbeResult.{ProbeResult}
@@ -115,14 +115,14 @@ module _ (laws : PrerequisiteLaws) (s : ServerState) (start : SettledInvariant s
       heeds = lifting.trouble_whole AService laws s start old reached at ports_are n c mid before its p next part m_reached on_mid evidence alike same_n
           (λ ready port_error. ⊎_elim (λ before. absurd (never_then before)) stopped ready) (λ ready. inr (resets ready)) (record { loses_no_error = did.loses_no_error; runs_well_anew = did.runs_well_anew })
 
-      pub tried_whole : PortCorresponds began (joint_event_of_turn ServingReady [] mid evidence all) accesses (port_at n) × EndsNoLinkDue (port_at n) began (ports_of mid) mid.device
+      pub tried_whole : PortCorresponds began (joint_event_of_turn ServingReady [] mid evidence all) accesses (port_at n) × ChangedUnreadyPortEndsNoLinkDue (port_at n) began (ports_of mid) mid.device
       tried_whole = (
         record {
           finds_done = λ ready. absurd (never ready);
-          plain_faults_are_told = λ alone. absurd (never alone.ready);
+          lone_plain_faults_are_told_unless_dead = λ alone. absurd (never alone.ready);
           probes_disk = λ served comes. subst (λ (list : List Access). ProbesDisk (p.accesses ++ list) began (ports_of mid) mid.device (port_at n)) (append-nil part.accesses)
               (laws.calls.turn_probe_is_calls (port_at n) began (abstract_state_of c m) (ports_of mid) (ports_of mid) mid.device kept.adapter_is_on t on_mid same_self same_n (there (port_at n)) its_ties.1 (λ none. did.probes_disk (same_n.0 ∙ served) none) comes);
-          boots_anew = subst (λ (list : List Access). BootsAnew Service (Replied []) (p.accesses ++ list) began (ports_of mid) mid.device (port_at n)) (append-nil part.accesses)
+          boots_anew = subst (λ (list : List Access). BootsAnewWhereRequired Service (Replied []) (p.accesses ++ list) began (ports_of mid) mid.device (port_at n)) (append-nil part.accesses)
               (laws.calls.turn_boots_are_calls (port_at n) began (abstract_state_of c m) (ports_of mid) (ports_of mid) mid.device (Replied its) (Replied []) kept.adapter_is_on (λ ready. absurd (never ready)) t on_mid same_self same_n did.boots_anew);
           loses_no_error = heeds.loses_no_error;
           runs_well_anew = heeds.runs_well_anew;
@@ -175,11 +175,11 @@ module _ (laws : PrerequisiteLaws) (s : ServerState) (start : SettledInvariant s
     heeds_still = carrying.trouble_still AService laws s start old reached at ports_are n c mid before its p part m_reached q apart d evidence alike same
         (λ ready port_error. ⊎_elim (λ before. absurd (unready before)) stopped_so_far ready) (λ ready. inr (reset_so_far ready)) (record { loses_no_error = so_far.loses_no_error; runs_well_anew = so_far.runs_well_anew })
 
-    pub tried_still : PortCorresponds began (joint_event_of_turn ServingReady [] mid evidence steps_then) accesses_then q × EndsNoLinkDue q began (ports_of mid) mid.device
+    pub tried_still : PortCorresponds began (joint_event_of_turn ServingReady [] mid evidence steps_then) accesses_then q × ChangedUnreadyPortEndsNoLinkDue q began (ports_of mid) mid.device
     tried_still = (
       record {
         finds_done = λ ready. absurd (unready ready);
-        plain_faults_are_told = λ alone. absurd (unready alone.ready);
+        lone_plain_faults_are_told_unless_dead = λ alone. absurd (unready alone.ready);
         probes_disk = λ served comes. laws.calls.turn_probe_is_calls q began old (ports_of c) (ports_of mid) mid.device kept.adapter_is_on turn p.adapter_is_on same same_old (there q) d.ties.1 (λ none. so_far.probes_disk served none) comes;
         boots_anew = laws.calls.turn_boots_are_calls q began old (ports_of c) (ports_of mid) mid.device (Replied []) (Replied []) kept.adapter_is_on (λ ready. absurd (unready ready)) turn p.adapter_is_on same same_old so_far.boots_anew;
         loses_no_error = heeds_still.loses_no_error;

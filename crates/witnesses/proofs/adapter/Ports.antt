@@ -19,7 +19,7 @@ use Rattle.adapter.specs.Idle.{IsIdle, IsIdlePort, HoldsBytesAndTellsDisks}
 use Rattle.adapter.specs.Memory.{changed}
 use Rattle.adapter.specs.Rules.{IsProgrammed, MayWriteCmd, MayIssue}
 use Rattle.adapter.specs.Decoding.{DecodesTo}
-use Rattle.witnesses.specs.AdapterRuns.{AccessOrStep, IsAsReset, IsReachableByRun, CommandsAreSafe, AllMayCome, device_after_run, after_access_or_step}
+use Rattle.witnesses.specs.AdapterRuns.{AccessOrStep, IsAsReset, IsReachableByRun, CommandBytesAreGuarded, AllMayCome, device_after_run, after_access_or_step}
 use Rattle.witnesses.proofs.adapter.RunningAdapter.{memory, memory_bytes}
 use Rattle.witnesses.proofs.adapter.Sets.{Range, is_in, covers, spares, spares_all, covered, spared, avoided, both, true-false}
 
@@ -163,8 +163,8 @@ may_receive p fallen fb fbu same = record {
 
 pub may_start : (p : DevicePort) → p.cr ≡ false → p.fre ≡ true → IsProgrammed p → p.notes.last_ssts % 16 ≡ 3
     → bit p.notes.last_tfd 7 || bit p.notes.last_tfd 3 ≡ false → same_others 0x11 p.notes.last_cmd 32 ≡ true → MayWriteCmd p 0x11
-may_start p fallen receives programmed link not_busy same = record {
-  start = λ _. inr (record { cr_is_clear = fallen; receives = receives; programmed = programmed; link_was_seen = link; not_busy = not_busy });
+may_start p fallen receives programmed link last_tfd_was_idle same = record {
+  start = λ _. inr (record { cr_is_clear = fallen; receives = receives; programmed = programmed; link_was_seen = link; last_tfd_was_idle = last_tfd_was_idle });
   receive = λ _. inl receives;
   stop_receiving = λ h. absurd (true-false refl h);
   other_bits_are_kept = others_are 0x11 p.notes.last_cmd same;
@@ -206,7 +206,7 @@ pub first_sane : HoldsBytesAndTellsDisks first
 first_sane = record {
   memory_holds_bytes = memory_bytes;
   disks_hold_sectors = at_each (λ p. HasValidSectors p.disk) disk_is none_is;
-  disks_are_told = λ _. at_each (λ p. HasKnownSectors p.disk) (first_disk_sector, refl) (λ k. [], refl);
+  disks_are_known_if_telling = λ _. at_each (λ p. HasKnownSectors p.disk) (first_disk_sector, refl) (λ k. [], refl);
 }
 
 first_reset : (q : ℕ) → IsAsReset (first.port q)
@@ -263,7 +263,7 @@ untouched rs mem =
 
 -- An adapter is safe on which nothing was issued, where port 0 alone was touched.
 pub unused_safe : (d : Device) → ((k : ℕ) → (d.port 0).ci k ≡ false) → ((k : ℕ) → (d.port 0).taken k ≡ None)
-    → ((q : ℕ) → q ≢ 0 → d.port q ≡ first.port q) → CommandsAreSafe d
+    → ((q : ℕ) → q ≢ 0 → d.port q ≡ first.port q) → CommandBytesAreGuarded d
 unfolding spares
 unused_safe d clear none elsewhere = record {
   tables = is_in [];

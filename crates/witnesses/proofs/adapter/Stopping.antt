@@ -9,7 +9,7 @@ use Rattle.adapter.specs.FirstRead.{first_disk, first_disk_sector}
 use Rattle.adapter.specs.Memory.{changed}
 use Rattle.adapter.specs.Steps.{Can}
 use Rattle.adapter.specs.Steps.DeviceTransition.{Fall, Fatal, FrFall, LinkUp, Plug, Scribble, Unplug}
-use Rattle.witnesses.specs.AdapterRuns.{AccessOrStep, IsReachableByRun, CommandsAreSafe, device_after_run}
+use Rattle.witnesses.specs.AdapterRuns.{AccessOrStep, IsReachableByRun, CommandBytesAreGuarded, device_after_run}
 use Rattle.witnesses.specs.AdapterRuns.AccessOrStep.{MadeAccess, DeviceStepCame}
 use Rattle.witnesses.proofs.adapter.Ports.{are_of, is_of, disk_is, first, others_are, reached_more, run_elsewhere, same_others, unused_safe}
 use Rattle.witnesses.proofs.adapter.Sets.{all_bytes, are_bytes, true-false}
@@ -23,7 +23,7 @@ linking = prepared 0x400
 pub linking_reached : IsReachableByRun linking
 linking_reached = prepared_reached 0x400 refl (omega arith)
 
-pub linking_safe : CommandsAreSafe linking
+pub linking_safe : CommandBytesAreGuarded linking
 unfolding changed
 linking_safe = unused_safe linking (λ k. refl) (λ k. refl) (prepared_elsewhere 0x400)
 
@@ -39,7 +39,7 @@ running = started 0x400
 pub running_reached : IsReachableByRun running
 running_reached = started_reached 0x400 refl (omega arith)
 
-pub running_safe : CommandsAreSafe running
+pub running_safe : CommandBytesAreGuarded running
 unfolding changed
 running_safe = unused_safe running (λ k. refl) (λ k. refl) (started_elsewhere 0x400)
 
@@ -63,7 +63,7 @@ unplugged = device_after_run (DeviceStepCame (Unplug 0) ∷ []) running
 pub unplugged_reached : IsReachableByRun unplugged
 unplugged_reached = reached_more running_reached (DeviceStepCame (Unplug 0) ∷ []) (may_unplug, tt)
 
-pub unplugged_safe : CommandsAreSafe unplugged
+pub unplugged_safe : CommandBytesAreGuarded unplugged
 unfolding changed are_of is_of
 unplugged_safe = unused_safe unplugged (λ k. refl) (λ k. refl)
     (λ q away. run_elsewhere 0 (DeviceStepCame (Unplug 0) ∷ []) running refl q away ∙ started_elsewhere 0x400 q away)
@@ -100,7 +100,7 @@ stopped_elsewhere : (q : ℕ) → q ≢ 0 → stopped.port q ≡ first.port q
 unfolding are_of is_of
 stopped_elsewhere q away = run_elsewhere 0 stop running refl q away ∙ started_elsewhere 0x400 q away
 
-pub stopped_safe : CommandsAreSafe stopped
+pub stopped_safe : CommandBytesAreGuarded stopped
 unfolding changed
 stopped_safe = unused_safe stopped (λ k. refl) (λ k. refl) stopped_elsewhere
 
@@ -133,7 +133,7 @@ silent_reached = reached_more stopped_reached stop_receiving (
   ),
 )
 
-pub silent_safe : CommandsAreSafe silent
+pub silent_safe : CommandBytesAreGuarded silent
 unfolding changed are_of is_of
 silent_safe = unused_safe silent (λ k. refl) (λ k. refl)
     (λ q away. run_elsewhere 0 stop_receiving stopped refl q away ∙ stopped_elsewhere q away)

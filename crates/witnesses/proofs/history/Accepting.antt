@@ -92,7 +92,7 @@ abbrev pub issued_at : ℕ → JointState Device
 issued_at age = record { device = submitted; abstract = record { machine = issued_for age; ports = both } }
 
 may_issue : IsEnabled (after start (Accept (issuing_on.accepted submission) ∷ [])) (Issue plain_disk_mode waits)
-may_issue = ((0, omega arith, refl), record { is_in_book = (0, omega arith, refl); nothing_blocks = refl; slot_is_left = λ h. absurd (true≢false h) }, λ e h. absurd (nowhere e h), granted)
+may_issue = ((0, omega arith, refl), record { is_in_book = (0, omega arith, refl); waits_and_nothing_blocks = refl; slot_is_left = λ h. absurd (true≢false h) }, λ e h. absurd (nowhere e h), granted)
 
 stands : Stands issued
 stands = record { same = refl; quiet = λ place from. refl }
@@ -210,7 +210,7 @@ leaves_other told evidence new un single same = record {
   link_change_leaves_none = λ g. absurd (un.gone g);
   link_change_tells_alike = λ g. absurd (un.gone g);
   trouble_interrupts = λ why. absurd (⊎_elim un.failed un.gone why);
-  trouble_leaves_none_issued = λ why. absurd (⊎_elim un.failed un.stopped why);
+  error_or_stop_leaves_no_old_issue = λ why. absurd (⊎_elim un.failed un.stopped why);
   one_fault_at_most = single;
   fatal_tells_no_fault = λ h. absurd (un.fatal h);
   shown_disk_was_in_or_came = λ shows. inl refl;

@@ -14,7 +14,7 @@ use Rattle.adapter.specs.declared.access.DeviceStep.{DeviceStep}
 use Rattle.refinement.specs.Relation.{port_at}
 use Rattle.refinement.specs.Driver.{TapeBacksSteps}
 use Rattle.block_machine.specs.DueRequests.{NoneDue}
-use Rattle.block_machine.specs.Events.{AgesOnce, Happens, TimesOutAtTick, RestartsTimedOut, Replied, Tick, is_age}
+use Rattle.block_machine.specs.Events.{AgesReadyPortsFirstAndOnce, Happens, TimesOutAtTick, RestartsTimedOut, Replied, Tick, is_age}
 use Rattle.block_machine.specs.Histories.{JointEvent}
 use Rattle.block_machine.specs.State.{Pending, unanswered}
 use Rattle.block_machine.specs.Steps.{Step, WaitAgain, Age, Answer}
@@ -22,7 +22,7 @@ use Rattle.block_machine.specs.declared.due.Unanswered.{Unanswered}
 use Rattle.identify.specs.declared.wanted.Wanted.TheVariants.{Any}
 use Rattle.driver_history.specs.Evidence.{IsEvidencedOf, ShowsFailure, ShowsLoss}
 use Rattle.driver_history.specs.Histories.{IssuesDue, CallCorresponds, PortCorresponds}
-use Rattle.driver_history.specs.AccessTrace.{UsesPortsAndNotGhc, LeavesEngine}
+use Rattle.driver_history.specs.AccessTrace.{UsesPortsAndNotGhc, WritesNeitherCmdNorSctl}
 use Rattle.witnesses.specs.RunningAdapter.{plain_disk_mode}
 use Rattle.witnesses.proofs.history.Accepting.{both, holds_issued, in_book, issued_at, issued_for, waiting_for}
 use Rattle.witnesses.proofs.history.Command.{read_memory}
@@ -61,7 +61,7 @@ ready_is (suc zero) = (λ _. refl, λ _. refl)
 ready_is (suc (suc n)) = (λ t. absurd (true≢false (sym t)), λ is. absurd (let x : Absent ≡ Ready = is in cc))
 
 -- a call ages them once, and first of all
-pub ages_once : (later : List Step) → count_by is_age later ≡ 0 → AgesOnce both (later ++ ages ∷ [])
+pub ages_once : (later : List Step) → count_by is_age later ≡ 0 → AgesReadyPortsFirstAndOnce both (later ++ ages ∷ [])
 ages_once later once = record { ready_ports = two_served; is_ready = λ port. ready_is port.0; later = later; age_is_first = refl; no_other_age = once }
 
 -- no request is due
@@ -99,7 +99,7 @@ module _ (age : ℕ) where
   }
 
   pub evidenced : (n : ℕ) → IsEvidencedOf Tick (Replied []) [] (issued_at age) both submitted nothing (port_at n)
-  evidenced n = unnamed_evidenced Tick (Replied []) [] (issued_at age) both submitted nothing (port_at n) (none_named (port_at n)) (quiet n) (All-nil (LeavesEngine (port_at n)))
+  evidenced n = unnamed_evidenced Tick (Replied []) [] (issued_at age) both submitted nothing (port_at n) (none_named (port_at n)) (quiet n) (All-nil (WritesNeitherCmdNorSctl (port_at n)))
 
   pub issues : (port : Port) → IssuesDue (both.mode port) (ages ∷ []) (issued_for (suc age)) port
   issues port r here at_port = (
@@ -115,7 +115,7 @@ module _ (age : ℕ) where
       only_timed_out_are_answered = λ e o here. absurd (unanswered_then e o here);
       answers_ended = λ port h. absurd (not_hung age young port h);
       none_stays_issued = λ port h. absurd (not_hung age young port h);
-      timed_out_iff_interrupted = λ port. (λ h. absurd (not_hung age young port h), λ why. absurd (⊎_elim (nowhere port) (nowhere port) why));
+      timed_out_iff_stopped_or_stuck = λ port. (λ h. absurd (not_hung age young port h), λ why. absurd (⊎_elim (nowhere port) (nowhere port) why));
       unplugged_lost_disk = λ e here. absurd (unanswered_then e outcome.Unplugged here);
       shown_disk_was_in_or_came = λ port h. absurd (not_hung age young port h);
     }
@@ -127,7 +127,7 @@ module _ (age : ℕ) where
       issue_is_last_of_request = (tt, λ id handled issued_in. absurd (true≢false (sym handled)));
       answers_are_lawful = tt;
       ports_are_well_formed = fit_ready plain_disks;
-      unanswered_keep_disk = λ e o here there same. (refl, refl);
+      unanswered_keep_serial_and_size = λ e o here there same. (refl, refl);
       result_matches_steps = record {
         replies_match = record { answers = []; is_permutation = IsPermutation-refl _; ordered = λ i j d less low. absurd (omega (arith, less, low)); replies_are_of_answers = refl };
         ages_once = ages_once [] refl;
@@ -136,7 +136,7 @@ module _ (age : ℕ) where
           none_is_left = λ e other here. absurd (unanswered_then e outcome.Unplugged here);
           none_is_told_dead = λ e other here. absurd (unanswered_then e outcome.Unplugged here);
         };
-        none_is_due = λ port is. not_due (suc age) port;
+        none_is_due_where_ready = λ port is. not_due (suc age) port;
         was_ready_empty_unless_ready = λ port is not_ready. absurd (not_ready is);
       };
     }
@@ -144,7 +144,7 @@ module _ (age : ℕ) where
     pub tick_part : (n : ℕ) → PortCorresponds (issued_at age) tick [] (port_at n)
     tick_part n = record {
       finds_done = λ h. absurd (not_hung age young (port_at n) h);
-      plain_faults_are_told = tt;
+      lone_plain_faults_are_told_unless_dead = tt;
       probes_disk = tt;
       boots_anew = λ h. absurd (not_hung age young (port_at n) h);
       loses_no_error = no_trouble nothing (issued_at age) both submitted (port_at n) [] refl (All-nil (IsCalm n)) (served_ready n) (quiet n);
@@ -158,7 +158,7 @@ module _ (age : ℕ) where
       accesses_are_explained = (refl, All-nil (UsesPortsAndNotGhc (TimesOutAtTick (issued_at age).abstract)));
       is_backed = backed;
       is_evidenced = record { faults_are_told = λ f here. absurd (nowhere f here); each_port_is_evidenced = λ port. evidenced port.0 };
-      only_failed_requeue = tt;
+      only_failed_requeue_if_service = tt;
       issues_all_due = λ port is. issues port;
       ports_correspond = λ port. tick_part port.0;
       invariant_holds = (first_slots, holds_issued (suc age));

@@ -33,7 +33,7 @@ use Rattle.refinement.specs.PreservedParts.{IsPlugEvent}
 use Rattle.error_recovery.specs.Evidence.{ShowsFatal}
 use Rattle.driver_history.specs.EvidenceHandling.{ServicesReadyPort}
 use Rattle.driver_history.specs.Evidence.{TapeGainsEntry, IsEvidencedOf, ShowsLoss, ShowsFailure}
-use Rattle.driver_history.specs.Histories.{FindsDone, IsIssuedOn, CallCorresponds, PortCorresponds, BootsAnew, LosesNoPortError, RunsWellAnew, IsServedAndNotDead}
+use Rattle.driver_history.specs.Histories.{FindsDone, IsIssuedOn, CallCorresponds, PortCorresponds, BootsAnewWhereRequired, LosesNoPortError, RunsWellAnew, IsServedAndNotDead}
 use Rattle.driver_history.specs.AccessTrace.{DoesNotWriteCmd}
 use Rattle.port_control.specs.Engines.{Stops}
 use Rattle.witnesses.specs.Loss.{completing_turn, losing_turn, loss_evidence, LossIsAHistory}
@@ -113,8 +113,8 @@ becomes n = (
   λ _. (
     record {
       served_is_unchanged = refl;
-      dead_is_stuck = (λ is. absurd (not_dead_then n is), λ h. absurd (nowhere (port_at n) h));
-      disk_is_remembered = λ is. (refl, refl);
+      dead_exactly_if_stuck = (λ is. absurd (not_dead_then n is), λ h. absurd (nowhere (port_at n) h));
+      disk_is_remembered_unless_ready = λ is. (refl, refl);
     },
     changes n,
   ),
@@ -227,15 +227,15 @@ service_evidenced zero = apart_evidenced 0 (omega arith)
 service_evidenced (suc zero) =
     let quiet = calm submitted.tape read_memory issued refl refl refl (λ place from. refl) lost 1 refl in
     record {
-      lost_only = λ h. inr (inr (inl gains));
-      link_changed_all = λ is loss. named 1;
-      link_changed_only = λ h. (refl, inr (inr gains));
-      showing_error_all = λ is f. absurd (quiet.1 f);
-      showing_error_only = λ h. absurd (nowhere (port_at 1) h);
-      showing_fatal_error_all = λ is f. absurd (quiet.1 (inl f));
-      showing_fatal_error_only = λ h. absurd (nowhere (port_at 1) h);
+      named_lost_may_have_lost_disk = λ h. inr (inr (inl gains));
+      shown_loss_of_ready_is_named = λ is loss. named 1;
+      named_link_changed_had_change_or_no_device = λ h. (refl, inr (inr gains));
+      shown_failure_of_ready_is_named = λ is f. absurd (quiet.1 f);
+      named_showing_error_had_error = λ h. absurd (nowhere (port_at 1) h);
+      shown_fatal_of_ready_is_named = λ is f. absurd (quiet.1 (inl f));
+      named_showing_fatal_had_fatal = λ h. absurd (nowhere (port_at 1) h);
       engine_is_left_or_stopped = inr (inl (named 1));
-      stopped_only = λ h. inl stops;
+      named_stopped_was_stopped_or_reset = λ h. inl stops;
       stuck_only = λ h. absurd (nowhere (port_at 1) h);
     }
 service_evidenced (suc (suc n)) = apart_evidenced (suc (suc n)) (omega arith)
@@ -260,7 +260,7 @@ heeds zero is = record {
   link_change_leaves_none = λ g e here. absurd (nowhere e here);
   link_change_tells_alike = λ g. absurd ((unnamed 0 (omega arith)).gone g);
   trouble_interrupts = λ why. absurd (⊎_elim (nowhere (port_at 0)) (unnamed 0 (omega arith)).gone why);
-  trouble_leaves_none_issued = λ why e here. absurd (nowhere e here);
+  error_or_stop_leaves_no_old_issue = λ why e here. absurd (nowhere e here);
   one_fault_at_most = omega arith;
   fatal_tells_no_fault = λ h. absurd (nowhere (port_at 0) h);
   shown_disk_was_in_or_came = λ shows. inl refl;
@@ -275,7 +275,7 @@ heeds (suc zero) is = record {
   link_change_leaves_none = λ g e here. absurd (nowhere e here);
   link_change_tells_alike = λ g. inl (λ e o here at_port. inl (only_ok e o here));
   trouble_interrupts = λ why. inl (named 1);
-  trouble_leaves_none_issued = λ why e here. absurd (nowhere e here);
+  error_or_stop_leaves_no_old_issue = λ why e here. absurd (nowhere e here);
   one_fault_at_most = omega arith;
   fatal_tells_no_fault = λ h. absurd (nowhere (port_at 1) h);
   shown_disk_was_in_or_came = λ shows. absurd shows;
@@ -289,7 +289,7 @@ quiet = calm submitted.tape read_memory issued refl refl refl (λ place from. re
 not_shown : (n : ℕ) → both.state (port_at n) ≡ Ready → ShowsFatal (submitted.port n) ⊎ ShowsLoss (port_at n) submitted lost → ⊥
 not_shown n is f = ⊎_elim (λ fatal. (quiet n is).1 (inl fatal)) (quiet n is).0 f
 
-service_boots : (n : ℕ) → BootsAnew Service (Replied (reply ∷ [])) turns submitted_at one lost (port_at n)
+service_boots : (n : ℕ) → BootsAnewWhereRequired Service (Replied (reply ∷ [])) turns submitted_at one lost (port_at n)
 service_boots zero = (λ is f. absurd (not_shown 0 is f), inl (refl, refl, refl, refl, refl, refl))
 service_boots (suc zero) = (λ is f. absurd (not_shown 1 is f), inr (inr (inl refl)))
 service_boots (suc (suc n)) = (λ is f. absurd (not_shown (suc (suc n)) is f), inl (refl, refl, refl, refl, refl, refl))
@@ -304,11 +304,11 @@ gained_calm n ne =
 port_error : (n : ℕ) → LosesNoPortError loss_evidence submitted_at one lost (port_at n)
 port_error zero = no_trouble loss_evidence submitted_at one lost (port_at 0) gained refl (gained_calm 0 (omega arith)) (served_ready 0) (quiet 0)
 port_error (suc zero) = record {
-  errors_are_handled_or_shown = λ ready why. inl (inl (named 1));
-  changes_are_handled_or_shown = λ tends why. inl (inl (named 1));
-  new_fault_is_shown = λ ready. absurd (let x : Absent ≡ Ready = ready in cc);
-  new_fatal_is_shown = λ ready. absurd (let x : Absent ≡ Ready = ready in cc);
-  new_plug_event_is_shown = λ ready. absurd (let x : Absent ≡ Ready = ready in cc);
+  ready_errors_are_handled_or_shown = λ ready why. inl (inl (named 1));
+  changes_are_handled_or_shown_unless_dead = λ tends why. inl (inl (named 1));
+  ready_shows_fault_since_start = λ ready. absurd (let x : Absent ≡ Ready = ready in cc);
+  ready_shows_fatal_since_start = λ ready. absurd (let x : Absent ≡ Ready = ready in cc);
+  ready_shows_plug_event_since_start = λ ready. absurd (let x : Absent ≡ Ready = ready in cc);
 }
 port_error (suc (suc n)) = no_trouble loss_evidence submitted_at one lost (port_at (suc (suc n))) gained refl (gained_calm (suc (suc n)) (omega arith)) (served_ready (suc (suc n))) (quiet (suc (suc n)))
 
@@ -334,12 +334,12 @@ service_happens = record {
   issue_is_last_of_request = ((((tt, λ id h is. absurd (true≢false (sym is))), λ id h is. absurd (true≢false (sym is))), λ id h is. absurd (true≢false (sym is))), λ id h is. absurd (true≢false (sym is)));
   answers_are_lawful = (tt, (record { pending = waiting; is_in_book = (0, omega arith, refl); id_is = refl; issued = refl }, refl, all_touched, refl));
   ports_are_well_formed = fit_one;
-  unanswered_keep_disk = λ e o here. absurd (nowhere e here);
+  unanswered_keep_serial_and_size = λ e o here. absurd (nowhere e here);
   result_matches_steps = record {
     replies_match = record { answers = (ended, outcome.Ok) ∷ []; is_permutation = IsPermutation-refl _; ordered = λ i j d less low. absurd (omega (arith, less, low)); replies_are_of_answers = refl };
     dead_ports_tell_only_port_dead = λ e o here is. absurd (not_dead e.request.port.0 is);
     unplugged_empties_port = record { none_is_left = λ e other here. absurd (not_unplugged e here); none_is_told_dead = λ e other here. absurd (not_unplugged e here) };
-    none_is_due = λ port is r at_port due. absurd (nowhere r due.is_in_book);
+    none_is_due_where_ready = λ port is r at_port due. absurd (nowhere r due.is_in_book);
     empty_unless_ready = λ port other e here. absurd (nowhere e here);
     answers_ended = λ port is e here at_port done. absurd (not_ended 0 e here done);
     port_is_serviced = λ port. becomes port.0;
@@ -350,7 +350,7 @@ service_happens = record {
 service_part : (n : ℕ) → PortCorresponds submitted_at service turns (port_at n)
 service_part n = record {
   finds_done = λ is e on. service_finds n e on;
-  plain_faults_are_told = λ alone. absurd (true≢false (sym alone.shows_only_tfes.tfes_is_set ∙ (no_flags n 30)));
+  lone_plain_faults_are_told_unless_dead = λ alone. absurd (true≢false (sym alone.shows_only_tfes.tfes_is_set ∙ (no_flags n 30)));
   probes_disk = λ served none. tries_ready turns submitted_at one lost (port_at n) (served_ready n served);
   boots_anew = service_boots n;
   loses_no_error = port_error n;
@@ -364,7 +364,7 @@ service_ties = record {
   accesses_are_explained = (does_append completing_turn losing_turn submitted between lost finds loses, serving (IsServedAndNotDead both) turns of_served);
   is_backed = service_backed;
   is_evidenced = record { faults_are_told = λ f here. absurd (nowhere f here); each_port_is_evidenced = λ port. service_evidenced port.0 };
-  only_failed_requeue = tt;
+  only_failed_requeue_if_service = tt;
   issues_all_due = λ port is r here. absurd (nowhere r here);
   ports_correspond = λ port. service_part port.0;
   invariant_holds = (no_slots, holds_lost);

@@ -10,7 +10,7 @@ use Rattle.hba_regs.specs.declared.reg.PortReg.TheVariants.{Is, Ssts}
 use Rattle.adapter.specs.Access.{DoesAll, Reads, Writes, notes_after_reading, port_after_write, shown_interrupt, port_after_hba_is_write}
 use Rattle.adapter.specs.Device.{DevicePort, Device}
 use Rattle.adapter.specs.Memory.{changed}
-use Rattle.adapter.specs.Rules.{AreAcknowledged}
+use Rattle.adapter.specs.Rules.{PxIsWasWrittenOfClearedPorts}
 use Rattle.adapter.specs.Steps.{Can, device_after}
 use Rattle.adapter.specs.Steps.DeviceTransition.{Fatal}
 use Rattle.adapter.specs.declared.tape.Entry.{Entry}
@@ -84,7 +84,7 @@ does = (dev broken, tells, (dev cleared, writes_here tape_broken Is 0x08000000 b
 
 -- ---- by the rules
 
-may_acknowledge : AreAcknowledged (dev cleared) 1
+may_acknowledge : PxIsWasWrittenOfClearedPorts (dev cleared) 1
 may_acknowledge zero low set = refl
 may_acknowledge (suc n) low set = absurd (true≢false (sym set ∙ other_bit (suc n) (omega arith)))
 

@@ -15,7 +15,7 @@ use Rattle.block_machine.specs.State.{Pending}
 use Rattle.block_machine.specs.Steps.{Step, Answer}
 use Rattle.identify.specs.declared.wanted.Wanted.TheVariants.{Any}
 use Rattle.driver_history.specs.EvidenceHandling.{ServicesReadyPort}
-use Rattle.driver_history.specs.Histories.{BootsAnew, FindsDone, IsIssuedOn, IsServedAndNotDead, CallCorresponds, PortCorresponds}
+use Rattle.driver_history.specs.Histories.{BootsAnewWhereRequired, FindsDone, IsIssuedOn, IsServedAndNotDead, CallCorresponds, PortCorresponds}
 use Rattle.driver_history.specs.AccessTrace.{DoesNotWriteCmd}
 use Rattle.witnesses.specs.FatalError.{FatalErrorIsAHistory, fatal_accesses, fatal_evidence, fatal_look_accesses}
 use Rattle.witnesses.proofs.history.Accepting.{asked, both, first, issuing, submit, submit_happens, submit_parts, submit_ties, waiting, bits_set, leaves_other, none_there, not_ended, the_answer}
@@ -96,7 +96,7 @@ heeds zero is = record {
   link_change_leaves_none = λ g. absurd (nowhere (port_at 0) g);
   link_change_tells_alike = λ g. absurd (nowhere (port_at 0) g);
   trouble_interrupts = λ why. inl (named 0);
-  trouble_leaves_none_issued = λ why e here. absurd (nowhere e here);
+  error_or_stop_leaves_no_old_issue = λ why e here. absurd (nowhere e here);
   one_fault_at_most = omega arith;
   fatal_tells_no_fault = λ h. (named 0, refl);
   shown_disk_was_in_or_came = λ shows. inl refl;
@@ -105,7 +105,7 @@ heeds zero is = record {
 heeds (suc zero) is = leaves_other outcome.Unplugged fatal_evidence (booted_at outset).abstract (unnamed restart is_restart 0) (omega arith) (refl, refl, refl, refl, refl, refl)
 heeds (suc (suc n)) is = absurd (let x : Absent ≡ Ready = is in cc)
 
-boots : (n : ℕ) → BootsAnew Service (Replied replies) fatal_accesses broken_at one booted (port_at n)
+boots : (n : ℕ) → BootsAnewWhereRequired Service (Replied replies) fatal_accesses broken_at one booted (port_at n)
 boots zero = (λ is f. inr (inr (resets fatal_look_accesses)), inr (inr (inr (resets fatal_look_accesses))))
 boots (suc zero) = (λ is f. absurd (⊎_elim (λ fatal. quiet restart is_restart 0 is (inl fatal)) (there restart is_restart 1 is) f), inl (refl, refl, refl, refl, refl, refl))
 boots (suc (suc n)) = (λ is. absurd (let x : Absent ≡ Ready = is in cc), inl (refl, refl, refl, refl, refl, refl))
@@ -121,12 +121,12 @@ happens = record {
   issue_is_last_of_request = (tt, λ id h is. absurd (true≢false (sym is)));
   answers_are_lawful = (tt, (named 0, named 0));
   ports_are_well_formed = fit_one;
-  unanswered_keep_disk = λ e o here. absurd (nowhere e here);
+  unanswered_keep_serial_and_size = λ e o here. absurd (nowhere e here);
   result_matches_steps = record {
     replies_match = record { answers = (waiting, outcome.Unplugged) ∷ []; is_permutation = IsPermutation-refl _; ordered = λ i j d less low. absurd (omega (arith, less, low)); replies_are_of_answers = refl };
     dead_ports_tell_only_port_dead = λ e o here is. absurd (not_dead e.request.port.0 is);
     unplugged_empties_port = unplugs restart is_restart;
-    none_is_due = λ port is r at_port due. absurd (nowhere r due.is_in_book);
+    none_is_due_where_ready = λ port is r at_port due. absurd (nowhere r due.is_in_book);
     empty_unless_ready = λ port other e here. absurd (nowhere e here);
     answers_ended = λ port is e here at_port done. absurd (not_ended 0 e here done);
     port_is_serviced = λ port. becomes port.0;
@@ -137,7 +137,7 @@ happens = record {
 part_of : (n : ℕ) → PortCorresponds broken_at service fatal_accesses (port_at n)
 part_of n = record {
   finds_done = λ is e on. service_finds n e on;
-  plain_faults_are_told = λ alone. absurd (true≢false (sym alone.shows_only_tfes.tfes_is_set ∙ no_fault n));
+  lone_plain_faults_are_told_unless_dead = λ alone. absurd (true≢false (sym alone.shows_only_tfes.tfes_is_set ∙ no_fault n));
   probes_disk = λ served none. tries_ready fatal_accesses broken_at one booted (port_at n) (served_ready n served);
   boots_anew = boots n;
   loses_no_error = port_error restart is_restart n;
@@ -151,7 +151,7 @@ ties = record {
   accesses_are_explained = (does, serving (IsServedAndNotDead both) fatal_accesses of_tended);
   is_backed = backed restart is_restart;
   is_evidenced = record { faults_are_told = λ f here. absurd (nowhere f here); each_port_is_evidenced = λ port. evidenced restart is_restart port.0 };
-  only_failed_requeue = tt;
+  only_failed_requeue_if_service = tt;
   issues_all_due = λ port is r here. absurd (nowhere r here);
   ports_correspond = λ port. part_of port.0;
   invariant_holds = (no_slots, holds_booted outset (unpaged 1));

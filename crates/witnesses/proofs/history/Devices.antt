@@ -21,7 +21,7 @@ use Rattle.adapter.specs.Steps.{Can, TransitionsLead, DeviceTransition, Steps, d
 use Rattle.adapter.specs.Steps.DeviceTransition.{Fall}
 use Rattle.adapter.specs.declared.tape.Entry.{Entry}
 use Rattle.refinement.specs.Relation.{port_at}
-use Rattle.driver_history.specs.AccessTrace.{LeavesEngine, UsesPortsAndNotGhc, UsesPortRegistersOf}
+use Rattle.driver_history.specs.AccessTrace.{WritesNeitherCmdNorSctl, UsesPortsAndNotGhc, UsesPortRegistersOf}
 use Rattle.witnesses.specs.RunningAdapter.{running_device, port_or_empty}
 
 -- ---- one port is changed
@@ -174,15 +174,15 @@ WritesOf IsSuch (Loading at bytes ∷ accesses) = (at + length bytes ≤ DRIVER_
 WritesOf IsSuch (Storing at bytes ∷ accesses) = (at + length bytes ≤ DRIVER_BYTES) × WritesOf IsSuch accesses
 
 module _ (IsSuch : Reg → Type 0) where
-  pub leaves : (port : Port) → (IsSuch (Px port Cmd) → ⊥) → (IsSuch (Px port Sctl) → ⊥) → (accesses : List Access) → WritesOf IsSuch accesses → All (LeavesEngine port) accesses
-  leaves port command control [] of = All-nil (LeavesEngine port)
-  leaves port command control (Reading r v ∷ accesses) of = All-cons (LeavesEngine port) (Reading r v) accesses (tt, tt) (leaves port command control accesses of)
+  pub leaves : (port : Port) → (IsSuch (Px port Cmd) → ⊥) → (IsSuch (Px port Sctl) → ⊥) → (accesses : List Access) → WritesOf IsSuch accesses → All (WritesNeitherCmdNorSctl port) accesses
+  leaves port command control [] of = All-nil (WritesNeitherCmdNorSctl port)
+  leaves port command control (Reading r v ∷ accesses) of = All-cons (WritesNeitherCmdNorSctl port) (Reading r v) accesses (tt, tt) (leaves port command control accesses of)
   leaves port command control (Writing r v ∷ accesses) of =
-      All-cons (LeavesEngine port) (Writing r v) accesses
+      All-cons (WritesNeitherCmdNorSctl port) (Writing r v) accesses
       (λ is. command (subst IsSuch is of.0), λ is. control (subst IsSuch is of.0))
       (leaves port command control accesses of.1)
-  leaves port command control (Loading at bytes ∷ accesses) of = All-cons (LeavesEngine port) (Loading at bytes) accesses (tt, tt) (leaves port command control accesses of.1)
-  leaves port command control (Storing at bytes ∷ accesses) of = All-cons (LeavesEngine port) (Storing at bytes) accesses (tt, tt) (leaves port command control accesses of.1)
+  leaves port command control (Loading at bytes ∷ accesses) of = All-cons (WritesNeitherCmdNorSctl port) (Loading at bytes) accesses (tt, tt) (leaves port command control accesses of.1)
+  leaves port command control (Storing at bytes ∷ accesses) of = All-cons (WritesNeitherCmdNorSctl port) (Storing at bytes) accesses (tt, tt) (leaves port command control accesses of.1)
 
 -- a service of such ports may make each of these
 abbrev pub AreServing : (Port → Type 0) → List Access → Type 0

@@ -26,7 +26,7 @@ use Rattle.identify.specs.declared.wanted.Wanted.TheVariants.{Any}
 use Rattle.driver_history.specs.Evidence.{IsEvidencedOf}
 use Rattle.driver_history.specs.Histories.{CallCorresponds, PortCorresponds, ProbesDisk, IsForeignOrUnfit, IsServedAndNotDead}
 use Rattle.driver_history.specs.PortInvariants.{PortStateInvariant, DriverInvariantWith, HasNoUnanswered}
-use Rattle.driver_history.specs.AccessTrace.{LeavesEngine, UsesPortsAndNotGhc}
+use Rattle.driver_history.specs.AccessTrace.{WritesNeitherCmdNorSctl, UsesPortsAndNotGhc}
 use Rattle.host_boot.specs.Resets.{ReadsGlobalControl}
 use Rattle.witnesses.specs.StuckReset.{stuck_reset_accesses, StuckResetIsAHistory}
 use Rattle.witnesses.specs.RunningAdapter.{port_or_empty, ports_with_disks}
@@ -81,8 +81,8 @@ not_on on = absurd (true≢false on.no_reset)
 -- nothing that the machine agrees with changes by a reset that is pending
 still_knows : (m : Machine) → DriverRelation m (driver_state_of_slots first_slots submitted) → DriverRelation m (driver_state_of_slots first_slots pending)
 still_knows m k = record {
-  state_relation = record { relates_slots = k.state_relation.relates_slots; serve_distinct_requests = k.state_relation.serve_distinct_requests; received_areas_are_placed = k.state_relation.received_areas_are_placed; disks_are_same = k.state_relation.disks_are_same; client_frames_are_same = k.state_relation.client_frames_are_same; sectors_are_same = k.state_relation.sectors_are_same; holds_replug_candidates = k.state_relation.holds_replug_candidates };
-  have_slots = k.have_slots;
+  state_relation = record { relates_slots = k.state_relation.relates_slots; serve_distinct_requests = k.state_relation.serve_distinct_requests; received_areas_in_use_are_placed = k.state_relation.received_areas_in_use_are_placed; disks_are_same = k.state_relation.disks_are_same; client_frames_are_same = k.state_relation.client_frames_are_same; sectors_are_same_if_disks_tell = k.state_relation.sectors_are_same_if_disks_tell; holds_replug_candidates_if_disks_tell = k.state_relation.holds_replug_candidates_if_disks_tell };
+  have_slots_unless_parked = k.have_slots_unless_parked;
 }
 
 -- what holds of each port, where requests are port 0's alone
@@ -145,7 +145,7 @@ reset_happens = record {
   issue_is_last_of_request = tt;
   answers_are_lawful = tt;
   ports_are_well_formed = fit_dead;
-  unanswered_keep_disk = λ e o here there same. (refl, refl);
+  unanswered_keep_serial_and_size = λ e o here there same. (refl, refl);
   result_matches_steps = (tt, λ port. stuck_is port.0);
 }
 
@@ -168,22 +168,22 @@ reset_evidenced : (n : ℕ) → IsEvidencedOf Reset (WasReset None) stuck_reset_
 reset_evidenced n =
     let quiet = calm submitted.tape read_memory issued refl refl refl (λ place from. refl) pending n in
     record {
-      lost_only = λ h. absurd (nowhere (port_at n) h);
-      link_changed_all = λ is loss. absurd ((quiet is).0 loss);
-      link_changed_only = λ h. absurd (nowhere (port_at n) h);
-      showing_error_all = λ is f. absurd ((quiet is).1 f);
-      showing_error_only = λ h. absurd (nowhere (port_at n) h);
-      showing_fatal_error_all = λ is f. absurd ((quiet is).1 (inl f));
-      showing_fatal_error_only = λ h. absurd (nowhere (port_at n) h);
+      named_lost_may_have_lost_disk = λ h. absurd (nowhere (port_at n) h);
+      shown_loss_of_ready_is_named = λ is loss. absurd ((quiet is).0 loss);
+      named_link_changed_had_change_or_no_device = λ h. absurd (nowhere (port_at n) h);
+      shown_failure_of_ready_is_named = λ is f. absurd ((quiet is).1 f);
+      named_showing_error_had_error = λ h. absurd (nowhere (port_at n) h);
+      shown_fatal_of_ready_is_named = λ is f. absurd ((quiet is).1 (inl f));
+      named_showing_fatal_had_fatal = λ h. absurd (nowhere (port_at n) h);
       engine_is_left_or_stopped = inl (leaves (λ r. r ≡ Ghc) (port_at n) (λ is. cc) (λ is. cc) stuck_reset_accesses (refl, tt));
-      stopped_only = λ h. absurd (nowhere (port_at n) h);
+      named_stopped_was_stopped_or_reset = λ h. absurd (nowhere (port_at n) h);
       stuck_only = λ h. inr (tt, named_served n h);
     }
 
 reset_part : (n : ℕ) → PortCorresponds submitted_at reset stuck_reset_accesses (port_at n)
 reset_part n = record {
   finds_done = tt;
-  plain_faults_are_told = tt;
+  lone_plain_faults_are_told_unless_dead = tt;
   probes_disk = tt;
   boots_anew = tt;
   loses_no_error = no_trouble stuck_evidence submitted_at dead pending (port_at n) [] refl (All-nil (IsCalm n)) (served_ready n) (calm submitted.tape read_memory issued refl refl refl (λ place from. refl) pending n);
@@ -197,7 +197,7 @@ reset_ties = record {
   accesses_are_explained = (resets, record { polls = []; last_ghc = 0x80000001; accesses_are = refl; only_reads_ghc = All-nil ReadsGlobalControl; hr_is = refl });
   is_backed = reset_backed;
   is_evidenced = record { faults_are_told = λ f here. absurd (nowhere f here); each_port_is_evidenced = λ port. reset_evidenced port.0 };
-  only_failed_requeue = tt;
+  only_failed_requeue_if_service = tt;
   issues_all_due = λ port is. absurd (not_ready port.0 is);
   ports_correspond = λ port. reset_part port.0;
   invariant_holds = (first_slots, holds_dead issuing (still_knows issuing holds_submitted.driver_relation) waits_first (λ n ne e kept. absurd (nowhere e kept)));
@@ -252,13 +252,13 @@ knows_kept =
       state_relation = record {
         relates_slots = slot_kept;
         serve_distinct_requests = k.state_relation.serve_distinct_requests;
-        received_areas_are_placed = k.state_relation.received_areas_are_placed;
+        received_areas_in_use_are_placed = k.state_relation.received_areas_in_use_are_placed;
         disks_are_same = λ n. let d = k.state_relation.disks_are_same n in record { present = d.present; id = d.id; sector_count = d.sector_count };
         client_frames_are_same = k.state_relation.client_frames_are_same;
-        sectors_are_same = λ telling n. let d = k.state_relation.sectors_are_same telling n in record { told_sectors = d.told_sectors; disk_tells = d.disk_tells; bytes_are_same = d.bytes_are_same };
-        holds_replug_candidates = k.state_relation.holds_replug_candidates;
+        sectors_are_same_if_disks_tell = λ telling n. let d = k.state_relation.sectors_are_same_if_disks_tell telling n in record { told_sectors = d.told_sectors; disk_tells = d.disk_tells; bytes_are_same = d.bytes_are_same };
+        holds_replug_candidates_if_disks_tell = k.state_relation.holds_replug_candidates_if_disks_tell;
       };
-      have_slots = λ n e may at_port. inr (⊎_elim
+      have_slots_unless_parked = λ n e may at_port. inr (⊎_elim
           (λ here. absurd (nowhere e here.0))
           (λ kept. have_first e n (ap (λ (x : Pending). x.request.port.0) (is_kept e kept)) (ap (λ (x : Pending). x.request.id) (is_kept e kept)) at_port) may);
     }
@@ -277,8 +277,8 @@ becomes (suc (suc n)) = (
   λ other. (
     record {
       served_is_unchanged = refl;
-      dead_is_stuck = (λ is. absurd (let x : Absent ≡ Dead = is in cc), λ h. absurd (nowhere (port_at (suc (suc n))) h));
-      disk_is_remembered = λ is. (refl, refl);
+      dead_exactly_if_stuck = (λ is. absurd (let x : Absent ≡ Dead = is in cc), λ h. absurd (nowhere (port_at (suc (suc n))) h));
+      disk_is_remembered_unless_ready = λ is. (refl, refl);
     },
     inl (refl, refl, refl, refl, refl, refl),
   ),
@@ -291,12 +291,12 @@ service_happens = record {
   issue_is_last_of_request = (tt, λ id handled issued_in. absurd (true≢false (sym issued_in)));
   answers_are_lawful = (tt, refl);
   ports_are_well_formed = fit_dead;
-  unanswered_keep_disk = λ e o here. absurd (nowhere e here);
+  unanswered_keep_serial_and_size = λ e o here. absurd (nowhere e here);
   result_matches_steps = record {
     replies_match = record { answers = (waiting, outcome.PortDead) ∷ []; is_permutation = IsPermutation-refl _; ordered = λ i j d less low. absurd (omega (arith, less, low)); replies_are_of_answers = refl };
     dead_ports_tell_only_port_dead = λ e o here is. (the_answer outcome.PortDead e o here).1;
     unplugged_empties_port = record { none_is_left = λ e other here. absurd (not_unplugged e here); none_is_told_dead = λ e other here. absurd (not_unplugged e here) };
-    none_is_due = λ port is r at_port due. absurd (nowhere r due.is_in_book);
+    none_is_due_where_ready = λ port is r at_port due. absurd (nowhere r due.is_in_book);
     empty_unless_ready = λ port other e here. absurd (nowhere e here);
     answers_ended = λ port is e here at_port done. absurd (not_ended 0 e here done);
     port_is_serviced = λ port. becomes port.0;
@@ -308,16 +308,16 @@ service_evidenced : (n : ℕ) → IsEvidencedOf Service (Replied replies) [] pen
 service_evidenced n = unnamed_evidenced Service (Replied replies) [] pending_at dead pending nothing (port_at n)
     (none_named (port_at n))
     (λ is. absurd (not_ready n is))
-    (All-nil (LeavesEngine (port_at n)))
+    (All-nil (WritesNeitherCmdNorSctl (port_at n)))
 
 probes : (n : ℕ) → dead.served (port_at n) ≡ true → ProbesDisk [] pending_at dead pending (port_at n)
 probes n served =
     let is = all_dead n served in
     record {
-      absent_with_device_is_booted = λ absent. absurd (let x : Dead ≡ Absent = sym is ∙ absent in cc);
-      absent_gets_first_fis = λ absent. absurd (let x : Dead ≡ Absent = sym is ∙ absent in cc);
-      missing_disk_makes_absent = λ bad. absurd (not_bad is bad);
-      changed_disk_is_booted = λ bad. absurd (not_bad is bad);
+      absent_with_device_is_booted_dead_or_has_plug_event = λ absent. absurd (let x : Dead ≡ Absent = sym is ∙ absent in cc);
+      absent_gets_first_fis_or_dead_or_no_device = λ absent. absurd (let x : Dead ≡ Absent = sym is ∙ absent in cc);
+      missing_disk_makes_absent_or_dead = λ bad. absurd (not_bad is bad);
+      changed_disk_is_booted_or_absent_or_dead = λ bad. absurd (not_bad is bad);
     }
   where
     not_bad : dead.state (port_at n) ≡ Dead → IsForeignOrUnfit dead (port_at n) → ⊥
@@ -332,15 +332,15 @@ untended (suc (suc n)) tends = true≢false (sym tends.0)
 service_part : (n : ℕ) → PortCorresponds pending_at service [] (port_at n)
 service_part n = record {
   finds_done = λ is. absurd (not_ready n is);
-  plain_faults_are_told = λ alone. absurd (not_ready n alone.ready);
+  lone_plain_faults_are_told_unless_dead = λ alone. absurd (not_ready n alone.ready);
   probes_disk = λ served none. probes n served;
   boots_anew = (λ is. absurd (not_ready n is), inl (refl, refl, refl, refl, refl, refl));
   loses_no_error = record {
-    errors_are_handled_or_shown = λ is. absurd (not_ready n is);
-    changes_are_handled_or_shown = λ tends. absurd (untended n tends);
-    new_fault_is_shown = λ is. absurd (not_ready n is);
-    new_fatal_is_shown = λ is. absurd (not_ready n is);
-    new_plug_event_is_shown = λ is. absurd (not_ready n is);
+    ready_errors_are_handled_or_shown = λ is. absurd (not_ready n is);
+    changes_are_handled_or_shown_unless_dead = λ tends. absurd (untended n tends);
+    ready_shows_fault_since_start = λ is. absurd (not_ready n is);
+    ready_shows_fatal_since_start = λ is. absurd (not_ready n is);
+    ready_shows_plug_event_since_start = λ is. absurd (not_ready n is);
   };
   runs_well_anew = λ why is. absurd (not_ready n is);
   handles_evidence = λ is. absurd (not_ready n is);
@@ -355,7 +355,7 @@ service_ties = record {
   accesses_are_explained = (refl, All-nil (UsesPortsAndNotGhc (IsServedAndNotDead dead)));
   is_backed = service_backed;
   is_evidenced = record { faults_are_told = λ f here. absurd (nowhere f here); each_port_is_evidenced = λ port. service_evidenced port.0 };
-  only_failed_requeue = tt;
+  only_failed_requeue_if_service = tt;
   issues_all_due = λ port is. absurd (not_ready port.0 is);
   ports_correspond = λ port. service_part port.0;
   invariant_holds = (first_slots, holds_dead answered knows_kept (λ n ne e here. absurd (nowhere e here)) kept_first);

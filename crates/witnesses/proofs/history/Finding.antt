@@ -42,7 +42,7 @@ use Rattle.driver_history.specs.EvidenceHandling.{ServicesReadyPort}
 use Rattle.driver_history.specs.Evidence.{IsEvidencedOf, ShowsFailure, ShowsLoss}
 use Rattle.driver_history.specs.Histories.{FindsDone, IsAnsweredOk, IsIssuedOn, IsServedAndNotDead, CallCorresponds, PortCorresponds, with_issue_undone}
 use Rattle.driver_history.specs.PortInvariants.{mode_of_disk}
-use Rattle.driver_history.specs.AccessTrace.{DoesNotWriteCmd, LeavesEngine}
+use Rattle.driver_history.specs.AccessTrace.{DoesNotWriteCmd, WritesNeitherCmdNorSctl}
 use Rattle.witnesses.specs.RunningAdapter.{queueing_cap}
 use Rattle.witnesses.proofs.history.Command.{queued_read}
 use Rattle.witnesses.proofs.history.Devices.{serving}
@@ -61,8 +61,8 @@ stay_serviced disk evidence n unstuck = (
   λ _. (
     record {
       served_is_unchanged = refl;
-      dead_is_stuck = (λ is. absurd (not_dead n is), λ h. absurd (unstuck h));
-      disk_is_remembered = λ is. (refl, refl);
+      dead_exactly_if_stuck = (λ is. absurd (not_dead n is), λ h. absurd (unstuck h));
+      disk_is_remembered_unless_ready = λ is. (refl, refl);
     },
     inl (refl, refl, refl, refl, refl, refl),
   ),
@@ -210,7 +210,7 @@ module _ (c : Discovery) where
 
     pub evidenced : (n : ℕ) → IsEvidencedOf Service (Replied replies) masks before (two_ready c.disk) served_at.device nothing (port_at n)
     evidenced n = unnamed_evidenced Service (Replied replies) masks before (two_ready c.disk) served_at.device nothing (port_at n) (none_named (port_at n)) (quiet n)
-        (All-from_recursion (LeavesEngine (port_at n)) masks ((tt, tt), ((tt, tt), tt)))
+        (All-from_recursion (WritesNeitherCmdNorSctl (port_at n)) masks ((tt, tt), ((tt, tt), tt)))
 
     finds : (n : ℕ) (e : Pending) → IsIssuedOn (port_at n) c.machine e → FindsDone (port_at n) masks before steps
     finds zero e on = record {
@@ -230,7 +230,7 @@ module _ (c : Discovery) where
       link_change_leaves_none = λ g. absurd (nowhere (port_at n) g);
       link_change_tells_alike = λ g. absurd (nowhere (port_at n) g);
       trouble_interrupts = λ why. absurd (⊎_elim (nowhere (port_at n)) (nowhere (port_at n)) why);
-      trouble_leaves_none_issued = λ why. absurd (⊎_elim (nowhere (port_at n)) (nowhere (port_at n)) why);
+      error_or_stop_leaves_no_old_issue = λ why. absurd (⊎_elim (nowhere (port_at n)) (nowhere (port_at n)) why);
       one_fault_at_most = omega arith;
       fatal_tells_no_fault = λ h. absurd (nowhere (port_at n) h);
       shown_disk_was_in_or_came = λ shows. inl (in_of n shows);
@@ -262,12 +262,12 @@ module _ (c : Discovery) where
       issue_is_last_of_request = (((tt, λ id h i. absurd (true≢false (sym i))), λ id h i. absurd (true≢false (sym i))), λ id h i. absurd (true≢false (sym i)));
       answers_are_lawful = (tt, (record { pending = outstanding; is_in_book = is.here; id_is = refl; issued = refl }, refl, all_touched, refl));
       ports_are_well_formed = fit_ready c.disk;
-      unanswered_keep_disk = λ e o here there same. (refl, refl);
+      unanswered_keep_serial_and_size = λ e o here there same. (refl, refl);
       result_matches_steps = record {
         replies_match = record { answers = (ended, outcome.Ok) ∷ []; is_permutation = IsPermutation-refl _; ordered = λ i j d less low. absurd (omega (arith, less, low)); replies_are_of_answers = refl };
         dead_ports_tell_only_port_dead = λ e o here dead. absurd (not_dead e.request.port.0 dead);
         unplugged_empties_port = record { none_is_left = λ e other here. absurd (not_unplugged e here); none_is_told_dead = λ e other here. absurd (not_unplugged e here) };
-        none_is_due = λ port ready. is.none_due port;
+        none_is_due_where_ready = λ port ready. is.none_due port;
         empty_unless_ready = λ port other e here at. other (ap (λ (n : ℕ). two_states (port_at n)) (ap (λ (q : Port). q.0) (sym at) ∙ is.agreeing.first_alone e here));
         answers_ended = λ port ready e here at_port done. absurd (true≢false (sym done ∙ is.unended e here));
         port_is_serviced = λ port. stay_serviced c.disk nothing port.0 (nowhere port);
@@ -281,7 +281,7 @@ module _ (c : Discovery) where
     pub service_part : (n : ℕ) → PortCorresponds before service masks (port_at n)
     service_part n = record {
       finds_done = λ ready e on. finds n e on;
-      plain_faults_are_told = λ alone. absurd ((quiet n alone.ready).1 (inr alone.shows_only_tfes.tfes_is_set));
+      lone_plain_faults_are_told_unless_dead = λ alone. absurd ((quiet n alone.ready).1 (inr alone.shows_only_tfes.tfes_is_set));
       probes_disk = λ served none. tries_ready masks before (two_ready c.disk) served_at.device (port_at n) (served_ready n served);
       boots_anew = (λ ready f. absurd (⊎_elim (λ fatal. (quiet n ready).1 (inl fatal)) (quiet n ready).0 f), inl (refl, refl, refl, refl, refl, refl));
       loses_no_error = no_trouble nothing before (two_ready c.disk) served_at.device (port_at n) gained refl (gained_calm n) (served_ready n) (quiet n);
@@ -295,7 +295,7 @@ module _ (c : Discovery) where
       accesses_are_explained = (is.does, serving (IsServedAndNotDead (two_ready c.disk)) masks ((refl, not_dead 0), ((refl, not_dead 0), tt)));
       is_backed = backed;
       is_evidenced = record { faults_are_told = λ f here. absurd (nowhere f here); each_port_is_evidenced = λ port. evidenced port.0 };
-      only_failed_requeue = tt;
+      only_failed_requeue_if_service = tt;
       issues_all_due = λ port ready r here at_port. (
         λ issued. absurd (true≢false (sym issued)),
         λ due. absurd (is.none_due port r at_port (subst (λ (book : List Unanswered). IsDue (mode_of_disk queueing_cap c.disk.info) book r) is.none_issued due)),

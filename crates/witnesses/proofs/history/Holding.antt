@@ -34,8 +34,8 @@ use Rattle.port_control.specs.Ports.{programmed_bases}
 use Rattle.error_recovery.specs.Evidence.{GainsSinceStart}
 use Rattle.driver_history.specs.Evidence.{IsEvidencedOf, ShowsFailure, ShowsLoss, TapeGainsEntry}
 use Rattle.driver_history.specs.Histories.{IsForeignOrUnfit, ProbesDisk, LosesNoPortError}
-use Rattle.driver_history.specs.PortInvariants.{HasNothingInSlots, ReadySlotsInvariant, IsFreeOrServes, IsQueuedAsAsked, IsUnservedAt, HasNoUnanswered, EngineRuns}
-use Rattle.driver_history.specs.AccessTrace.{LeavesEngine}
+use Rattle.driver_history.specs.PortInvariants.{HasAllSlotsFreeAndNoneParked, ReadySlotsInvariant, IsFreeOrServes, IsQueuedAsAsked, IsUnservedAt, HasNoUnanswered, EngineRuns}
+use Rattle.driver_history.specs.AccessTrace.{WritesNeitherCmdNorSctl}
 use Rattle.witnesses.specs.RunningAdapter.{page_entry, page_move}
 use Rattle.witnesses.proofs.history.Pages.{Kind}
 use Rattle.witnesses.proofs.history.Members.{only}
@@ -63,7 +63,7 @@ answers_first_only (suc port) slot id is = absurd (let x : Free ≡ Serves id = 
 
 -- ---- ports
 
-pub unserved_at : (s : DriverSlots) (i : JointState Device) (port : ℕ) → i.abstract.ports.state (port_at port) ≡ Absent → i.device.port port ≡ empty_port → HasNothingInSlots s port → HasNoUnanswered i.abstract.machine (port_at port)
+pub unserved_at : (s : DriverSlots) (i : JointState Device) (port : ℕ) → i.abstract.ports.state (port_at port) ≡ Absent → i.device.port port ≡ empty_port → HasAllSlotsFreeAndNoneParked s port → HasNoUnanswered i.abstract.machine (port_at port)
     → NoneKept i.abstract.machine (port_at port) → IsUnservedAt s i (port_at port)
 unserved_at s i port absent quiet slots waits kept = record {
   state_is_absent = absent;
@@ -115,7 +115,7 @@ requests_none s i port mode free unparked = record {
   slots_serve_clients = λ slot. inl (free slot);
   unusable_are_free = λ slot above. free slot;
   none_is_parked = unparked;
-  commands_are_as_asked = λ slot e in_slot. absurd (unserved slot e.request.id in_slot.serves);
+  unended_commands_are_queued_as_asked = λ slot e in_slot. absurd (unserved slot e.request.id in_slot.serves);
   plain_is_alone = λ slot e in_slot. absurd (unserved slot e.request.id in_slot.serves);
 }
   where
@@ -128,7 +128,7 @@ requests_first i mode usable kind = record {
   slots_serve_clients = clients;
   unusable_are_free = λ slot above. low slot (omega (arith, usable, above));
   none_is_parked = refl;
-  commands_are_as_asked = λ slot e s unended. kinds slot e s.is_in_book s.serves;
+  unended_commands_are_queued_as_asked = λ slot e s unended. kinds slot e s.is_in_book s.serves;
   plain_is_alone = λ slot e s plain. alone slot e s.serves;
 }
   where
@@ -180,18 +180,18 @@ unfailing p calm fails = ⊎_elim (λ fatal. absurd (true≢false (sym fatal.cau
 
 -- a port that isn't named, wasn't stopped, and showed no trouble if it was ready
 pub unnamed_evidenced : (ask : AbstractCall DeviceStep) (said : AbstractCallResult) (accesses : List Access) (old : JointState Device) (ports : Ports) (new : Device) (evidence : Evidence) (port : Port) → IsUnnamed evidence port
-    → (old.abstract.ports.state port ≡ Ready → (ShowsLoss port old.device new → ⊥) × (ShowsFailure (old.device.port port.0) → ⊥)) → All (LeavesEngine port) accesses
+    → (old.abstract.ports.state port ≡ Ready → (ShowsLoss port old.device new → ⊥) × (ShowsFailure (old.device.port port.0) → ⊥)) → All (WritesNeitherCmdNorSctl port) accesses
     → IsEvidencedOf ask said accesses old ports new evidence port
 unnamed_evidenced ask said accesses old ports new evidence port un calm left = record {
-  lost_only = λ h. absurd (un.lost h);
-  link_changed_all = λ is loss. absurd ((calm is).0 loss);
-  link_changed_only = λ h. absurd (un.gone h);
-  showing_error_all = λ is f. absurd ((calm is).1 f);
-  showing_error_only = λ h. absurd (un.failed h);
-  showing_fatal_error_all = λ is f. absurd ((calm is).1 (inl f));
-  showing_fatal_error_only = λ h. absurd (un.fatal h);
+  named_lost_may_have_lost_disk = λ h. absurd (un.lost h);
+  shown_loss_of_ready_is_named = λ is loss. absurd ((calm is).0 loss);
+  named_link_changed_had_change_or_no_device = λ h. absurd (un.gone h);
+  shown_failure_of_ready_is_named = λ is f. absurd ((calm is).1 f);
+  named_showing_error_had_error = λ h. absurd (un.failed h);
+  shown_fatal_of_ready_is_named = λ is f. absurd ((calm is).1 (inl f));
+  named_showing_fatal_had_fatal = λ h. absurd (un.fatal h);
   engine_is_left_or_stopped = inl left;
-  stopped_only = λ h. absurd (un.stopped h);
+  named_stopped_was_stopped_or_reset = λ h. absurd (un.stopped h);
   stuck_only = λ h. absurd (un.stuck h);
 }
 
@@ -200,10 +200,10 @@ unnamed_evidenced ask said accesses old ports new evidence port un calm left = r
 -- a ready port isn't tried
 pub tries_ready : (accesses : List Access) (old : JointState Device) (ports : Ports) (new : Device) (port : Port) → old.abstract.ports.state port ≡ Ready → ProbesDisk accesses old ports new port
 tries_ready accesses old ports new port ready = record {
-  absent_with_device_is_booted = λ is. absurd (not_absent is);
-  absent_gets_first_fis = λ is. absurd (not_absent is);
-  missing_disk_makes_absent = λ bad. absurd (not_bad bad);
-  changed_disk_is_booted = λ bad. absurd (not_bad bad);
+  absent_with_device_is_booted_dead_or_has_plug_event = λ is. absurd (not_absent is);
+  absent_gets_first_fis_or_dead_or_no_device = λ is. absurd (not_absent is);
+  missing_disk_makes_absent_or_dead = λ bad. absurd (not_bad bad);
+  changed_disk_is_booted_or_absent_or_dead = λ bad. absurd (not_bad bad);
 }
   where
     not_absent : old.abstract.ports.state port ≡ Absent → ⊥
@@ -243,11 +243,11 @@ pub no_trouble : (evidence : Evidence) (old : JointState Device) (ports : Ports)
     → (old.abstract.ports.served port ≡ true → old.abstract.ports.state port ≡ Ready)
     → (old.abstract.ports.state port ≡ Ready → (ShowsLoss port old.device new → ⊥) × (ShowsFailure (old.device.port port.0) → ⊥)) → LosesNoPortError evidence old ports new port
 no_trouble evidence old ports new port gained is none served calm = record {
-  errors_are_handled_or_shown = λ ready why. absurd (⊎_elim (calm ready).1 (λ came. ⊎_elim faults fatals came) why);
-  changes_are_handled_or_shown = λ tends why. absurd (⊎_elim (λ change. (calm (served tends.0)).0 (inl change)) plugs why);
-  new_fault_is_shown = λ ready g. absurd (ran_none (IsFaultOf port.0) port.0 old.device new faults g);
-  new_fatal_is_shown = λ ready g. absurd (ran_none (IsFatalErrorOf port.0) port.0 old.device new fatals g);
-  new_plug_event_is_shown = λ ready g. absurd (ran_none (IsPlugEvent port.0) port.0 old.device new plugs g);
+  ready_errors_are_handled_or_shown = λ ready why. absurd (⊎_elim (calm ready).1 (λ came. ⊎_elim faults fatals came) why);
+  changes_are_handled_or_shown_unless_dead = λ tends why. absurd (⊎_elim (λ change. (calm (served tends.0)).0 (inl change)) plugs why);
+  ready_shows_fault_since_start = λ ready g. absurd (ran_none (IsFaultOf port.0) port.0 old.device new faults g);
+  ready_shows_fatal_since_start = λ ready g. absurd (ran_none (IsFatalErrorOf port.0) port.0 old.device new fatals g);
+  ready_shows_plug_event_since_start = λ ready g. absurd (ran_none (IsPlugEvent port.0) port.0 old.device new plugs g);
 }
   where
     faults : TapeGainsEntry (IsFaultOf port.0) old.device new → ⊥

@@ -18,7 +18,7 @@ use Rattle.block_machine.specs.Ports.{IsStoppedOrStuck, MayBecome, SamePort}
 use Rattle.block_machine.specs.State.{Pending}
 use Rattle.block_machine.specs.Steps.{WaitAgain, Answer, Step}
 use Rattle.identify.specs.declared.wanted.Wanted.TheVariants.{Any}
-use Rattle.driver_history.specs.Histories.{BootsAnew, FindsDone, CallCorresponds, PortCorresponds}
+use Rattle.driver_history.specs.Histories.{BootsAnewWhereRequired, FindsDone, CallCorresponds, PortCorresponds}
 use Rattle.driver_history.specs.AccessTrace.{DoesNotWriteCmd}
 use Rattle.witnesses.specs.HungPort.{HungPortIsAHistory}
 use Rattle.witnesses.specs.Restart.{restart_evidence, restart_accesses}
@@ -125,7 +125,7 @@ restarts_hung = record {
   only_timed_out_are_answered = λ e o here. is_hung e.request.port (answers_first e o here);
   answers_ended = λ port h e here at_port ended. absurd (not_ended 2 e here ended);
   none_stays_issued = λ port h e here. absurd (nowhere e here);
-  timed_out_iff_interrupted = λ port. (λ h. subst (IsStoppedOrStuck (restart_evidence [])) (sym (hung_first 2 port h)) (inl (named 0)), interrupted port);
+  timed_out_iff_stopped_or_stuck = λ port. (λ h. subst (IsStoppedOrStuck (restart_evidence [])) (sym (hung_first 2 port h)) (inl (named 0)), interrupted port);
   unplugged_lost_disk = λ e here. (not_dead_then e.request.port.0, λ ready. absurd (not_ready_first e.request.port (answers_first e outcome.Unplugged here) ready));
   shown_disk_was_in_or_came = λ port h shows. inl (subst (λ (p : Port). (issued_for 2).present p ≡ true) (sym (hung_first 2 port h)) refl);
 }
@@ -140,13 +140,13 @@ happens = record {
   issue_is_last_of_request = ((tt, λ id handled issued_in. absurd (true≢false (sym handled))), λ id handled issued_in. absurd (true≢false (sym issued_in)));
   answers_are_lawful = (tt, (named 0, named 0));
   ports_are_well_formed = fit_one;
-  unanswered_keep_disk = λ e o here. absurd (nowhere e here);
+  unanswered_keep_serial_and_size = λ e o here. absurd (nowhere e here);
   result_matches_steps = record {
     replies_match = record { answers = (waiting_for 3, outcome.Unplugged) ∷ []; is_permutation = IsPermutation-refl _; ordered = λ i j d less low. absurd (omega (arith, less, low)); replies_are_of_answers = refl };
     ages_once = ages_once (answer ∷ []) refl;
     restarts_timed_out = restarts_hung;
     unplugged_empties_port = unplugs restart is_restart;
-    none_is_due = λ port is r at_port due. absurd (nowhere r due.is_in_book);
+    none_is_due_where_ready = λ port is r at_port due. absurd (nowhere r due.is_in_book);
     was_ready_empty_unless_ready = λ port is not_ready e here. absurd (nowhere e here);
   };
 }
@@ -157,14 +157,14 @@ finds_there : (n : ℕ) → TimesOutAtTick (issued_at 2).abstract (port_at n) �
 finds_there zero h = finds restart is_restart
 finds_there (suc n) h = absurd (other n h)
 
-boots : (n : ℕ) → BootsAnew Tick (Replied replies) restart_accesses (issued_at 2) one booted (port_at n)
+boots : (n : ℕ) → BootsAnewWhereRequired Tick (Replied replies) restart_accesses (issued_at 2) one booted (port_at n)
 boots zero h = inr (resets [])
 boots (suc n) h = absurd (other n h)
 
 part_of : (n : ℕ) → PortCorresponds (issued_at 2) restarting_tick restart_accesses (port_at n)
 part_of n = record {
   finds_done = finds_there n;
-  plain_faults_are_told = tt;
+  lone_plain_faults_are_told_unless_dead = tt;
   probes_disk = tt;
   boots_anew = boots n;
   loses_no_error = port_error restart is_restart n;
@@ -178,7 +178,7 @@ ties = record {
   accesses_are_explained = (restarts outset, serving (TimesOutAtTick (issued_at 2).abstract) restart_accesses (of_served (TimesOutAtTick (issued_at 2).abstract) hung));
   is_backed = backed restart is_restart;
   is_evidenced = record { faults_are_told = λ f here. absurd (nowhere f here); each_port_is_evidenced = λ port. evidenced restart is_restart port.0 };
-  only_failed_requeue = tt;
+  only_failed_requeue_if_service = tt;
   issues_all_due = λ port is r here. absurd (nowhere r here);
   ports_correspond = λ port. part_of port.0;
   invariant_holds = (no_slots, holds_booted outset (no_page 1));
@@ -197,7 +197,7 @@ runs_well = record {
   no_link_is_due = refl;
   is_not_halted = refl;
   is_not_broken = refl;
-  shows_no_trouble = record { serr_n_is_clear = refl; serr_x_is_clear = refl; no_error_bit_is_set = λ place from to. refl };
+  shows_no_trouble = record { serr_n_is_clear = refl; serr_x_is_clear = refl; bits_27_to_30_are_clear = λ place from to. refl };
 }
 
 pub hung_port_is_a_history : HungPortIsAHistory

@@ -37,7 +37,7 @@ use Rattle.identify.specs.declared.wanted.Wanted.TheVariants.{Any}
 use Rattle.driver_history.specs.Evidence.{IsEvidencedOf}
 use Rattle.driver_history.specs.Histories.{IssuesDue, IsIssuingAccess, CallCorresponds, PortCorresponds, with_issue_undone}
 use Rattle.driver_history.specs.PortInvariants.{mode_of_disk}
-use Rattle.driver_history.specs.AccessTrace.{LeavesEngine}
+use Rattle.driver_history.specs.AccessTrace.{WritesNeitherCmdNorSctl}
 use Rattle.witnesses.specs.RunningAdapter.{port_or_empty, queueing_cap}
 use Rattle.witnesses.proofs.history.Holding.{IsCalm, IsUnnamed, each, no_trouble, unnamed_evidenced}
 use Rattle.witnesses.proofs.history.Members.{nowhere, only}
@@ -55,7 +55,7 @@ abbrev pub accepted_as : RequestId → ℕ → ℕ → (ℕ → Block) → Accep
 accepted_as id k n held = record { id = id; port = port_at 0; asked = reading k n; blocks_at_acceptance = held }
 
 -- The machine may take it next: its frame is free, and the client hasn't too many.
-pub record MayTake (disk : Kind) (m : Machine) (id : RequestId) (k n : ℕ) : Type 0 where
+pub record MayTakeIfDecoded (disk : Kind) (m : Machine) (id : RequestId) (k n : ℕ) : Type 0 where
   pub rows : m.rows ≡ two_rows
   pub id_is : id.0 ≡ m.next_id
   pub left : m.next_id < 2 ^ 64
@@ -66,7 +66,7 @@ pub record MayTake (disk : Kind) (m : Machine) (id : RequestId) (k n : ℕ) : Ty
   pub to : k < 164
   pub on_disk : k < disk.info.sectors
 
-module _ (disk : Kind) (m : Machine) (id : RequestId) (k n : ℕ) (may : MayTake disk m id k n) where
+module _ (disk : Kind) (m : Machine) (id : RequestId) (k n : ℕ) (may : MayTakeIfDecoded disk m id k n) where
   -- the request names one row, and has one frame
   named_row : (r : GrantRow) → IsNamed m.rows (reading k n) r → r ≡ row 0
   named_row r named = its_row r (subst (λ (rows : List GrantRow). Contains rows r) may.rows named.0) ∙ ap row named.1.1
@@ -116,7 +116,7 @@ pub none_named : (port : Port) → IsUnnamed nothing port
 none_named port = record { lost = nowhere port; gone = nowhere port; failed = nowhere port; fatal = nowhere port; stopped = nowhere port; stuck = nowhere port }
 
 -- what issues on port 0 leaves each engine alone
-leaves_engine : (port : Port) (access : Access) → IsIssuingAccess (port_at 0) access → LeavesEngine port access
+leaves_engine : (port : Port) (access : Access) → IsIssuingAccess (port_at 0) access → WritesNeitherCmdNorSctl port access
 leaves_engine port (Reading r v) i = absurd i
 leaves_engine port (Loading at bytes) i = absurd i
 leaves_engine port (Storing at bytes) i = (tt, tt)
@@ -175,7 +175,7 @@ module _ (c : Submission) where
   pub record IsIssued : Type 0 where
     pub stands : Stands c.port
     pub agreeing : Agreeing c.disk c.slots_then issuing [] c.memory_then c.port_then
-    pub takes : MayTake c.disk c.machine c.id c.sector c.frame_number
+    pub takes : MayTakeIfDecoded c.disk c.machine c.id c.sector c.frame_number
     pub may : IsEnabled (after c.machine (Accept accepted ∷ [])) (Issue (mode_of_disk queueing_cap c.disk.info) (newly_accepted accepted))
     pub all_issued : NoneDueWhereReady submitted_at.abstract
     pub due : (port : Port) → IssuesDue (mode_of_disk queueing_cap c.disk.info) submit_steps issuing port
@@ -204,7 +204,7 @@ module _ (c : Submission) where
       issue_is_last_of_request = ((tt, λ id handled issued_in. absurd (true≢false (sym handled))), λ id handled issued_in. absurd (true≢false (sym issued_in)));
       answers_are_lawful = tt;
       ports_are_well_formed = fit_ready c.disk;
-      unanswered_keep_disk = λ e o here there same. (refl, refl);
+      unanswered_keep_serial_and_size = λ e o here there same. (refl, refl);
       result_matches_steps = (is_acceptable c.disk c.machine c.id c.sector c.frame_number is.takes, (accepted, refl, refl), λ port. (refl, refl, refl, refl, refl, refl), is.all_issued);
     }
 
@@ -226,7 +226,7 @@ module _ (c : Submission) where
     pub submit_part : (port : ℕ) → PortCorresponds before submit c.accesses (port_at port)
     submit_part port = record {
       finds_done = tt;
-      plain_faults_are_told = tt;
+      lone_plain_faults_are_told_unless_dead = tt;
       probes_disk = tt;
       boots_anew = tt;
       loses_no_error = no_trouble nothing before (two_ready c.disk) submitted_at.device (port_at port) [] (sym (append-nil _)) (All-nil (IsCalm port)) (served_ready port)
@@ -241,7 +241,7 @@ module _ (c : Submission) where
       accesses_are_explained = (is.does, (row 0, (subst (λ (rows : List GrantRow). Contains rows (row 0)) (sym is.takes.rows) (0, omega arith, refl), (refl, refl)), is.only));
       is_backed = backed;
       is_evidenced = record { faults_are_told = λ f here. absurd (nowhere f here); each_port_is_evidenced = λ port. evidenced port.0 };
-      only_failed_requeue = tt;
+      only_failed_requeue_if_service = tt;
       issues_all_due = λ port ready. is.due port;
       ports_correspond = λ port. submit_part port.0;
       invariant_holds = (c.slots_then, holds c.disk c.slots_then issuing [] c.memory_then c.port_then is.agreeing);

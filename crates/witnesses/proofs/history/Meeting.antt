@@ -33,7 +33,7 @@ use Rattle.identify.specs.declared.wanted.Wanted.TheVariants.{Any}
 use Rattle.driver_history.specs.Evidence.{TapeGainsEntry, IsEvidencedOf, ShowsFailure, ShowsLoss}
 use Rattle.driver_history.specs.Histories.{LosesNoPortError, CallCorresponds, PortCorresponds}
 use Rattle.driver_history.specs.PortInvariants.{PortStateInvariant, DriverInvariantWith, IsQueuedAsAsked, IsReadyAt}
-use Rattle.driver_history.specs.AccessTrace.{LeavesEngine}
+use Rattle.driver_history.specs.AccessTrace.{WritesNeitherCmdNorSctl}
 use Rattle.witnesses.specs.RunningAdapter.{port_or_empty, page_entry, plain_disk_mode}
 use Rattle.witnesses.proofs.history.Accepting.{both, holds_submitted, in_book, issuing, submitted_at, waiting}
 use Rattle.witnesses.proofs.history.Breaking.{breaks, broken, can_break, dev, tape_broken}
@@ -89,7 +89,7 @@ present (suc (suc n)) = refl
 knows : DriverRelation issuing (driver_state_of_slots first_slots (dev broken))
 knows = agreeing issuing first_slots tape_broken read_memory broken second
     (record { own_first = refl; own_second = refl; disks = (refl, refl); present = present; ids = refl; sizes = refl; bytes = refl; lasting = (refl, refl); still = refl })
-    slots holds_submitted.driver_relation.state_relation.serve_distinct_requests (λ f b from small. past_driver f b from) holds_submitted.driver_relation.have_slots
+    slots holds_submitted.driver_relation.state_relation.serve_distinct_requests (λ f b from small. past_driver f b from) holds_submitted.driver_relation.have_slots_unless_parked
 
 kind_of : (e : Pending) → e ≡ waiting → IsQueuedAsAsked plain_disk_mode (dev broken) 0 0 e
 kind_of e is = record {
@@ -140,7 +140,7 @@ meeting_happens = record {
   issue_is_last_of_request = tt;
   answers_are_lawful = tt;
   ports_are_well_formed = fit_ready plain_disks;
-  unanswered_keep_disk = λ e o here there same. (refl, refl);
+  unanswered_keep_serial_and_size = λ e o here there same. (refl, refl);
   result_matches_steps = (tt, λ port. (refl, refl, refl, refl, refl, refl));
 }
 
@@ -163,7 +163,7 @@ quiet : (n : ℕ) → both.state (port_at n) ≡ Ready → (ShowsLoss (port_at n
 quiet = calm submitted.tape read_memory issued refl refl refl (λ place from. refl) (dev broken)
 
 pub evidenced : (n : ℕ) → IsEvidencedOf meeting.event.call meeting.event.result [] submitted_at both (dev broken) nothing (port_at n)
-evidenced n = unnamed_evidenced meeting.event.call meeting.event.result [] submitted_at both (dev broken) nothing (port_at n) (none_named (port_at n)) (quiet n) (All-nil (LeavesEngine (port_at n)))
+evidenced n = unnamed_evidenced meeting.event.call meeting.event.result [] submitted_at both (dev broken) nothing (port_at n) (none_named (port_at n)) (quiet n) (All-nil (WritesNeitherCmdNorSctl (port_at n)))
 
 -- the error is no trouble of another port
 fatal_alone : (n : ℕ) → n ≢ 0 → All (IsCalm n) gained
@@ -174,11 +174,11 @@ no_plugging = All-cons (λ e. IsPlugEvent 0 e → ⊥) (entry.Fatal (port_at 0))
 
 port_error : (n : ℕ) → LosesNoPortError nothing submitted_at both (dev broken) (port_at n)
 port_error zero = record {
-  errors_are_handled_or_shown = λ ready why. inr (inl shows_fatal);
-  changes_are_handled_or_shown = λ tends why. absurd (⊎_elim (λ change. (quiet 0 refl).0 (inl change)) plugs why);
-  new_fault_is_shown = λ ready g. absurd (ran_none (IsFaultOf 0) 0 submitted (dev broken) faults g);
-  new_fatal_is_shown = λ ready g. shows_fatal;
-  new_plug_event_is_shown = λ ready g. absurd (ran_none (IsPlugEvent 0) 0 submitted (dev broken) plugs g);
+  ready_errors_are_handled_or_shown = λ ready why. inr (inl shows_fatal);
+  changes_are_handled_or_shown_unless_dead = λ tends why. absurd (⊎_elim (λ change. (quiet 0 refl).0 (inl change)) plugs why);
+  ready_shows_fault_since_start = λ ready g. absurd (ran_none (IsFaultOf 0) 0 submitted (dev broken) faults g);
+  ready_shows_fatal_since_start = λ ready g. shows_fatal;
+  ready_shows_plug_event_since_start = λ ready g. absurd (ran_none (IsPlugEvent 0) 0 submitted (dev broken) plugs g);
 }
   where
     faults : TapeGainsEntry (IsFaultOf 0) submitted (dev broken) → ⊥
@@ -191,7 +191,7 @@ port_error (suc n) = no_trouble nothing submitted_at both (dev broken) (port_at 
 pub meeting_part : (n : ℕ) → PortCorresponds submitted_at meeting [] (port_at n)
 meeting_part n = record {
   finds_done = tt;
-  plain_faults_are_told = tt;
+  lone_plain_faults_are_told_unless_dead = tt;
   probes_disk = tt;
   boots_anew = tt;
   loses_no_error = port_error n;
@@ -205,7 +205,7 @@ meeting_ties = record {
   accesses_are_explained = (refl, inl (record { can = can_break; effect = breaks }));
   is_backed = backed;
   is_evidenced = record { faults_are_told = λ f here. absurd (nowhere f here); each_port_is_evidenced = λ port. evidenced port.0 };
-  only_failed_requeue = tt;
+  only_failed_requeue_if_service = tt;
   issues_all_due = λ port. tt;
   ports_correspond = λ port. meeting_part port.0;
   invariant_holds = (first_slots, holds_broken);

@@ -30,7 +30,7 @@ use Rattle.port_control.specs.Engines.{Stops}
 use Rattle.driver_history.specs.Evidence.{TapeGainsEntry, IsEvidencedOf, ShowsLinkChange}
 use Rattle.driver_history.specs.Histories.{IsForeignOrUnfit, IsServedAndNotDead, CallCorresponds, PortCorresponds, ProbesDisk}
 use Rattle.driver_history.specs.PortInvariants.{PortStateInvariant}
-use Rattle.driver_history.specs.AccessTrace.{DoesNotWriteCmd, LeavesEngine, ResetsLink}
+use Rattle.driver_history.specs.AccessTrace.{DoesNotWriteCmd, WritesNeitherCmdNorSctl, ResetsLink}
 use Rattle.witnesses.specs.RunningAdapter.{port_or_empty, ports_with_disks}
 use Rattle.witnesses.specs.MissingDisk.{MissingDiskIsAHistory, unfit_look_accesses, missing_look_accesses}
 use Rattle.witnesses.proofs.history.Accepting.{first, submit, submit_happens, submit_ties}
@@ -118,7 +118,7 @@ same_past (suc n) = (refl, refl, refl, refl, refl, refl)
 becomes : (n : ℕ) → IsServiced unfit_ports evidence one_absent (port_at n)
 becomes n = (
   λ is. absurd (not_dead n is),
-  λ _. (record { served_is_unchanged = refl; dead_is_stuck = (λ is. absurd (not_dead_then n is), λ h. absurd (nowhere (port_at n) h)); disk_is_remembered = λ is. (refl, refl) }, changes n),
+  λ _. (record { served_is_unchanged = refl; dead_exactly_if_stuck = (λ is. absurd (not_dead_then n is), λ h. absurd (nowhere (port_at n) h)); disk_is_remembered_unless_ready = λ is. (refl, refl) }, changes n),
 )
   where
     changes : (n : ℕ) → SamePort unfit_ports one_absent (port_at n) ⊎ IsStoppedOrStuck evidence (port_at n)
@@ -138,7 +138,7 @@ unplug_happens = record {
   issue_is_last_of_request = (tt, λ id handled issued_in. absurd (true≢false (sym handled)));
   answers_are_lawful = tt;
   ports_are_well_formed = fit;
-  unanswered_keep_disk = λ e o here. absurd (nowhere e here);
+  unanswered_keep_serial_and_size = λ e o here. absurd (nowhere e here);
   result_matches_steps = ((tt, tt), λ port. (refl, refl, refl, refl, refl, refl));
 }
 
@@ -157,15 +157,15 @@ quiet (suc n) (inr is) = true≢false (sym is)
 unplug_part : (n : ℕ) → PortCorresponds rebooted_at unplug [] (port_at n)
 unplug_part n = record {
   finds_done = tt;
-  plain_faults_are_told = tt;
+  lone_plain_faults_are_told_unless_dead = tt;
   probes_disk = tt;
   boots_anew = tt;
   loses_no_error = record {
-    errors_are_handled_or_shown = λ ready why. absurd (not_ready n ready);
-    changes_are_handled_or_shown = λ tends why. inr (changes n why);
-    new_fault_is_shown = λ ready g. absurd (not_ready n ready);
-    new_fatal_is_shown = λ ready g. absurd (not_ready n ready);
-    new_plug_event_is_shown = λ ready g. absurd (not_ready n ready);
+    ready_errors_are_handled_or_shown = λ ready why. absurd (not_ready n ready);
+    changes_are_handled_or_shown_unless_dead = λ tends why. inr (changes n why);
+    ready_shows_fault_since_start = λ ready g. absurd (not_ready n ready);
+    ready_shows_fatal_since_start = λ ready g. absurd (not_ready n ready);
+    ready_shows_plug_event_since_start = λ ready g. absurd (not_ready n ready);
   };
   runs_well_anew = λ why ready. absurd (not_ready n ready);
   handles_evidence = λ why. ⊎_elim (nowhere (port_at n)) (nowhere (port_at n)) why;
@@ -231,7 +231,7 @@ still_unfit (suc zero) = record {
 still_unfit (suc (suc n)) = unserved_at no_slots unplugged_at (suc (suc n)) refl refl (record { all_are_free = λ slot. refl; none_is_parked = refl }) (λ e here. absurd (nowhere e here)) (λ e kept. absurd (nowhere e kept))
 
 unplug_evidenced : (n : ℕ) → IsEvidencedOf unplug.event.call unplug.event.result [] rebooted_at unfit_ports unplugged nothing (port_at n)
-unplug_evidenced n = unnamed_evidenced unplug.event.call unplug.event.result [] rebooted_at unfit_ports unplugged nothing (port_at n) (none_named (port_at n)) (λ ready. absurd (not_ready n ready)) (All-nil (LeavesEngine (port_at n)))
+unplug_evidenced n = unnamed_evidenced unplug.event.call unplug.event.result [] rebooted_at unfit_ports unplugged nothing (port_at n) (none_named (port_at n)) (λ ready. absurd (not_ready n ready)) (All-nil (WritesNeitherCmdNorSctl (port_at n)))
 
 unfoldable unplug_ties : CallCorresponds (Any ∷ Any ∷ []) rebooted_at unplug
 unplug_ties = record {
@@ -239,7 +239,7 @@ unplug_ties = record {
   accesses_are_explained = (refl, inl (record { can = can_go; effect = goes }));
   is_backed = unplug_backed;
   is_evidenced = record { faults_are_told = λ f here. absurd (nowhere f here); each_port_is_evidenced = λ port. unplug_evidenced port.0 };
-  only_failed_requeue = tt;
+  only_failed_requeue_if_service = tt;
   issues_all_due = λ port. tt;
   ports_correspond = λ port. unplug_part port.0;
   invariant_holds = (
@@ -260,7 +260,7 @@ answers = record {
   replies_match = record { answers = []; is_permutation = IsPermutation-refl _; ordered = λ i j d less low. absurd (omega (arith, less, low)); replies_are_of_answers = refl };
   dead_ports_tell_only_port_dead = λ e o here. absurd (nowhere (Answer e o) here);
   unplugged_empties_port = record { none_is_left = λ e other here. absurd (nowhere (Answer e outcome.Unplugged) here); none_is_told_dead = λ e other here. absurd (nowhere (Answer e outcome.Unplugged) here) };
-  none_is_due = λ port ready. absurd (not_ready_then port.0 ready);
+  none_is_due_where_ready = λ port ready. absurd (not_ready_then port.0 ready);
   empty_unless_ready = λ port other e here. absurd (nowhere e here);
   answers_ended = λ port ready e here. absurd (nowhere e here);
   port_is_serviced = λ port. becomes port.0;
@@ -274,7 +274,7 @@ service_happens = record {
   issue_is_last_of_request = tt;
   answers_are_lawful = tt;
   ports_are_well_formed = fit_then;
-  unanswered_keep_disk = λ e o here. absurd (nowhere e here);
+  unanswered_keep_serial_and_size = λ e o here. absurd (nowhere e here);
   result_matches_steps = answers;
 }
 
@@ -312,15 +312,15 @@ unnamed n = record {
 
 service_evidenced : (n : ℕ) → IsEvidencedOf Service (Replied []) (missing_look_accesses ++ unfit_look_accesses) unplugged_at one_absent looked_over evidence (port_at n)
 service_evidenced zero = record {
-  lost_only = λ h. absurd (nowhere (port_at 0) h);
-  link_changed_all = λ ready loss. absurd (not_ready 0 ready);
-  link_changed_only = λ h. absurd (nowhere (port_at 0) h);
-  showing_error_all = λ ready f. absurd (not_ready 0 ready);
-  showing_error_only = λ h. absurd (nowhere (port_at 0) h);
-  showing_fatal_error_all = λ ready f. absurd (not_ready 0 ready);
-  showing_fatal_error_only = λ h. absurd (nowhere (port_at 0) h);
+  named_lost_may_have_lost_disk = λ h. absurd (nowhere (port_at 0) h);
+  shown_loss_of_ready_is_named = λ ready loss. absurd (not_ready 0 ready);
+  named_link_changed_had_change_or_no_device = λ h. absurd (nowhere (port_at 0) h);
+  shown_failure_of_ready_is_named = λ ready f. absurd (not_ready 0 ready);
+  named_showing_error_had_error = λ h. absurd (nowhere (port_at 0) h);
+  shown_fatal_of_ready_is_named = λ ready f. absurd (not_ready 0 ready);
+  named_showing_fatal_had_fatal = λ h. absurd (nowhere (port_at 0) h);
   engine_is_left_or_stopped = inr (inl (named 0));
-  stopped_only = λ h. inl stops;
+  named_stopped_was_stopped_or_reset = λ h. inl stops;
   stuck_only = λ h. absurd (nowhere (port_at 0) h);
 }
 service_evidenced (suc n) = unnamed_evidenced Service (Replied []) (missing_look_accesses ++ unfit_look_accesses) unplugged_at one_absent looked_over evidence (port_at (suc n)) (unnamed n) (λ ready. absurd (not_ready (suc n) ready))
@@ -332,22 +332,22 @@ service_evidenced (suc n) = unnamed_evidenced Service (Replied []) (missing_look
 -- the first port's disk isn't there; the other's is, and shows no change
 probes : (n : ℕ) → ProbesDisk (missing_look_accesses ++ unfit_look_accesses) unplugged_at one_absent looked_over (port_at n)
 probes zero = record {
-  absent_with_device_is_booted = λ is. absurd (let x : Unfit 8 ≡ Absent = is in cc);
-  absent_gets_first_fis = λ is. absurd (let x : Unfit 8 ≡ Absent = is in cc);
-  missing_disk_makes_absent = λ bad none. inl refl;
-  changed_disk_is_booted = λ bad x. absurd (true≢false (sym x));
+  absent_with_device_is_booted_dead_or_has_plug_event = λ is. absurd (let x : Unfit 8 ≡ Absent = is in cc);
+  absent_gets_first_fis_or_dead_or_no_device = λ is. absurd (let x : Unfit 8 ≡ Absent = is in cc);
+  missing_disk_makes_absent_or_dead = λ bad none. inl refl;
+  changed_disk_is_booted_or_absent_or_dead = λ bad x. absurd (true≢false (sym x));
 }
 probes (suc zero) = record {
-  absent_with_device_is_booted = λ is. absurd (let x : Unfit 8 ≡ Absent = is in cc);
-  absent_gets_first_fis = λ is. absurd (let x : Unfit 8 ≡ Absent = is in cc);
-  missing_disk_makes_absent = λ bad none. absurd (none refl);
-  changed_disk_is_booted = λ bad x. absurd (true≢false (sym x));
+  absent_with_device_is_booted_dead_or_has_plug_event = λ is. absurd (let x : Unfit 8 ≡ Absent = is in cc);
+  absent_gets_first_fis_or_dead_or_no_device = λ is. absurd (let x : Unfit 8 ≡ Absent = is in cc);
+  missing_disk_makes_absent_or_dead = λ bad none. absurd (none refl);
+  changed_disk_is_booted_or_absent_or_dead = λ bad x. absurd (true≢false (sym x));
 }
 probes (suc (suc n)) = record {
-  absent_with_device_is_booted = λ is there. absurd (let x : 0 ≡ 3 = there in omega (arith, x));
-  absent_gets_first_fis = λ is there. absurd (let x : 0 ≡ 3 = there in omega (arith, x));
-  missing_disk_makes_absent = λ bad. absurd (not_bad bad);
-  changed_disk_is_booted = λ bad. absurd (not_bad bad);
+  absent_with_device_is_booted_dead_or_has_plug_event = λ is there. absurd (let x : 0 ≡ 3 = there in omega (arith, x));
+  absent_gets_first_fis_or_dead_or_no_device = λ is there. absurd (let x : 0 ≡ 3 = there in omega (arith, x));
+  missing_disk_makes_absent_or_dead = λ bad. absurd (not_bad bad);
+  changed_disk_is_booted_or_absent_or_dead = λ bad. absurd (not_bad bad);
 }
   where
     not_bad : IsForeignOrUnfit unfit_ports (port_at (suc (suc n))) → ⊥
@@ -357,15 +357,15 @@ probes (suc (suc n)) = record {
 service_part : (n : ℕ) → PortCorresponds unplugged_at service (missing_look_accesses ++ unfit_look_accesses) (port_at n)
 service_part n = record {
   finds_done = λ ready. absurd (not_ready n ready);
-  plain_faults_are_told = λ alone. absurd (not_ready n alone.ready);
+  lone_plain_faults_are_told_unless_dead = λ alone. absurd (not_ready n alone.ready);
   probes_disk = λ served none. probes n;
   boots_anew = (λ ready. absurd (not_ready n ready), boots n);
   loses_no_error = record {
-    errors_are_handled_or_shown = λ ready why. absurd (not_ready n ready);
-    changes_are_handled_or_shown = λ tends why. changes n why;
-    new_fault_is_shown = λ ready g. absurd (not_ready_then n ready);
-    new_fatal_is_shown = λ ready g. absurd (not_ready_then n ready);
-    new_plug_event_is_shown = λ ready g. absurd (not_ready_then n ready);
+    ready_errors_are_handled_or_shown = λ ready why. absurd (not_ready n ready);
+    changes_are_handled_or_shown_unless_dead = λ tends why. changes n why;
+    ready_shows_fault_since_start = λ ready g. absurd (not_ready_then n ready);
+    ready_shows_fatal_since_start = λ ready g. absurd (not_ready_then n ready);
+    ready_shows_plug_event_since_start = λ ready g. absurd (not_ready_then n ready);
   };
   runs_well_anew = λ why ready. absurd (not_ready_then n ready);
   handles_evidence = λ ready. absurd (not_ready n ready);
@@ -444,7 +444,7 @@ service_ties = record {
   accesses_are_explained = (does, serving (IsServedAndNotDead unfit_ports) (missing_look_accesses ++ unfit_look_accesses) of_served);
   is_backed = service_backed;
   is_evidenced = record { faults_are_told = λ f here. absurd (nowhere f here); each_port_is_evidenced = λ port. service_evidenced port.0 };
-  only_failed_requeue = tt;
+  only_failed_requeue_if_service = tt;
   issues_all_due = λ port ready. absurd (not_ready_then port.0 ready);
   ports_correspond = λ port. service_part port.0;
   invariant_holds = (

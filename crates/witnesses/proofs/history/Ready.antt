@@ -81,17 +81,17 @@ module _ (m : Machine) (s : DriverSlots) (tape : List Entry) (memory : ℕ → �
     state_relation = record {
       relates_slots = slots;
       serve_distinct_requests = apart;
-      received_areas_are_placed = received;
+      received_areas_in_use_are_placed = received;
       disks_are_same = λ n. record {
         present = are.present n;
         id = ap (λ (f : Port → ℕ). f (port_at n)) are.ids ∙ name_of n;
         sector_count = ap (λ (f : Port → ℕ). f (port_at n)) are.sizes ∙ size_of n;
       };
       client_frames_are_same = same;
-      sectors_are_same = λ _ n. let d = sectors_of n in record { told_sectors = d.told_sectors; disk_tells = d.disk_tells; bytes_are_same = λ k b kl bl. d.bytes_are_same k b kl bl ∙ sym (ap (λ (f : Port → ℕ → ℕ → ℕ). f (port_at n) k b) are.bytes) };
-      holds_replug_candidates = λ _ n. lasts n;
+      sectors_are_same_if_disks_tell = λ _ n. let d = sectors_of n in record { told_sectors = d.told_sectors; disk_tells = d.disk_tells; bytes_are_same = λ k b kl bl. d.bytes_are_same k b kl bl ∙ sym (ap (λ (f : Port → ℕ → ℕ → ℕ). f (port_at n) k b) are.bytes) };
+      holds_replug_candidates_if_disks_tell = λ _ n. lasts n;
     };
-    have_slots = have;
+    have_slots_unless_parked = have;
   }
 
 -- ---- ports

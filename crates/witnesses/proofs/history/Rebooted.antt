@@ -87,8 +87,8 @@ not_ready_then is = let x : Unfit 8 ≡ Ready = is in cc
 pub may_become : (failed : List Port) (n : ℕ) → MayBecome both (restart_evidence failed) one (port_at n)
 may_become failed n = record {
   served_is_unchanged = refl;
-  dead_is_stuck = (λ is. absurd (not_dead_then n is), λ h. absurd (nowhere (port_at n) h));
-  disk_is_remembered = λ is. (refl, refl);
+  dead_exactly_if_stuck = (λ is. absurd (not_dead_then n is), λ h. absurd (nowhere (port_at n) h));
+  disk_is_remembered_unless_ready = λ is. (refl, refl);
 }
 
 -- and the others are left as they are
@@ -285,15 +285,15 @@ module _ (c : Restart) where
 
     pub evidenced : (n : ℕ) → IsEvidencedOf c.ask c.said accesses old one after_it evidence (port_at n)
     evidenced zero = record {
-      lost_only = λ h. inr (inr (inr (not_dead_then 0, λ ready. absurd (not_ready_then ready))));
-      link_changed_all = λ ready loss. absurd (there 0 ready loss);
-      link_changed_only = λ h. absurd (nowhere (port_at 0) h);
-      showing_error_all = λ ready f. is.failed_all f;
-      showing_error_only = λ h. (refl, inl (inl (is.failed_only 0 h).1));
-      showing_fatal_error_all = λ ready f. is.failed_all (inl f);
-      showing_fatal_error_only = λ h. (refl, inl (is.failed_only 0 h).1);
+      named_lost_may_have_lost_disk = λ h. inr (inr (inr (not_dead_then 0, λ ready. absurd (not_ready_then ready))));
+      shown_loss_of_ready_is_named = λ ready loss. absurd (there 0 ready loss);
+      named_link_changed_had_change_or_no_device = λ h. absurd (nowhere (port_at 0) h);
+      shown_failure_of_ready_is_named = λ ready f. is.failed_all f;
+      named_showing_error_had_error = λ h. (refl, inl (inl (is.failed_only 0 h).1));
+      shown_fatal_of_ready_is_named = λ ready f. is.failed_all (inl f);
+      named_showing_fatal_had_fatal = λ h. (refl, inl (is.failed_only 0 h).1);
       engine_is_left_or_stopped = inr (inl (named 0));
-      stopped_only = λ h. inl (stops c.looked);
+      named_stopped_was_stopped_or_reset = λ h. inl (stops c.looked);
       stuck_only = λ h. absurd (nowhere (port_at 0) h);
     }
     evidenced (suc n) = unnamed_evidenced c.ask c.said accesses old one after_it evidence (port_at (suc n)) (unnamed n) (λ ready. (there (suc n) ready, quiet n ready))
@@ -338,11 +338,11 @@ module _ (c : Restart) where
 
     pub port_error : (n : ℕ) → LosesNoPortError evidence old one after_it (port_at n)
     port_error zero = record {
-      errors_are_handled_or_shown = λ ready why. inl (inl (named 0));
-      changes_are_handled_or_shown = λ tends why. inl (inl (named 0));
-      new_fault_is_shown = λ ready g. absurd (not_ready_then ready);
-      new_fatal_is_shown = λ ready g. absurd (not_ready_then ready);
-      new_plug_event_is_shown = λ ready g. absurd (not_ready_then ready);
+      ready_errors_are_handled_or_shown = λ ready why. inl (inl (named 0));
+      changes_are_handled_or_shown_unless_dead = λ tends why. inl (inl (named 0));
+      ready_shows_fault_since_start = λ ready g. absurd (not_ready_then ready);
+      ready_shows_fatal_since_start = λ ready g. absurd (not_ready_then ready);
+      ready_shows_plug_event_since_start = λ ready g. absurd (not_ready_then ready);
     }
     port_error (suc n) = no_trouble evidence old one after_it (port_at (suc n)) [] (sym (append-nil _)) (All-nil (IsCalm (suc n))) (served_ready (suc n)) (λ ready. (there (suc n) ready, quiet n ready))
 

@@ -167,15 +167,15 @@ quiet = calm submitted.tape read_memory issued refl refl refl (λ place from. re
 
 evidenced_of : (n : ℕ) → IsEvidencedOf Service (Replied replies) recovery_accesses submitted_at both recovered fault_evidence (port_at n)
 evidenced_of zero = record {
-  lost_only = λ h. absurd (nowhere (port_at 0) h);
-  link_changed_all = λ is loss. absurd ((quiet 0 is).0 loss);
-  link_changed_only = λ h. absurd (nowhere (port_at 0) h);
-  showing_error_all = λ is f. named 0;
-  showing_error_only = λ h. (refl, inr (inl gains));
-  showing_fatal_error_all = λ is f. absurd ((quiet 0 is).1 (inl f));
-  showing_fatal_error_only = λ h. absurd (nowhere (port_at 0) h);
+  named_lost_may_have_lost_disk = λ h. absurd (nowhere (port_at 0) h);
+  shown_loss_of_ready_is_named = λ is loss. absurd ((quiet 0 is).0 loss);
+  named_link_changed_had_change_or_no_device = λ h. absurd (nowhere (port_at 0) h);
+  shown_failure_of_ready_is_named = λ is f. named 0;
+  named_showing_error_had_error = λ h. (refl, inr (inl gains));
+  shown_fatal_of_ready_is_named = λ is f. absurd ((quiet 0 is).1 (inl f));
+  named_showing_fatal_had_fatal = λ h. absurd (nowhere (port_at 0) h);
   engine_is_left_or_stopped = inr (inl (named 0));
-  stopped_only = λ h. inl stops;
+  named_stopped_was_stopped_or_reset = λ h. inl stops;
   stuck_only = λ h. absurd (nowhere (port_at 0) h);
 }
 evidenced_of (suc n) = unnamed_evidenced Service (Replied replies) recovery_accesses submitted_at both recovered fault_evidence (port_at (suc n)) (unnamed n) (quiet (suc n))
@@ -206,7 +206,7 @@ heeds zero is = record {
   link_change_leaves_none = λ g. absurd (nowhere (port_at 0) g);
   link_change_tells_alike = λ g. absurd (nowhere (port_at 0) g);
   trouble_interrupts = λ why. inl (named 0);
-  trouble_leaves_none_issued = λ why e here. absurd (nowhere e here);
+  error_or_stop_leaves_no_old_issue = λ why e here. absurd (nowhere e here);
   one_fault_at_most = omega arith;
   fatal_tells_no_fault = λ h. absurd (nowhere (port_at 0) h);
   shown_disk_was_in_or_came = λ shows. inl refl;
@@ -230,11 +230,11 @@ too_early g =
 
 port_error : (n : ℕ) → LosesNoPortError fault_evidence submitted_at both recovered (port_at n)
 port_error zero = record {
-  errors_are_handled_or_shown = λ ready why. inl (inl (named 0));
-  changes_are_handled_or_shown = λ tends why. inl (inl (named 0));
-  new_fault_is_shown = λ ready g. absurd (too_early g);
-  new_fatal_is_shown = λ ready g. absurd (ran_none (IsFatalErrorOf 0) 0 submitted recovered (gained_none (IsFatalErrorOf 0) submitted recovered (entry.Fault fault ∷ []) refl (All-cons (λ e. IsFatalErrorOf 0 e → ⊥) (entry.Fault fault) [] (λ x. x) (All-nil (λ e. IsFatalErrorOf 0 e → ⊥)))) g);
-  new_plug_event_is_shown = λ ready g. absurd (ran_none (IsPlugEvent 0) 0 submitted recovered (gained_none (IsPlugEvent 0) submitted recovered (entry.Fault fault ∷ []) refl (All-cons (λ e. IsPlugEvent 0 e → ⊥) (entry.Fault fault) [] (λ x. x) (All-nil (λ e. IsPlugEvent 0 e → ⊥)))) g);
+  ready_errors_are_handled_or_shown = λ ready why. inl (inl (named 0));
+  changes_are_handled_or_shown_unless_dead = λ tends why. inl (inl (named 0));
+  ready_shows_fault_since_start = λ ready g. absurd (too_early g);
+  ready_shows_fatal_since_start = λ ready g. absurd (ran_none (IsFatalErrorOf 0) 0 submitted recovered (gained_none (IsFatalErrorOf 0) submitted recovered (entry.Fault fault ∷ []) refl (All-cons (λ e. IsFatalErrorOf 0 e → ⊥) (entry.Fault fault) [] (λ x. x) (All-nil (λ e. IsFatalErrorOf 0 e → ⊥)))) g);
+  ready_shows_plug_event_since_start = λ ready g. absurd (ran_none (IsPlugEvent 0) 0 submitted recovered (gained_none (IsPlugEvent 0) submitted recovered (entry.Fault fault ∷ []) refl (All-cons (λ e. IsPlugEvent 0 e → ⊥) (entry.Fault fault) [] (λ x. x) (All-nil (λ e. IsPlugEvent 0 e → ⊥)))) g);
 }
 port_error (suc n) = no_trouble fault_evidence submitted_at both recovered (port_at (suc n)) (entry.Fault fault ∷ []) refl (fault_alone (suc n) (omega arith)) (served_ready (suc n)) (quiet (suc n))
 
@@ -256,7 +256,7 @@ runs_well = record {
   no_link_is_due = refl;
   is_not_halted = refl;
   is_not_broken = refl;
-  shows_no_trouble = record { serr_n_is_clear = refl; serr_x_is_clear = refl; no_error_bit_is_set = λ place from to. quiet_again place };
+  shows_no_trouble = record { serr_n_is_clear = refl; serr_x_is_clear = refl; bits_27_to_30_are_clear = λ place from to. quiet_again place };
 }
 
 -- its fault came before ST was set again: port 0 runs well; and no other port was stopped
@@ -267,7 +267,7 @@ well (suc n) = λ why. absurd (⊎_elim (unnamed n).stopped (unnamed n).stuck wh
 part_of : (n : ℕ) → PortCorresponds submitted_at service recovery_accesses (port_at n)
 part_of n = record {
   finds_done = λ is e on. service_finds n e on;
-  plain_faults_are_told = λ alone. absurd (true≢false (sym alone.shows_only_tfes.tfes_is_set ∙ (no_flags n 30)));
+  lone_plain_faults_are_told_unless_dead = λ alone. absurd (true≢false (sym alone.shows_only_tfes.tfes_is_set ∙ (no_flags n 30)));
   probes_disk = λ served none. tries_ready recovery_accesses submitted_at both recovered (port_at n) (served_ready n served);
   boots_anew = (λ is f. absurd (⊎_elim (λ fatal. (quiet n is).1 (inl fatal)) (quiet n is).0 f), inl (refl, refl, refl, refl, refl, refl));
   loses_no_error = port_error n;
@@ -308,12 +308,12 @@ happens = record {
     ),
   );
   ports_are_well_formed = fit_ready plain_disks;
-  unanswered_keep_disk = λ e o here. absurd (nowhere e here);
+  unanswered_keep_serial_and_size = λ e o here. absurd (nowhere e here);
   result_matches_steps = record {
     replies_match = record { answers = (waiting, outcome.DeviceError 0x41 0x40) ∷ []; is_permutation = IsPermutation-refl _; ordered = λ i j d less low. absurd (omega (arith, less, low)); replies_are_of_answers = refl };
     dead_ports_tell_only_port_dead = λ e o here is. absurd (not_dead e.request.port.0 is);
     unplugged_empties_port = record { none_is_left = λ e other here. absurd (unplugged_not e here); none_is_told_dead = λ e other here. absurd (unplugged_not e here) };
-    none_is_due = λ port is r at_port due. absurd (nowhere r due.is_in_book);
+    none_is_due_where_ready = λ port is r at_port due. absurd (nowhere r due.is_in_book);
     empty_unless_ready = λ port other e here. absurd (nowhere e here);
     answers_ended = λ port is e here at_port done. absurd (not_ended 0 e here done);
     port_is_serviced = λ port. stay_serviced plain_disks fault_evidence port.0 (nowhere port);
@@ -330,7 +330,7 @@ ties = record {
     faults_are_told = λ f here. told f (only told_fault f here);
     each_port_is_evidenced = λ port. evidenced_of port.0;
   };
-  only_failed_requeue = (tt, named 0);
+  only_failed_requeue_if_service = (tt, named 0);
   issues_all_due = λ port is r here. absurd (nowhere r here);
   ports_correspond = λ port. part_of port.0;
   invariant_holds = (no_slots, holds_recovered);

@@ -193,7 +193,7 @@ allowed = (
                         record { ae_is_set = refl; no_reset = refl },
                         (omega arith, refl),
                         may_start asked_again 0x4011 0x4010 refl refl refl refl
-                            (record { cr_is_clear = refl; receives = refl; programmed = record { clb_is_written = refl; clbu_is_written = refl; fb_is_written = refl; fbu_is_written = refl }; link_was_seen = refl; not_busy = refl }),
+                            (record { cr_is_clear = refl; receives = refl; programmed = record { clb_is_written = refl; clbu_is_written = refl; fb_is_written = refl; fbu_is_written = refl }; link_was_seen = refl; last_tfd_was_idle = refl }),
                       ),
                       tt,
                     ),

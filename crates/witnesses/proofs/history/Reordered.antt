@@ -102,7 +102,7 @@ its_sector : (slot : ℕ) (id : RequestId) (s : ServesRequest both_issuing two_r
 its_sector slot id s reads =
     let read = names s.command.operation slot s.command.first s.command.count (s.means.op_is ∙ ap Some reads) in
     ap (λ (table : ℕ). little_from 4 3 (bytes_at two_reads_memory table 20) + 2 ^ 24 * little_from 8 3 (bytes_at two_reads_memory table 20)) (sym s.slot_decodes_to.table_is)
-    ∙ s.slot_decodes_to.decodes_to.fis.lba ∙ read.0 ∙ s.means.first_sector_is read.1
+    ∙ s.slot_decodes_to.decodes_to.fis.lba ∙ read.0 ∙ s.means.first_sector_is_if_ranged read.1
 
 -- no slot but 0 and 1 serves a request
 no_third : (slot : ℕ) (id : RequestId) → ServesRequest both_issuing two_reads_memory two_issued 0 (suc (suc slot)) id → ⊥
@@ -175,7 +175,7 @@ has_left = record {
     meaning = refl;
     places_are = refl;
     running = refl;
-    ci_is_set_while_plain = found_waits 0;
+    ci_is_set_iff_st_and_plain = found_waits 0;
     sact = one_active 0;
     progress = λ i. sym (le-ltb i 0 (omega arith));
     unended = refl;
@@ -263,7 +263,7 @@ runs_well p stands = record {
   no_link_is_due = was (λ q. q.link_due);
   is_not_halted = was (λ q. q.halt);
   is_not_broken = was (λ q. q.broken);
-  shows_no_trouble = record { serr_n_is_clear = was (λ q. q.serr_n); serr_x_is_clear = was (λ q. q.serr_x); no_error_bit_is_set = λ place from to. stands.quiet place from };
+  shows_no_trouble = record { serr_n_is_clear = was (λ q. q.serr_n); serr_x_is_clear = was (λ q. q.serr_x); bits_27_to_30_are_clear = λ place from to. stands.quiet place from };
 }
   where
     was : {A : Type 0} (part : DevicePort → A) → part (but_commands p) ≡ part (but_commands (running_port 0))

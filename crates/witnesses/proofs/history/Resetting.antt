@@ -36,7 +36,7 @@ use Rattle.identify.specs.declared.wanted.Wanted.TheVariants.{Any}
 use Rattle.driver_history.specs.Evidence.{IsEvidencedOf}
 use Rattle.driver_history.specs.Histories.{IsPortServed, CallCorresponds, PortCorresponds}
 use Rattle.driver_history.specs.PortInvariants.{PortStateInvariant}
-use Rattle.driver_history.specs.AccessTrace.{StaysInDriverFrames, UsesPortRegistersOf, LeavesEngine, ResetsLink}
+use Rattle.driver_history.specs.AccessTrace.{StaysInDriverFrames, UsesPortRegistersOf, WritesNeitherCmdNorSctl, ResetsLink}
 use Rattle.witnesses.specs.Reset.{ResetIsAHistory, ended_reset_accesses, boot_accesses, reset_and_boot_accesses}
 use Rattle.witnesses.specs.RunningAdapter.{port_or_empty, ports_with_disks}
 use Rattle.witnesses.proofs.history.Accepting.{asked, both, first, issuing, submit, submit_happens, submit_parts, submit_ties, submitted_at, waiting}
@@ -127,8 +127,8 @@ served_stopped (suc (suc n)) h = absurd (⊎_elim
 becomes : (n : ℕ) → MayBecome both evidence unfit_ports (port_at n)
 becomes n = record {
   served_is_unchanged = refl;
-  dead_is_stuck = (λ is. absurd (not_dead n is), λ h. absurd (nowhere (port_at n) h));
-  disk_is_remembered = λ is. (refl, refl);
+  dead_exactly_if_stuck = (λ is. absurd (not_dead n is), λ h. absurd (nowhere (port_at n) h));
+  disk_is_remembered_unless_ready = λ is. (refl, refl);
 }
 
 -- ---- the machine
@@ -155,7 +155,7 @@ answers = record {
     none_is_told_dead = λ e other here there. absurd (let x : outcome.PortDead ≡ outcome.Unplugged = (the_answer other outcome.PortDead there).1 in cc);
   };
   unplugged_lost_disk = λ e here. (not_dead e.request.port.0, λ ready. absurd (not_ready e.request.port.0 ready));
-  none_is_due = λ port is r at_port due. absurd (nowhere r due.is_in_book);
+  none_is_due_where_ready = λ port is r at_port due. absurd (nowhere r due.is_in_book);
   empty_unless_ready = λ port other e here. absurd (nowhere e here);
   port_may_become = λ port. becomes port.0;
   none_stays_issued = λ port e here. absurd (nowhere e here);
@@ -170,7 +170,7 @@ happens = record {
   issue_is_last_of_request = ((tt, λ id handled issued_in. absurd (true≢false (sym handled))), λ id handled issued_in. absurd (true≢false (sym issued_in)));
   answers_are_lawful = (tt, (named 0, (0, omega arith, refl)));
   ports_are_well_formed = fit;
-  unanswered_keep_disk = λ e o here. absurd (nowhere e here);
+  unanswered_keep_serial_and_size = λ e o here. absurd (nowhere e here);
   result_matches_steps = answers;
 }
 
@@ -241,15 +241,15 @@ evidenced : (n : ℕ) → IsEvidencedOf Reset (WasReset (Some replies)) reset_an
 evidenced n =
     let quiet = calm submitted.tape read_memory issued refl refl refl (λ place from. refl) rebooted n in
     record {
-      lost_only = λ h. inr (inr (inr (not_dead n, λ ready. absurd (not_ready n ready))));
-      link_changed_all = λ is loss. absurd ((quiet is).0 loss);
-      link_changed_only = λ h. absurd (nowhere (port_at n) h);
-      showing_error_all = λ is f. absurd ((quiet is).1 f);
-      showing_error_only = λ h. absurd (nowhere (port_at n) h);
-      showing_fatal_error_all = λ is f. absurd ((quiet is).1 (inl f));
-      showing_fatal_error_only = λ h. absurd (nowhere (port_at n) h);
+      named_lost_may_have_lost_disk = λ h. inr (inr (inr (not_dead n, λ ready. absurd (not_ready n ready))));
+      shown_loss_of_ready_is_named = λ is loss. absurd ((quiet is).0 loss);
+      named_link_changed_had_change_or_no_device = λ h. absurd (nowhere (port_at n) h);
+      shown_failure_of_ready_is_named = λ is f. absurd ((quiet is).1 f);
+      named_showing_error_had_error = λ h. absurd (nowhere (port_at n) h);
+      shown_fatal_of_ready_is_named = λ is f. absurd ((quiet is).1 (inl f));
+      named_showing_fatal_had_fatal = λ h. absurd (nowhere (port_at n) h);
       engine_is_left_or_stopped = engines n;
-      stopped_only = λ h. inr (tt, served_stopped n h);
+      named_stopped_was_stopped_or_reset = λ h. inr (tt, served_stopped n h);
       stuck_only = λ h. absurd (nowhere (port_at n) h);
     }
   where
@@ -257,7 +257,7 @@ evidenced n =
     written = (omega arith, (omega arith, (omega arith, (omega arith, (omega arith, (omega arith, (omega arith, (omega arith, (omega arith, (omega arith, (omega arith, (omega arith, (omega arith, (omega arith, (omega arith, (omega arith, (omega arith, (omega arith, (omega arith, (omega arith, tt))))))))))))))))))))
 
     -- a port that isn't served has its engine left
-    engines : (n : ℕ) → All (LeavesEngine (port_at n)) reset_and_boot_accesses ⊎ IsStoppedOrStuck evidence (port_at n)
+    engines : (n : ℕ) → All (WritesNeitherCmdNorSctl (port_at n)) reset_and_boot_accesses ⊎ IsStoppedOrStuck evidence (port_at n)
     engines zero = inr (inl (0, omega arith, refl))
     engines (suc zero) = inr (inl (1, omega arith, refl))
     engines (suc (suc n)) = inl (leaves IsWritten (port_at (suc (suc n))) (λ below. omega (arith, below)) (λ below. omega (arith, below)) reset_and_boot_accesses written)
@@ -267,15 +267,15 @@ evidenced n =
 part_of : (n : ℕ) → PortCorresponds submitted_at reset reset_and_boot_accesses (port_at n)
 part_of n = record {
   finds_done = tt;
-  plain_faults_are_told = tt;
+  lone_plain_faults_are_told_unless_dead = tt;
   probes_disk = tt;
   boots_anew = λ served. inr (links n served);
   loses_no_error = record {
-    errors_are_handled_or_shown = λ ready why. inl (inl (stopped_served n (was_served n ready)));
-    changes_are_handled_or_shown = λ tends why. inl (inl (stopped_served n tends.0));
-    new_fault_is_shown = λ ready g. absurd (not_ready n ready);
-    new_fatal_is_shown = λ ready g. absurd (not_ready n ready);
-    new_plug_event_is_shown = λ ready g. absurd (not_ready n ready);
+    ready_errors_are_handled_or_shown = λ ready why. inl (inl (stopped_served n (was_served n ready)));
+    changes_are_handled_or_shown_unless_dead = λ tends why. inl (inl (stopped_served n tends.0));
+    ready_shows_fault_since_start = λ ready g. absurd (not_ready n ready);
+    ready_shows_fatal_since_start = λ ready g. absurd (not_ready n ready);
+    ready_shows_plug_event_since_start = λ ready g. absurd (not_ready n ready);
   };
   runs_well_anew = λ why ready. absurd (not_ready n ready);
   handles_evidence = tt;
@@ -349,7 +349,7 @@ ties = record {
   accesses_are_explained = (does, own, of_ports, record { rest = Reading Ghc 0 ∷ Writing Ghc 0x80000002 ∷ (boot_accesses 0 ++ boot_accesses 1); accesses_are = refl }, (record { ae_is_set = refl; no_reset = refl }, refl));
   is_backed = backed;
   is_evidenced = record { faults_are_told = λ f here. absurd (nowhere f here); each_port_is_evidenced = λ port. evidenced port.0 };
-  only_failed_requeue = tt;
+  only_failed_requeue_if_service = tt;
   issues_all_due = λ port is. absurd (not_ready port.0 is);
   ports_correspond = λ port. part_of port.0;
   invariant_holds = (

@@ -17,7 +17,7 @@ use Rattle.block_machine.specs.State.{Pending}
 use Rattle.block_machine.specs.Steps.{Answer, Revoke, Step}
 use Rattle.identify.specs.declared.wanted.Wanted.TheVariants.{Any}
 use Rattle.driver_history.specs.Histories.{IsIssuingAccess, CallCorresponds, PortCorresponds}
-use Rattle.driver_history.specs.AccessTrace.{LeavesEngine}
+use Rattle.driver_history.specs.AccessTrace.{WritesNeitherCmdNorSctl}
 use Rattle.witnesses.specs.Revocation.{RevocationIsAHistory}
 use Rattle.witnesses.proofs.history.Accepting.{asked, both, first, in_book, issued_agrees, issued_at, issued_under, submit, submit_happens, submit_parts, submit_ties, waiting_for}
 use Rattle.witnesses.proofs.history.Aging.{not_due, quiet}
@@ -60,7 +60,7 @@ happens = record {
   issue_is_last_of_request = (tt, λ id handled issued_in. absurd (true≢false (sym handled)));
   answers_are_lawful = tt;
   ports_are_well_formed = fit_ready plain_disks;
-  unanswered_keep_disk = λ e o here there same. (refl, refl);
+  unanswered_keep_serial_and_size = λ e o here there same. (refl, refl);
   result_matches_steps = record {
     has_row = granted;
     row_is_removed = refl;
@@ -70,14 +70,14 @@ happens = record {
       λ of. absurd (true≢false (sym (ap (λ (x : Pending). x.issued) (in_book 0 e of.0)) ∙ of.1)),
     );
     ports_are_same = λ port. (refl, refl, refl, refl, refl, refl);
-    none_is_due = λ port is. not_due 0 port;
+    none_is_due_where_ready = λ port is. not_due 0 port;
   };
 }
 
 part : (n : ℕ) → PortCorresponds (issued_at 0) revoke [] (port_at n)
 part n = record {
   finds_done = tt;
-  plain_faults_are_told = tt;
+  lone_plain_faults_are_told_unless_dead = tt;
   probes_disk = tt;
   boots_anew = tt;
   loses_no_error = no_trouble nothing (issued_at 0) both submitted (port_at n) [] refl (All-nil (IsCalm n)) (served_ready n) (quiet n);
@@ -99,9 +99,9 @@ ties = record {
   };
   is_evidenced = record {
     faults_are_told = λ f here. absurd (nowhere f here);
-    each_port_is_evidenced = λ port. unnamed_evidenced (RevokeOf client 0) (WasRevoked (Some [])) [] (issued_at 0) both submitted nothing (port_at port.0) (none_named (port_at port.0)) (quiet port.0) (All-nil (LeavesEngine (port_at port.0)));
+    each_port_is_evidenced = λ port. unnamed_evidenced (RevokeOf client 0) (WasRevoked (Some [])) [] (issued_at 0) both submitted nothing (port_at port.0) (none_named (port_at port.0)) (quiet port.0) (All-nil (WritesNeitherCmdNorSctl (port_at port.0)));
   };
-  only_failed_requeue = tt;
+  only_failed_requeue_if_service = tt;
   issues_all_due = λ port is r here at_port. (λ f. absurd (true≢false (sym f)), λ due. absurd (not_due 0 port r at_port due));
   ports_correspond = λ port. part port.0;
   invariant_holds = (first_slots, holds plain_disks first_slots (issued_under left 0) [] read_memory issued (issued_agrees left 0));

@@ -50,7 +50,7 @@ serves_one m memory p slot c id k n held age list below here op first told stage
       command = c;
       places = piece_addresses (4096 * n) 1;
       slot_decodes_to = subst (λ (at : ℕ). SlotDecodesTo memory at 0 slot c (piece_addresses (4096 * n) 1)) (sym list) told;
-      means = record { op_is = op; first_sector_is = λ _. first; places_are = (refl, places); trim_is_in_slot_0 = λ e. absurd (let x : Read ≡ Trim = e in cc) };
+      means = record { op_is = op; first_sector_is_if_ranged = λ _. first; places_are = (refl, places); trim_is_in_slot_0 = λ e. absurd (let x : Read ≡ Trim = e in cc) };
       stage = stage;
     }
   where
@@ -137,4 +137,4 @@ module _ (disk : Kind) (m : Machine) (more : List Entry) (memory : ℕ → ℕ) 
 pub none_due : (mode : QueueMode) (book : List Unanswered) → ((r : Unanswered) → Contains book r → r.issued ≡ true) → (port : Port) → NoneDue mode book port
 none_due mode book all port r at_port due =
     let held : is_unblocked mode book r ≡ false = ap (λ (issued : Bool). not issued && not (list_any (waits_for mode r) book)) (all r due.is_in_book) in
-    absurd (true≢false (sym due.nothing_blocks ∙ held))
+    absurd (true≢false (sym due.waits_and_nothing_blocks ∙ held))

@@ -6,7 +6,7 @@ use Rattle.std.proofs.lemmas.Option.{same_Some}
 use Rattle.adapter.specs.Commands.{is_ranged, reads_memory}
 use Rattle.adapter.specs.Device.{DurableState}
 use Rattle.adapter.specs.FirstRead.{first_disk, first_disk_sector}
-use Rattle.adapter.specs.Steps.{WereHeld, bytes_put_into}
+use Rattle.adapter.specs.Steps.{WereHeldSinceFlush, bytes_put_into}
 use Rattle.adapter.specs.declared.tape.Entry.{Entry}
 use Rattle.adapter.specs.declared.tape.Entry.TheVariants as entry
 use Rattle.witnesses.proofs.history.Memory.{tells}
@@ -50,10 +50,10 @@ puts_none (entry.Fatal at) port k still = refl
 puts_none (entry.Unplug at) port k still = refl
 puts_none (entry.Plug at name) port k still = refl
 
-pub still_bytes : (tape : List Entry) (lasting : DurableState) (port k : ℕ) (bytes : List ℕ) → lasting ≡ first_lasting → all_still tape ≡ true → WereHeld tape lasting port k bytes
+pub still_bytes : (tape : List Entry) (lasting : DurableState) (port k : ℕ) (bytes : List ℕ) → lasting ≡ first_lasting → all_still tape ≡ true → WereHeldSinceFlush tape lasting port k bytes
     → (b : ℕ) → b < 512 → slice_index bytes b ≡ k
-still_bytes tape lasting port k bytes is still w b bl = by (subst (λ (l : DurableState). WereHeld tape l port k bytes) is w)
+still_bytes tape lasting port k bytes is still w b bl = by (subst (λ (l : DurableState). WereHeldSinceFlush tape l port k bytes) is w)
   where
-    by : WereHeld tape first_lasting port k bytes → slice_index bytes b ≡ k
+    by : WereHeldSinceFlush tape first_lasting port k bytes → slice_index bytes b ≡ k
     by (inl now) = ap (λ (l : List ℕ). slice_index l b) (sym (same_Some (first_disk_sector k) bytes now)) ∙ tells k b bl
     by (inr (e, here, put)) = absurd (let z : None ≡ Some bytes = sym (puts_none e port k (still_of tape e still here)) ∙ put in cc)

@@ -124,7 +124,7 @@ one_agrees : Agreeing queueing_disks first_slots first_issuing [] one_memory one
 one_agrees = agrees_one queueing_disks first_issuing [] one_memory one_issued (queued_read 100) 100 100 held 0 has_one
 
 may_first : IsEnabled (after start (Accept (issued_on.accepted submission_one) ∷ [])) (Issue queued_disk_mode (newly_accepted (issued_on.accepted submission_one)))
-may_first = ((0, omega arith, refl), record { is_in_book = (0, omega arith, refl); nothing_blocks = refl; slot_is_left = λ _. omega arith }, λ e h. absurd (nowhere e h), granted)
+may_first = ((0, omega arith, refl), record { is_in_book = (0, omega arith, refl); waits_and_nothing_blocks = refl; slot_is_left = λ _. omega arith }, λ e h. absurd (nowhere e h), granted)
 
 pub issued_first : IsIssued submission_one
 unfolding one_memory
@@ -179,7 +179,7 @@ two_requests = record {
   slots_serve_clients = clients;
   unusable_are_free = low;
   none_is_parked = refl;
-  commands_are_as_asked = λ slot e s unended. kinds slot e s.is_in_book s.serves;
+  unended_commands_are_queued_as_asked = λ slot e s unended. kinds slot e s.is_in_book s.serves;
   plain_is_alone = λ slot e s plain. absurd (true≢false (sym plain ∙ each_has (λ x. is_plain queued_disk_mode x.request.asked.op ≡ false) refl refl e s.is_in_book));
 }
   where
@@ -222,11 +222,11 @@ abbrev waits_second : Pending
 waits_second = newly_accepted (issued_on.accepted submission_two)
 
 may_second : IsEnabled (after first_issuing (Accept (issued_on.accepted submission_two) ∷ [])) (Issue queued_disk_mode waits_second)
-may_second = ((1, omega arith, refl), record { is_in_book = (1, omega arith, refl); nothing_blocks = refl; slot_is_left = λ _. omega arith }, λ e h. absurd (nowhere e h), granted)
+may_second = ((1, omega arith, refl), record { is_in_book = (1, omega arith, refl); waits_and_nothing_blocks = refl; slot_is_left = λ _. omega arith }, λ e h. absurd (nowhere e h), granted)
 
 due_second : (port : Port) → IssuesDue queued_disk_mode (issued_on.submit_steps submission_two) both_issuing port
 due_second port r here at_port = ⊎_elim
-    (λ (is : r ≡ unanswered outstanding_first). subst Right (sym is) (λ f. absurd (true≢false (sym f)), λ due. absurd (true≢false (sym due.nothing_blocks))))
+    (λ (is : r ≡ unanswered outstanding_first). subst Right (sym is) (λ f. absurd (true≢false (sym f)), λ due. absurd (true≢false (sym due.waits_and_nothing_blocks))))
     (λ (is : r ≡ unanswered waits_second). subst Right (sym is) (λ _. may_second.1, λ _. refl))
     (either (unanswered outstanding_first) (unanswered waits_second) r here)
   where

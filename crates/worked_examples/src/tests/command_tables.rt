@@ -5,8 +5,8 @@ use ata_types::Frame;
 use command_table::{header, prds};
 use fis::encode_h2d;
 
-/// The FIS of a command.
-fn fis(code: u8, features: u16, count: u16, lba: u32, device: u8) -> [u8; 20] {
+/// The FIS of a command with these fields: code, features, count, LBA and device.
+fn fis((code, features, count, lba, device): (u8, u16, u16, u32, u8)) -> [u8; 20] {
     encode_h2d(&Command {
         code,
         features,
@@ -16,77 +16,45 @@ fn fis(code: u8, features: u16, count: u16, lba: u32, device: u8) -> [u8; 20] {
     })
 }
 
-/// Fourteen bytes, and then zeros.
-fn ends_in_zeros(first: [u8; 14]) -> [u8; 20] {
+/// The bytes of a FIS of these double words, each from its lowest byte on, and a fifth of zeros.
+fn bytes_of(words: [u32; 4]) -> [u8; 20] {
     let mut bytes = [0; 20];
-    bytes[..14].copy_from_slice(&first);
+    for place in 0..4 {
+        bytes[4 * place..4 * place + 4].copy_from_slice(&words[place].to_le_bytes());
+    }
     bytes
 }
 
-/// Name, the fields code, features, count, LBA and device, and the bytes of the FIS up to its zeros.
-const COMMANDS: [(&str, (u8, u16, u16, u32, u8), [u8; 14]); 11] = [
+/// The second double word at sector 100: the LBA's lower half, and 40h of the device.
+const AT_100: u32 = 0x4000_0064;
+
+/// Code, features, count, LBA and device; and the FIS's double words, as Serial ATA draws them.
+const COMMANDS: [((u8, u16, u16, u32, u8), [u32; 4]); 11] = [
+    // READ FPDMA QUEUED of 8 sectors at 100 in slot 0, of 256 in slot 5, and of 1024 in slot 31
+    ((0x60, 8, 0, 100, 64), [0x0860_8027, AT_100, 0, 0]),
+    ((0x60, 256, 40, 100, 64), [0x0060_8027, AT_100, 1 << 24, 40]),
     (
-        "READ FPDMA QUEUED of 8 sectors at 100 in slot 0",
-        (0x60, 8, 0, 100, 0x40),
-        [0x27, 0x80, 0x60, 8, 0x64, 0, 0, 0x40, 0, 0, 0, 0, 0, 0],
+        (0x60, 1024, 248, 100, 64),
+        [0x0060_8027, AT_100, 4 << 24, 248],
     ),
-    (
-        "WRITE FPDMA QUEUED of 3 sectors at 100 in slot 0",
-        (0x61, 3, 0, 100, 0x40),
-        [0x27, 0x80, 0x61, 3, 0x64, 0, 0, 0x40, 0, 0, 0, 0, 0, 0],
-    ),
-    (
-        "READ FPDMA QUEUED of 256 sectors at 100 in slot 5",
-        (0x60, 256, 5 << 3, 100, 0x40),
-        [0x27, 0x80, 0x60, 0, 0x64, 0, 0, 0x40, 0, 0, 0, 1, 0x28, 0],
-    ),
-    (
-        "READ DMA EXT of 8 sectors at 100",
-        (0x25, 0, 8, 100, 0x40),
-        [0x27, 0x80, 0x25, 0, 0x64, 0, 0, 0x40, 0, 0, 0, 0, 8, 0],
-    ),
-    (
-        "READ DMA EXT of 256 sectors at 100",
-        (0x25, 0, 256, 100, 0x40),
-        [0x27, 0x80, 0x25, 0, 0x64, 0, 0, 0x40, 0, 0, 0, 0, 0, 1],
-    ),
-    (
-        "READ FPDMA QUEUED of 1024 sectors at 100 in slot 31",
-        (0x60, 1024, 31 << 3, 100, 0x40),
-        [0x27, 0x80, 0x60, 0, 0x64, 0, 0, 0x40, 0, 0, 0, 4, 0xf8, 0],
-    ),
-    (
-        "WRITE DMA EXT of 1024 sectors at 100",
-        (0x35, 0, 1024, 100, 0x40),
-        [0x27, 0x80, 0x35, 0, 0x64, 0, 0, 0x40, 0, 0, 0, 0, 0, 4],
-    ),
-    (
-        "WRITE DMA EXT of 3 sectors at 100",
-        (0x35, 0, 3, 100, 0x40),
-        [0x27, 0x80, 0x35, 0, 0x64, 0, 0, 0x40, 0, 0, 0, 0, 3, 0],
-    ),
-    (
-        "DATA SET MANAGEMENT with TRIM and one block",
-        (0x06, 1, 1, 0, 0),
-        [0x27, 0x80, 0x06, 1, 0, 0, 0, 0, 0, 0, 0, 0, 1, 0],
-    ),
-    (
-        "IDENTIFY DEVICE",
-        (0xec, 0, 0, 0, 0),
-        [0x27, 0x80, 0xec, 0, 0, 0, 0, 0, 0, 0, 0, 0, 0, 0],
-    ),
-    (
-        "FLUSH CACHE EXT",
-        (0xea, 0, 0, 0, 0),
-        [0x27, 0x80, 0xea, 0, 0, 0, 0, 0, 0, 0, 0, 0, 0, 0],
-    ),
+    // WRITE FPDMA QUEUED of 3 sectors at 100 in slot 0
+    ((0x61, 3, 0, 100, 64), [0x0361_8027, AT_100, 0, 0]),
+    // READ DMA EXT of 8 sectors at 100, and of 256
+    ((0x25, 0, 8, 100, 64), [0x0025_8027, AT_100, 0, 8]),
+    ((0x25, 0, 256, 100, 64), [0x0025_8027, AT_100, 0, 256]),
+    // WRITE DMA EXT of 1024 sectors at 100, and of 3
+    ((0x35, 0, 1024, 100, 64), [0x0035_8027, AT_100, 0, 1024]),
+    ((0x35, 0, 3, 100, 64), [0x0035_8027, AT_100, 0, 3]),
+    // DATA SET MANAGEMENT with TRIM and one block, IDENTIFY DEVICE, and FLUSH CACHE EXT
+    ((0x06, 1, 1, 0, 0), [0x0106_8027, 0, 0, 1]),
+    ((0xec, 0, 0, 0, 0), [0x00ec_8027, 0, 0, 0]),
+    ((0xea, 0, 0, 0, 0), [0x00ea_8027, 0, 0, 0]),
 ];
 
 #[test]
 fn commands_are_spelled(rt: HostRuntime) {
-    for (name, (code, features, count, lba, device), first) in COMMANDS {
-        let found = fis(code, features, count, lba, device);
-        assert_eq!(rt; found, ends_in_zeros(first), "{name}");
+    for (fields, words) in COMMANDS {
+        assert_eq!(rt; fis(fields), bytes_of(words), "{fields:?}");
     }
 }
 

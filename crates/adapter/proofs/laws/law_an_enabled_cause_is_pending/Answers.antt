@@ -4,8 +4,8 @@ use Rattle.adapter.proofs.laws.law_an_enabled_cause_is_pending.Goals as goal
 pub returns-clause-named : goal.returns-clause-named
 returns-clause-named c = named_enabled
 
-pub returns-clause-steps_raise_causes : goal.returns-clause-steps_raise_causes
-returns-clause-steps_raise_causes c = raised_named
+pub returns-clause-steps_raise_named_causes_alone : goal.returns-clause-steps_raise_named_causes_alone
+returns-clause-steps_raise_named_causes_alone c = raised_named
 
 pub returns-clause-cause_shown_is_pending : goal.returns-clause-cause_shown_is_pending
 returns-clause-cause_shown_is_pending c = shown_pends

@@ -4,12 +4,12 @@ use Rattle.block_server.proofs.laws.law_runs_keep_their_promise.Goals as goal
 pub returns : goal.returns
 returns g c =
     let laws : HistoryLaws = record {
-      seen = c.law_clear_bits_are_answered.ensures;
+      seen = c.law_services_answer_where_bits_are_clear.ensures;
       well = c.law_healthy_calls_go_well.ensures;
       rest = c.law_answers_justified.ensures;
       moves = c.law_moves_keep_to_their_places.ensures;
       run = c.law_histories_are_runs.ensures;
       reads = c.law_reads_hold_if_disks_tell.ensures;
-      lasts = c.law_replugs_keep_flushed_writes.ensures;
+      lasts = c.law_replugs_keep_flushed_if_disks_tell.ensures;
     } in
     record { no_calls = no_call laws g.A.Adapter.device; one_call = one_call laws g.A.Adapter.device; calls_join = more_calls laws g.A.Adapter.device }

@@ -6,7 +6,7 @@ use Rattle.std.proofs.lemmas.List.Edits.{map_over_more}
 use Rattle.dma_frames.specs.Loan.{Lending}
 use Rattle.server_history.specs.KeptLoans.{GivesBackLoans}
 use Rattle.server_history.specs.ServerState.{DifferInRequest, IsLentOut, quarantined_at}
-use Rattle.block_server.specs.FourPorts.{by_port, without_loans}
+use Rattle.block_server.specs.FourPorts.{by_port, without_kept_loans}
 use Rattle.port_driver.specs.PortAndShared.{no_port}
 use Rattle.port_driver.specs.declared.served_port.ServedPort.{ServedPort}
 use Rattle.block_server.proofs.Keeping.{BackSoFar, all_taken, next_out, next_so_far, next_two, none_so_far}
@@ -39,11 +39,11 @@ give_back-requires-clause-loans_differ_in_request c =
     (next_two c.law_loans_end_in_turn.ensures (by_port (λ p. p.kept) c.args.ports.now) (by_port (λ p. p.kept) ports) c.args.table.now c.loop-number.table number c.requires so_far.back (so_far.left number (omega arith)))
 
 -- one more has none
-next : (old now : List ServedPort) (number : ℕ) (default : ServedPort) (kept : List Lending) → number < length old → number < length now → kept ≡ [] → now ≡ map without_loans (take number old) ++ drop number old
-    → set now number (record (get_or now number default) { kept = kept }) ≡ map without_loans (take (number + 1) old) ++ drop (number + 1) old
+next : (old now : List ServedPort) (number : ℕ) (default : ServedPort) (kept : List Lending) → number < length old → number < length now → kept ≡ [] → now ≡ map without_kept_loans (take number old) ++ drop number old
+    → set now number (record (get_or now number default) { kept = kept }) ≡ map without_kept_loans (take (number + 1) old) ++ drop (number + 1) old
 next old now number default kept low small none is =
     ap (λ (k : List Lending). set now number (record (get_or now number default) { kept = k })) none
-    ∙ map_over_more without_loans old now number (get_or now number default) low is (get_or_default now number default (get_or now number default) small)
+    ∙ map_over_more without_kept_loans old now number (get_or now number default) low is (get_or_default now number default (get_or now number default) small)
 
 pub loop-number-preserved : goal.loop-number-preserved
 loop-number-preserved c =
@@ -72,8 +72,8 @@ returns-clause-ports c =
     let number = c.loop-number.number in
     let old = c.args.ports.now in
     c.loop-number.invariant.ports
-    ∙ (λ i. map without_loans (take_all number old (omega (arith, past, told)) i) ++ drop_all number old (omega (arith, past, told)) i)
-    ∙ append-nil (map without_loans old)
+    ∙ (λ i. map without_kept_loans (take_all number old (omega (arith, past, told)) i) ++ drop_all number old (omega (arith, past, told)) i)
+    ∙ append-nil (map without_kept_loans old)
 
 pub returns-clause-takes_kept_loans_back : goal.returns-clause-takes_kept_loans_back
 returns-clause-takes_kept_loans_back c =

@@ -6,5 +6,5 @@ returns c =
     let laws : Laws = record { goes = c.law_acts_advance_driver.ensures.driver_advances; silent = c.law_acts_advance_driver.ensures.gains_no_move } in
     record {
       ends_in_issues = λ port tasks mode es old new s m i is reached knows fits. ends laws port tasks mode es old new s m i is reached knows fits;
-      no_page_moves = λ port tasks mode es old new s m i is reached knows fits. silent laws port tasks mode es old new s m i is reached knows fits;
+      no_unasked_page_moves = λ port tasks mode es old new s m i is reached knows fits. silent laws port tasks mode es old new s m i is reached knows fits;
     }

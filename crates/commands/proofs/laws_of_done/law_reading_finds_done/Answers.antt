@@ -12,5 +12,5 @@ returns c = finds_done (record {
   after_both = c.law_histories_compose.ensures.machine_after_joins;
   reading = c.law_reading_is_followed.ensures;
   keeps = c.law_step_lists_keep_what_steps_keep.ensures;
-  kept = c.law_steps_spare_the_book.ensures.none_quarantined_stays;
+  kept = c.law_book_only_advances_over_device_steps.ensures.none_quarantined_stays;
 })

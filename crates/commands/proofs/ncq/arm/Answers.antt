@@ -6,4 +6,4 @@ use Rattle.commands.proofs.ncq.arm.Goals as goal
 
 pub write-requires : goal.write-requires
 write-requires g c =
-    c.law_writing_stays_permitted.ensures.rules (Px c.args.port Sact) c.args.own _ (λ (q : Port) (e : Px c.args.port Sact ≡ Px q Ci). absurd cc) (c.requires.adapter_is_on, c.requires.has_port, c.requires.started)
+    c.law_writes_but_ci_stay_permitted.ensures.rules (Px c.args.port Sact) c.args.own _ (λ (q : Port) (e : Px c.args.port Sact ≡ Px q Ci). absurd cc) (c.requires.adapter_is_on, c.requires.has_port, c.requires.started)

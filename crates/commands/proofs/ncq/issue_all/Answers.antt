@@ -17,7 +17,7 @@ write-requires g c =
       adapter = c.law_other_ports_are_untouched.ensures.adapter_is_same;
     } in
     let kind = IsStoreForBatch c.args.port.0 q.1 in
-    c.law_writing_stays_permitted.ensures.rules (Px c.args.port Sact) c.args.mask _ (λ (at : Port) (e : Px c.args.port Sact ≡ Px at Ci). absurd cc) (
+    c.law_writes_but_ci_stay_permitted.ensures.rules (Px c.args.port Sact) c.args.mask _ (λ (at : Port) (e : Px c.args.port Sact ≡ Px at Ci). absurd cc) (
       stores_on laws c.args.port kind (batch_stores c.args.port.0 q.1) _ _ b.stores.is_driven b.adapter_is_on,
       stores_there laws c.args.port kind (batch_stores c.args.port.0 q.1) _ _ b.stores.is_driven b.has_port,
       (stores_may laws c.args.port kind (batch_stores c.args.port.0 q.1) _ _ b.stores.is_driven b.adapter_is_on b.list_runs).st_is_set,

@@ -3,8 +3,8 @@ use Rattle.error_recovery.proofs.laws.law_a_port_may_be_recovered.Goals as goal
 
 pub returns-clause-plain : goal.returns-clause-plain
 returns-clause-plain c =
-    plain_may_be_asked c.law_prerequisites.ensures c.law_setting_changes_one_slot.ensures.slot_has_new_state c.law_setting_changes_one_slot.ensures.others c.law_a_fault_is_seen.ensures.plain c.law_a_first_read_agrees.ensures
+    plain_may_be_asked c.law_prerequisites.ensures c.law_setting_changes_one_slot.ensures.slot_has_new_state c.law_setting_changes_one_slot.ensures.others c.law_a_command_may_have_failed.ensures.plain c.law_a_first_read_agrees.ensures
 
 pub returns-clause-queued : goal.returns-clause-queued
 returns-clause-queued c =
-    queued_may_be_asked c.law_prerequisites.ensures c.law_setting_changes_one_slot.ensures.slot_has_new_state c.law_setting_changes_one_slot.ensures.others c.law_a_fault_is_seen.ensures.queued c.law_two_queued_reads_agree.ensures
+    queued_may_be_asked c.law_prerequisites.ensures c.law_setting_changes_one_slot.ensures.slot_has_new_state c.law_setting_changes_one_slot.ensures.others c.law_a_command_may_have_failed.ensures.queued c.law_two_queued_reads_agree.ensures

@@ -7,8 +7,8 @@ use Rattle.host_boot.proofs.laws.law_what_was_taken_over_may_be_served.Goals as 
 pub returns-clause-served_port_exists : goal.returns-clause-served_port_exists
 returns-clause-served_port_exists c = taken_there
 
-pub returns-clause-ready_port_is_programmed : goal.returns-clause-ready_port_is_programmed
-returns-clause-ready_port_is_programmed c = λ wanted host port info old new taken. taken_ready wanted host port old new taken info
+pub returns-clause-ready_port_is_programmed_and_started : goal.returns-clause-ready_port_is_programmed_and_started
+returns-clause-ready_port_is_programmed_and_started c = λ wanted host port info old new taken. taken_ready wanted host port old new taken info
 
 pub returns-clause-healthy_port_runs_well : goal.returns-clause-healthy_port_runs_well
 returns-clause-healthy_port_runs_well c = λ wanted host port info old new idle taken. taken_runs c.law_prerequisites.ensures wanted host port old new taken info idle

@@ -7,7 +7,7 @@ use Rattle.ata_types.specs.declared.call.CallResult.{CallResult}
 use Rattle.ata_types.specs.declared.request.Reply.{Reply}
 use Rattle.adapter.specs.declared.access.DeviceStep.{DeviceStep}
 use Rattle.block_server.specs.Promise.{Simulates}
-use Rattle.block_server.specs.CallResults.{last_of, with_replies}
+use Rattle.block_server.specs.CallResults.{last_result_as_list, with_replies}
 use Rattle.play.proofs.session.make_call.Goals as goal
 
 on_ok : {T E : Type 0} (r : Result T E) (P : Type 0) → OnOk r P → IsOk r → P
@@ -33,7 +33,7 @@ returns-clause-keeps g c =
     let last = some_of new.last (on_ok c.run-done.result _ c.run-done.ensures.last_result_is_there ok (omega (arith, c.from_ref.ensures.len))) in
     let one = with_replies last.0 new.replies.items in
     let shown : new.earlier.items ++ one ∷ [] ≡ ran.results =
-    ap (λ (o : Option (CallResult (Unit {0}))). new.earlier.items ++ last_of o new.replies.items) (sym last.1) ∙ ran.results_are ∙ ap (λ (before : List (CallResult (ArrayVec Reply))). before ++ ran.results) c.clear.ensures.no_results_are_left in
+    ap (λ (o : Option (CallResult (Unit {0}))). new.earlier.items ++ last_result_as_list o new.replies.items) (sym last.1) ∙ ran.results_are ∙ ap (λ (before : List (CallResult (ArrayVec Reply))). before ++ ran.results) c.clear.ensures.no_results_are_left in
     let Q : List (Call DeviceStep) → List (CallResult (ArrayVec Reply)) → Type 0 = λ calls said. Simulates device c.args.server.now c.run-done.new.self calls said in (
       last.0,
       last.1,

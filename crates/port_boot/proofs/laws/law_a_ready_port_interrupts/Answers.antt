@@ -10,7 +10,7 @@ returns-clause-shown_cause_is_pending c = λ wanted port place d info fits named
 pub returns-clause-raised_cause_is_pending : goal.returns-clause-raised_cause_is_pending
 returns-clause-raised_cause_is_pending c = λ wanted port place step d info fits can raises.
     let law = c.law_an_enabled_cause_is_pending.ensures in
-    law.cause_raised_is_pending step port place d can raises (ap (λ (ie : ℕ). bit ie place) fits.ie_is_named ∙ law.named place (law.steps_raise_causes step port place d can raises))
+    law.cause_raised_is_pending step port place d can raises (ap (λ (ie : ℕ). bit ie place) fits.ie_is_named ∙ law.named place (law.steps_raise_named_causes_alone step port place d can raises))
 
 pub returns-clause-tape_event_is_pending : goal.returns-clause-tape_event_is_pending
 returns-clause-tape_event_is_pending c = λ wanted port entry accesses gained old new info fits its does pending enabled off tape has.

@@ -12,5 +12,5 @@ returns-clause-boots c = λ port state old new. boot_driven (StopsOnWay port sta
 pub returns-clause-stops : goal.returns-clause-stops
 returns-clause-stops c = λ port state old new. boot_driven (StopsBothEngines port) port old new state
 
-pub returns-clause-commanding : goal.returns-clause-commanding
-returns-clause-commanding c = λ port access is. inl (c.law_prerequisites.ensures.control_of_larger_set Commanding BootRegisters port starting access is)
+pub returns-clause-cmd_access_is_boot_access : goal.returns-clause-cmd_access_is_boot_access
+returns-clause-cmd_access_is_boot_access c = λ port access is. inl (c.law_prerequisites.ensures.control_of_larger_set Commanding BootRegisters port starting access is)

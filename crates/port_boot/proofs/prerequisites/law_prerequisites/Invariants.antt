@@ -5,5 +5,5 @@ use Rattle.port_boot.proofs.prerequisites.law_prerequisites.Given as goal
 abbrev pub ghosts-law_fragment_prerequisites : goal.ghosts-law_fragment_prerequisites
 ghosts-law_fragment_prerequisites a = record { Kind = AccessPurpose; may = accesses_for; fits = slot_uses_for }
 
-abbrev pub ghosts-law_controls_are_of_a_port : goal.ghosts-law_controls_are_of_a_port
-ghosts-law_controls_are_of_a_port a = record { Set = RegisterSet; has = registers_of }
+abbrev pub ghosts-law_port_register_accesses_are_of_port : goal.ghosts-law_port_register_accesses_are_of_port
+ghosts-law_port_register_accesses_are_of_port a = record { Set = RegisterSet; has = registers_of }

@@ -11,8 +11,8 @@ no_control (inr (inr (inl e))) = absurd (let k : Sctl ≡ Clbu = e in cc)
 no_control (inr (inr (inr (inl e)))) = absurd (let k : Sctl ≡ Fb = e in cc)
 no_control (inr (inr (inr (inr e)))) = absurd (let k : Sctl ≡ Fbu = e in cc)
 
-pub returns-clause-commanding : goal.returns-clause-commanding
-returns-clause-commanding c = λ port access is.
+pub returns-clause-cmd_access_is_of_port : goal.returns-clause-cmd_access_is_of_port
+returns-clause-cmd_access_is_of_port c = λ port access is.
     (c.law_prerequisites.ensures.control_spares_other_ports Commanding port access is, c.law_prerequisites.ensures.control_spares_other_registers Commanding port Sctl (λ e. absurd (let k : Sctl ≡ Cmd = e in cc)) access is)
 
 pub returns-clause-placing : goal.returns-clause-placing

@@ -22,20 +22,20 @@ may_at port slot d head may = subst (λ (n : ℕ). MayIssueTask port n d) head m
 
 pub issue_trim-requires-clause-may : goal.issue_trim-requires-clause-may
 issue_trim-requires-clause-may g c =
-    let m = c.requires.fits.trim_and_flush_in_slot_0 (inl c.in-Trim.is) in
+    let m = c.requires.fits.trim_and_flush_are_plain_in_slot_0 (inl c.in-Trim.is) in
     may_at c.args.port c.args.slot.0 _ m.0 c.requires.may
 
 pub issue_flush-requires : goal.issue_flush-requires
 issue_flush-requires g c =
-    let m = c.requires.fits.trim_and_flush_in_slot_0 (inr c.in-Flush.is) in
+    let m = c.requires.fits.trim_and_flush_are_plain_in_slot_0 (inr c.in-Flush.is) in
     record { may = may_at c.args.port c.args.slot.0 _ m.0 c.requires.may }
 
 pub returns-in-Trim-clause-issued : goal.returns-in-Trim-clause-issued
 returns-in-Trim-clause-issued g c =
-    let m = c.requires.fits.trim_and_flush_in_slot_0 (inl c.in-Trim.is) in
+    let m = c.requires.fits.trim_and_flush_are_plain_in_slot_0 (inl c.in-Trim.is) in
     as_told c.args.port c.args.slot.0 c.args.task.now Trim c.in-Trim.is m.0 m.1 (IsIssuedIn c.args.port c.args.frames.now _ _) (c.issue_trim.ensures.issued c.args.frames.now)
 
 pub returns-in-Flush-clause-issued : goal.returns-in-Flush-clause-issued
 returns-in-Flush-clause-issued g c =
-    let m = c.requires.fits.trim_and_flush_in_slot_0 (inr c.in-Flush.is) in
+    let m = c.requires.fits.trim_and_flush_are_plain_in_slot_0 (inr c.in-Flush.is) in
     as_told c.args.port c.args.slot.0 c.args.task.now Flush c.in-Flush.is m.0 m.1 (IsIssuedIn c.args.port c.args.frames.now _ _) (c.issue_flush.ensures.issued c.args.task.now.range c.args.frames.now)

@@ -2,7 +2,7 @@ use Rattle.std.proofs.Common.{true, arith, refl, sym, subst}
 use Rattle.ata_types.specs.declared.Port.{Port}
 use Rattle.error_recovery.specs.declared.Next.{Next}
 use Rattle.host_boot.specs.Reboots.{RebootsPort}
-use Rattle.port_boot.specs.States.{IsBootable}
+use Rattle.port_boot.specs.States.{IsOnWithPortMemoryAndFreeSlots}
 use Rattle.port_control.specs.Ports.{IsStopped}
 use Rattle.server_history.specs.Probing.{IsFoundAfterStop}
 use Rattle.port_driver.proofs.Anew.{found_dead}
@@ -12,7 +12,7 @@ pub reboot_port-booted-requires-clause-bootable : goal.reboot_port-booted-requir
 reboot_port-booted-requires-clause-bootable g c =
     let stopped = g.A.Adapter.device c.stop_for_reset-recovered.new.adapter in
     let its = c.requires.bootable stopped c.stop_for_reset-recovered.result c.in-Restart.stopped (c.stop_for_reset-recovered.ensures.stops_for_reset true) c.in-Restart.is in
-    subst (λ (q : Port). IsBootable q stopped) (sym its.0) its.1
+    subst (λ (q : Port). IsOnWithPortMemoryAndFreeSlots q stopped) (sym its.0) its.1
 
 pub reboot_port-booted-requires-clause-stopped : goal.reboot_port-booted-requires-clause-stopped
 reboot_port-booted-requires-clause-stopped g c =

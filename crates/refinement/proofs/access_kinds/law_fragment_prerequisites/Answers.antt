@@ -2,7 +2,7 @@ use Rattle.refinement.proofs.access_kinds.law_fragment_prerequisites.Goals as go
 
 pub returns : goal.returns
 returns g c = record {
-  no_access_is_simulated = c.law_accesses_are_followed.ensures.no_access;
+  empty_fragment_is_simulated = c.law_accesses_are_followed.ensures.no_access;
   reads = c.law_accesses_are_followed.ensures.reads;
   loads = c.law_accesses_are_followed.ensures.loads;
   writes = c.law_accesses_are_followed.ensures.writes;

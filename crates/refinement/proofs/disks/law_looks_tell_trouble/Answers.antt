@@ -1,4 +1,4 @@
-use Rattle.refinement.proofs.device.LookReadings.{causes_told, errors_told, lost_told, fault_told, unlinked_told}
+use Rattle.refinement.proofs.device.LookReadings.{causes_told, errors_told, lost_told, tfes_read_means_faulted, unlinked_told}
 use Rattle.refinement.proofs.disks.law_looks_tell_trouble.Goals as goal
 
 pub returns-clause-pxis_shows_set_bits : goal.returns-clause-pxis_shows_set_bits
@@ -14,4 +14,4 @@ pub returns-clause-det_not_3_was_or_plug_event : goal.returns-clause-det_not_3_w
 returns-clause-det_not_3_was_or_plug_event c = unlinked_told c.law_prerequisites.ensures
 
 pub returns-clause-fault : goal.returns-clause-fault
-returns-clause-fault c = fault_told c.law_prerequisites.ensures
+returns-clause-fault c = tfes_read_means_faulted c.law_prerequisites.ensures

@@ -1,11 +1,11 @@
-use Rattle.refinement.proofs.device.ControlWrites.{command_set, start_set, control_set, interrupts_set, list_set, list_upper_set, received_set, received_upper_set}
+use Rattle.refinement.proofs.device.ControlWrites.{command_set, start_sets_cr_and_time, control_set, interrupts_set, list_set, list_upper_set, received_set, received_upper_set}
 use Rattle.refinement.proofs.port_facts.law_controls_are_set.Goals as goal
 
 pub returns-clause-command : goal.returns-clause-command
 returns-clause-command c = command_set
 
 pub returns-clause-start : goal.returns-clause-start
-returns-clause-start c = start_set c.law_prerequisites.ensures
+returns-clause-start c = start_sets_cr_and_time c.law_prerequisites.ensures
 
 pub returns-clause-control : goal.returns-clause-control
 returns-clause-control c = control_set

@@ -1,10 +1,10 @@
 use Rattle.refinement.proofs.device.AdapterReset.{reset_awaits, undue_awaited, first_awaited}
-use Rattle.refinement.proofs.device.AwaitedLink.{comreset_begins, steps_awaited, reads_awaited, writes_awaited}
+use Rattle.refinement.proofs.device.AwaitedLink.{comreset_shows_drq_till_link, steps_awaited, reads_awaited, writes_awaited}
 use Rattle.refinement.proofs.device.OrdinaryAccesses.{access_awaited}
 use Rattle.refinement.proofs.port_facts.law_link_is_awaited.Goals as goal
 
 pub returns-clause-begins : goal.returns-clause-begins
-returns-clause-begins c = comreset_begins c.law_prerequisites.ensures
+returns-clause-begins c = comreset_shows_drq_till_link c.law_prerequisites.ensures
 
 pub returns-clause-steps : goal.returns-clause-steps
 returns-clause-steps c = steps_awaited

@@ -2,8 +2,8 @@ use Rattle.refinement.proofs.device.AdapterReset.{reset_begins, ghc_told, reset_
 use Rattle.refinement.proofs.device.HaltedPort.{law_reset_is_found, reset_stays, reset_reads, reset_writes, idle_reset, reset_idle}
 use Rattle.refinement.proofs.port_facts.law_reset_is_found.Goals as goal
 
-pub returns-clause-port_is_left_by_reset : goal.returns-clause-port_is_left_by_reset
-returns-clause-port_is_left_by_reset c = law_reset_is_found c.law_prerequisites.ensures
+pub returns-clause-port_is_quiescent : goal.returns-clause-port_is_quiescent
+returns-clause-port_is_quiescent c = law_reset_is_found c.law_prerequisites.ensures
 
 pub returns-clause-stays : goal.returns-clause-stays
 returns-clause-stays c = reset_stays c.law_prerequisites.ensures

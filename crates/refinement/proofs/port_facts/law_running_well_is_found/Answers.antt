@@ -1,10 +1,10 @@
 use Rattle.refinement.proofs.device.RestartedPort.{started_up}
 use Rattle.refinement.proofs.device.RunningPort.{steps_started, access_started, well_of, started_well}
-use Rattle.refinement.proofs.device.BootedPort.{start_is_made, well_is_told, well_is_found}
+use Rattle.refinement.proofs.device.BootedPort.{start_of_up_port_is_started, well_is_told, well_is_found}
 use Rattle.refinement.proofs.port_facts.law_running_well_is_found.Goals as goal
 
 pub returns-clause-starts : goal.returns-clause-starts
-returns-clause-starts c = start_is_made c.law_prerequisites.ensures
+returns-clause-starts c = start_of_up_port_is_started c.law_prerequisites.ensures
 
 pub returns-clause-steps : goal.returns-clause-steps
 returns-clause-steps c = steps_started c.law_prerequisites.ensures

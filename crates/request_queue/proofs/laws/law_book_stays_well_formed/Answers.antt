@@ -1,4 +1,4 @@
-use Rattle.request_queue.specs.BookEntries.{aged_request, revoked_under_grant}
+use Rattle.request_queue.specs.BookEntries.{aged_request, with_revoked_mark_if_under_grant}
 use Rattle.request_queue.proofs.Changing.{longer_in_order, issued_in_order, waiting_in_order, all_in_order, older_spares, revoked_spares, fewer_in_order, asks_in_order}
 use Rattle.request_queue.proofs.ClientCounts.{all_fit}
 use Rattle.request_queue.proofs.laws.law_book_stays_well_formed.Goals as goal
@@ -16,7 +16,7 @@ pub returns-clause-aged : goal.returns-clause-aged
 returns-clause-aged c entries ports order = all_in_order (aged_request ports) (older_spares ports) entries order
 
 pub returns-clause-revoked : goal.returns-clause-revoked
-returns-clause-revoked c entries client grant order = all_in_order (revoked_under_grant client grant) (revoked_spares client grant) entries order
+returns-clause-revoked c entries client grant order = all_in_order (with_revoked_mark_if_under_grant client grant) (revoked_spares client grant) entries order
 
 pub returns-clause-answered : goal.returns-clause-answered
 returns-clause-answered c entries id order = fewer_in_order id entries order

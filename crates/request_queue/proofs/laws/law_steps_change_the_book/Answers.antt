@@ -1,5 +1,5 @@
 use Rattle.block_machine.specs.Steps as steps
-use Rattle.request_queue.proofs.Stepping.{goes_last, is_issued, waits_again, is_answered, is_older, is_touched, is_ended, is_revoked}
+use Rattle.request_queue.proofs.Stepping.{goes_last, is_issued, waits_again, is_answered, is_older, is_touched, is_ended_at_age_two, is_revoked}
 use Rattle.request_queue.proofs.laws.law_steps_change_the_book.Goals as goal
 
 pub returns-clause-accept : goal.returns-clause-accept
@@ -21,7 +21,7 @@ pub returns-clause-touch : goal.returns-clause-touch
 returns-clause-touch c entries m p i block is = is_touched entries m.book p.request.id i is
 
 pub returns-clause-end : goal.returns-clause-end
-returns-clause-end c entries m p is = is_ended entries m.book p.request.id is
+returns-clause-end c entries m p is = is_ended_at_age_two entries m.book p.request.id is
 
 pub returns-clause-revoke : goal.returns-clause-revoke
 returns-clause-revoke c entries m client grant is = is_revoked entries m.book client grant is

@@ -1,7 +1,7 @@
 use Rattle.std.proofs.Common.{rules, ℕ, List, ◌≡◌, ◌∙◌, length, arith, subst, sym}
 use Rattle.std.proofs.lemmas.Grind.{get_or_default_zero}
 use Rattle.std.proofs.lemmas.List.{take_all}
-use Rattle.sector_store.specs.Stores.{IsStoredSector}
+use Rattle.sector_store.specs.Stores.{IsSectorBytes}
 use Rattle.sector_store.proofs.sector_file.copy.Goals as goal
 
 pub returns-clause-same : goal.returns-clause-same
@@ -15,5 +15,5 @@ returns-clause-same c =
 pub returns-clause-bytes : goal.returns-clause-bytes
 returns-clause-bytes c =
     let m : List ℕ = c.args.bytes.now in
-    subst IsStoredSector (sym (returns-clause-same c))
+    subst IsSectorBytes (sym (returns-clause-same c))
     (c.requires, λ k d less. rw (get_or_default_zero m k d less) (let fits = c.type_inv.bytes k in omega (arith, fits)))

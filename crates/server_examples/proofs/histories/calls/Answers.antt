@@ -6,7 +6,7 @@ use Rattle.block_server.specs.CallResults.{results_in}
 use Rattle.arrayvec.specs.ArrayVec.{ArrayVec}
 use Rattle.ata_types.specs.declared.call.CallResult.{CallResult}
 use Rattle.ata_types.specs.declared.request.Reply.{Reply}
-use Rattle.server_examples.specs.ShownHistories.{HasRun}
+use Rattle.server_examples.specs.ShownHistories.{CallsHaveHistory}
 use Rattle.server_examples.proofs.Showing.{has_run}
 use Rattle.server_examples.proofs.histories.calls.Goals as goal
 
@@ -16,8 +16,8 @@ listed : {E : Type 0} (Is : List (CallResult (ArrayVec Reply)) → Type 0) (said
 listed Is said is (Ok list) has = subst Is (sym has) is
 listed Is said is (Err e) has = tt
 
-pub returns-in-Ok : goal.returns-in-Ok
-returns-in-Ok g c =
-    let Is : List (CallResult (ArrayVec Reply)) → Type 0 = λ said. HasRun g.A.Adapter.device c.args.server.now c.run.new.self c.args.asked.now said in
-    let ran = has_run g.A.Adapter.device c.args.server.now c.run.new.self c.args.asked.now (results_in c.new-said.result) (results_in c.run.new.out) c.in-Ok.ensures.done c.new-said.ensures c.requires.begun c.requires.telling in
+pub returns-in-Ok-clause-has_run : goal.returns-in-Ok-clause-has_run
+returns-in-Ok-clause-has_run g c =
+    let Is : List (CallResult (ArrayVec Reply)) → Type 0 = λ said. CallsHaveHistory g.A.Adapter.device c.args.server.now c.run.new.self c.args.asked.now said in
+    let ran = has_run g.A.Adapter.device c.args.server.now c.run.new.self c.args.asked.now (results_in c.new-said.result) (results_in c.run.new.out) c.in-Ok.ensures.done c.new-said.ensures c.requires.starts_history c.requires.disks_tell_sectors in
     subst (λ (o : Option (Vec (CallResult (ArrayVec Reply)) Global)). IfSome o (λ list. Is list.items)) (sym c.ok.ensures.value) (listed Is (results_in c.run.new.out) ran c.into_list.result c.into_list.ensures)

@@ -12,5 +12,5 @@ returns-clause-finding c s new port mask done k ready finds = finding_kept s new
 pub returns-clause-done_slots_are_over : goal.returns-clause-done_slots_are_over
 returns-clause-done_slots_are_over c s new port mask done slot k ready its small finds found = found_over s new port k ready c.law_history_prerequisites.ensures mask done finds its slot small found
 
-pub returns-clause-no_look_is_one : goal.returns-clause-no_look_is_one
-returns-clause-no_look_is_one c port device = unlooked port device device refl
+pub returns-clause-empty_look_is_simulated : goal.returns-clause-empty_look_is_simulated
+returns-clause-empty_look_is_simulated c port device = unlooked port device device refl

@@ -6,5 +6,5 @@ returns c = record {
   aging_keeps_book_relation = c.law_steps_change_the_book.ensures.age;
   aging_keeps_well_formed_book = c.law_book_stays_well_formed.ensures.aged;
   aging_keeps_well_formed_entries = c.law_well_formed_entries_stay.ensures.aged;
-  aging_keeps_unanswered = c.law_operations_change_what_is_due.ensures.tick;
+  aging_keeps_unanswered = c.law_operations_change_the_unanswered.ensures.tick;
 }

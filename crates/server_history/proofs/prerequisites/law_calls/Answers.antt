@@ -13,7 +13,7 @@ returns c = record {
   turn_running_well_is_calls = c.law_a_turns_errors_are_the_calls.ensures.runs_well_anew;
   turn_probe_is_calls = c.law_a_turn_that_probes_a_disk_is_the_calls.ensures.probes;
   turn_without_due_link_is_calls = c.law_a_turn_that_probes_a_disk_is_the_calls.ensures.ends_no_link_due;
-  stopped_port_set_st_since = c.law_a_port_that_was_stopped_was_set_since.ensures;
-  fatal_in_part = c.law_a_fatal_error_of_a_part_is_of_the_whole.ensures;
+  stopped_port_set_st_since = c.law_st_of_a_stopped_port_was_set_since.ensures;
+  fatal_in_part_is_in_whole = c.law_a_fatal_error_of_a_part_is_of_the_whole.ensures;
   untroubled_since_st_is_calm = c.law_what_is_untroubled_since_st_was_set_is_calm.ensures;
 }

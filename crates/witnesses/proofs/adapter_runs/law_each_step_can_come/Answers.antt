@@ -4,7 +4,7 @@ use Rattle.adapter.specs.FirstRead.{first_disk, first_disk_sector}
 use Rattle.adapter.specs.Guarded.{IsGuarded, PassesTest}
 use Rattle.adapter.specs.Steps.{DeviceTransition, Steps, Can}
 use Rattle.adapter.specs.Steps.DeviceTransition.{Fetch as Fetching, FetchFault as SenselessFetching, Move as Moving, Clear as Clearing, Done as Ending, Fault as Failing, Fatal as FailingFatally, Fall as Falling, FrFall as FallingSilent, LinkUp as Linking, Unplug as Unplugging, Plug as Plugging, ResetEnds as EndingReset, Scribble as Scribbling}
-use Rattle.witnesses.specs.AdapterRuns.{ComesSafely, IsReachableByRun, CommandsAreSafe, TransitionKind, kind_of}
+use Rattle.witnesses.specs.AdapterRuns.{CanComeWithGuardedCommands, IsReachableByRun, CommandBytesAreGuarded, TransitionKind, kind_of}
 use Rattle.witnesses.specs.AdapterRuns.TransitionKind.{Fetch, FetchFault, Move, Clear, Done, Fault, Fatal, Fall, FrFall, LinkUp, Unplug, Plug, ResetEnds, Scribble}
 use Rattle.witnesses.proofs.adapter.Queued as queued
 use Rattle.witnesses.proofs.adapter.Resetting as resetting
@@ -15,7 +15,7 @@ use Rattle.witnesses.proofs.adapter.Stopping as stopping
 use Rattle.witnesses.proofs.adapter.Trimming as trimming
 use Rattle.witnesses.proofs.adapter_runs.law_each_step_can_come.Goals as goal
 
-safely : (kind : TransitionKind) (d : Device) → IsReachableByRun d → CommandsAreSafe d → (s : DeviceTransition) → kind_of s ≡ kind → Can s d → ComesSafely kind
+safely : (kind : TransitionKind) (d : Device) → IsReachableByRun d → CommandBytesAreGuarded d → (s : DeviceTransition) → kind_of s ≡ kind → Can s d → CanComeWithGuardedCommands kind
 safely kind d reached safe s is can = record { comes = record { device = d; reached = reached; step = s; kind_is = is; step_can_come = can }; safe = safe }
 
 -- what steps of the device keep safe
@@ -23,24 +23,24 @@ abbrev StaySafe : Type 0
 StaySafe = (tables kept : ℕ → Bool) (old new : Device) → IsGuarded (PassesTest tables) (PassesTest kept) old → Steps old new
     → IsGuarded (PassesTest tables) (PassesTest kept) new × ((at : ℕ) → PassesTest kept at → new.memory at ≡ old.memory at)
 
-reads_safe : StaySafe → (d : Device) → Steps queued.issued d → CommandsAreSafe d
+reads_safe : StaySafe → (d : Device) → Steps queued.issued d → CommandBytesAreGuarded d
 reads_safe stay d steps = record {
   tables = is_in queued.kept;
   kept_addresses = is_in queued.kept;
   guarded = (stay (is_in queued.kept) (is_in queued.kept) queued.issued d queued.issued_safe steps).0;
 }
 
-trim_safe : StaySafe → CommandsAreSafe trimming.moved
+trim_safe : StaySafe → CommandBytesAreGuarded trimming.moved
 trim_safe stay = record {
   tables = is_in trimming.kept;
   kept_addresses = is_in trimming.kept;
   guarded = (stay (is_in trimming.kept) (is_in trimming.kept) trimming.issued trimming.moved trimming.issued_safe trimming.moved_steps).0;
 }
 
-reset_safe : CommandsAreSafe resetting.resetting
+reset_safe : CommandBytesAreGuarded resetting.resetting
 reset_safe = record { tables = is_in resetting.kept; kept_addresses = is_in resetting.kept; guarded = resetting.resetting_safe }
 
-by_kind : StaySafe → trimming.OneMeaning → (kind : TransitionKind) → kind ≢ FetchFault → ComesSafely kind
+by_kind : StaySafe → trimming.OneMeaning → (kind : TransitionKind) → kind ≢ FetchFault → CanComeWithGuardedCommands kind
 by_kind stay alone Fetch other =
     safely Fetch queued.issued queued.issued_reached (reads_safe stay queued.issued queued.no_steps) (Fetching 0 0 queued_read (0x28000 ∷ [])) refl queued.may_fetch
 by_kind stay alone FetchFault other = absurd (other refl)

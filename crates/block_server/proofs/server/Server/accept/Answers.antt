@@ -34,8 +34,8 @@ use Rattle.block_server.proofs.server.Server.accept.Goals.{After-index-self-from
 pub overflow_add-id : goal.overflow_add-id
 overflow_add-id g c = let h = accepted.next_fits (server_of g.A.Adapter.device (server_view_of c.self.inside)) c.args.r.now (subst (λ (v : ServerView g.row.A.Denot). IsAcceptable (admission_context (server_of g.A.Adapter.device v)) c.args.r.now) (sym c.self.view_is) c.requires.acceptable) in omega (arith, h)
 
-pub accept-requires-clause-frames_have_no_fault : goal.accept-requires-clause-frames_have_no_fault
-accept-requires-clause-frames_have_no_fault g c = (
+pub accept-requires-clause-frames_have_no_fault_and_are_few : goal.accept-requires-clause-frames_have_no_fault_and_are_few
+accept-requires-clause-frames_have_no_fault_and_are_few g c = (
   rw c.deref_mut.ensures.value (subst (λ (frames : List Frame). HasNoFault (owner_of c.self.inside.shared.table.value) (lent_to c.self.inside.shared.table.value) c.args.r.now.client frames) (sym c.as_slice.ensures.value)
       (accepted.faultless (server_of g.A.Adapter.device (server_view_of c.self.inside)) c.args.r.now (subst (λ (v : ServerView g.row.A.Denot). IsAcceptable (admission_context (server_of g.A.Adapter.device v)) c.args.r.now) (sym c.self.view_is) c.requires.acceptable))),
   c.as_slice.ensures.fits,
@@ -76,7 +76,7 @@ issue_due-requires g c =
     let acc = subst (λ (v : ServerView g.row.A.Denot). IsAcceptable (admission_context (server_of g.A.Adapter.device v)) c.args.r.now) (sym c.self.view_is) c.requires.acceptable in
     let is_for = subst (λ (v : ServerView g.row.A.Denot). IsRequestForPort v.grants c.args.r.now c.args.port) (sym c.self.view_is) c.requires.port in
     let kept = (is_on g.A.Adapter.device (server_view_of c.self.inside) c.args.self.now c.self.view_is c.requires.on c.self.invariant).in_call_invariant in
-    record { ready = ap state_of (sym (has_port g at).probe_result_is) ∙ (ap (λ (p : Port). state_of (probe_result_of s.probe_results p.0)) (sym is_for.2) ∙ c.law_requests_preserve_invariant.ensures.acceptable_is_of_ready_port s c.args.r.now is_for.0 acc is_for.1); has_found_port = (with_accepted c.args.port c.args.r.now (record { 0 = c.self.inside.last + 1 }) c.accept.new.table (server_of g.A.Adapter.device (server_view_of c.self.inside)), lends g at) }
+    record { ready = ap state_of (sym (has_port g at).probe_result_is) ∙ (ap (λ (p : Port). state_of (probe_result_of s.probe_results p.0)) (sym is_for.2) ∙ c.law_requests_preserve_invariant.ensures.acceptable_is_of_ready_port s c.args.r.now is_for.0 acc is_for.1); some_server_has_port = (with_accepted c.args.port c.args.r.now (record { 0 = c.self.inside.last + 1 }) c.accept.new.table (server_of g.A.Adapter.device (server_view_of c.self.inside)), lends g at) }
 
 abbrev at_issuing : (g : Over) (c : After-issue_due g) → After-index-self-from g
 at_issuing g c = (goal.at.returns-clause-cost g c).After-index-self-from
@@ -142,7 +142,7 @@ returns-clause-cost g c =
     let s = server_of g.A.Adapter.device (server_view_of c.self.inside) in
     let settled = is_on g.A.Adapter.device (server_view_of c.self.inside) c.args.self.now c.self.view_is c.requires.on c.self.invariant in
     let id : RequestId = record { 0 = c.self.inside.last + 1 } in
-    let exact = c.law_due_is_exact.ensures in
+    let exact = c.law_due_list_is_exact.ensures in
     let m = mode_in s c.args.port in
     let book = unanswered_of s.book in
     let its = as_unanswered (accepted_as c.args.port c.args.r.now id).request in

@@ -72,7 +72,7 @@ returns-then-self-ge18446744073709551615-clause-refused g c =
 pub returns-clause-admitted : goal.returns-clause-admitted
 returns-clause-admitted g c =
     subst (λ (v : ServerView g.row.A.Denot). IsAcceptable (admission_context (server_of g.A.Adapter.device v)) c.args.r.now × IsRequestForPort v.grants c.args.r.now c.in-Some.row.port) c.self.view_is (
-      refusing.none_applies (server_of g.A.Adapter.device (server_view_of c.self.inside)) c.args.r.now (rw c.deref.ensures at c.in_default.ensures.ok) c.in-Some.row c.row.result c.in-Some.is
+      refusing.not_found_only_if_none_applies (server_of g.A.Adapter.device (server_view_of c.self.inside)) c.args.r.now (rw c.deref.ensures at c.in_default.ensures.ok) c.in-Some.row c.row.result c.in-Some.is
           (λ other its. (c.row.ensures other).1 its) ((c.row.ensures c.in-Some.row).0 c.in-Some.is) (sym (subst (λ (v : ServerView g.row.A.Denot). c.state-state.result ≡ state_of (probe_result_of v.probe_results c.in-Some.row.port.0)) (sym c.self.view_is) c.state-state.ensures.state) ∙ c.in-Ready.is)
           (λ leaves. absurd (true≢false (sym (c.exceeds_disk.ensures.1 (subst (λ (n : ℕ). (c.args.r.now.op ≢ Flush) × (n < c.args.r.now.first.0 + c.args.r.now.count)) (sym (subst (λ (v : ServerView g.row.A.Denot). c.sectors.result ≡ last_sectors_of (last_disk_of (probe_result_of v.probe_results c.in-Some.row.port.0) (remembered_at v.remembered c.in-Some.row.port.0))) (sym c.self.view_is) c.sectors.ensures)) leaves)) ∙ c.if-exceeds_disk.false)))
           (refusing.takes_trim _ c.lacks_trim.result (c.args.r.now.op ≡ Trim) (subst (λ (v : ServerView g.row.A.Denot). (c.args.r.now.op ≡ Trim) × (zeroes_after_trim_of (probe_result_of v.probe_results c.in-Some.row.port.0) ≡ false) → IsTrue c.lacks_trim.result) (sym c.self.view_is) c.lacks_trim.ensures.1) c.if-lacks_trim.false)

@@ -3,36 +3,24 @@ use Rattle.std.proofs.lemmas.Result.{err_from_is_err_and}
 use Rattle.adapter.specs.Access.{Loads}
 use Rattle.adapter.specs.Rules.{IsUnowned, IsStable}
 use Rattle.block_machine.specs.Events.{LoadAt}
-use Rattle.block_machine.specs.Refusals.{IsFirstMemFault, MayAccessFrame}
+use Rattle.block_machine.specs.Refusals.{MayAccessFrame}
 use Rattle.dma_frames.specs.FrameTables.{owner_of, lent_to}
 use Rattle.block_server.specs.ServerFieldsView.{server_view_of}
 use Rattle.block_server.specs.ServerView.{ServerView, server_of}
 use Rattle.server_history.specs.Histories.{ExtendsHistory, InvariantBetweenCalls, load_result}
-use Rattle.block_server.proofs.Standing.{holds_either}
 use Rattle.block_server.proofs.server.Server.client_load.Given.{Over}
 use Rattle.block_server.proofs.server.Server.client_load.Goals as goal
 use Rattle.block_server.proofs.server.Server.client_load.Goals.{After-slice_known-2-1}
 
 pub returns-in_err-address-clause-extends_history : goal.returns-in_err-address-clause-extends_history
 returns-in_err-address-clause-extends_history g c =
-    let device = g.A.Adapter.device in
     let told = err_from_is_err_and c.from_residual.result c.from_residual.ensures.1 in
-    let P : ServerView g.row.A.Denot → Type 0 = λ v. ExtendsHistory (server_of device v) (server_of device v) (LoadAt c.args.client c.args.frame c.args.offset (length c.args.out.now)) (load_result c.from_residual.result c.args.out.now) in
-    let s = server_of device (server_view_of c.self.inside) in
-    let Q : ServerView g.row.A.Denot → Type 0 = λ v. IsFirstMemFault (owner_of v.table) (lent_to v.table) c.args.client c.args.frame c.args.offset (length c.args.out.now) c.in_err-address.field-0.0 in
-    subst P c.self.view_is (
-    subst (λ r. ExtendsHistory s s (LoadAt c.args.client c.args.frame c.args.offset (length c.args.out.now)) (load_result r c.args.out.now)) (sym (told.1 ∙ ap Err told.2))
-    (let why = subst Q (sym c.self.view_is) c.in_err-address.ensures.err in
-    c.law_refusals_extend_history.ensures.load c.self.inside.stuck s c.args.client c.args.frame c.args.offset (length c.args.out.now) c.args.out.now c.in_err-address.field-0.0 c.self.invariant why))
+    let s = server_of g.A.Adapter.device c.args.self.now in
+    subst (λ r. ExtendsHistory s s (LoadAt c.args.client c.args.frame c.args.offset (length c.args.out.now)) (load_result r c.args.out.now)) (sym (told.1 ∙ ap Err told.2)) (c.in_err-address.ensures.refused_load c.args.out.now)
 
 pub load-requires : goal.load-requires
 load-requires g c =
-    let P : ServerView g.row.A.Denot → Type 0 = λ v. MayAccessFrame (owner_of v.table) (lent_to v.table) c.args.client c.args.frame c.args.offset (length c.args.out.now) in
-    subst (λ (at : ℕ). IsStable (IsUnowned at (length c.args.out.now)) (g.A.Adapter.device c.self.inside.adapter)) (sym c.in_ok-address.ensures.ok.1)
-    (let s = server_of g.A.Adapter.device (server_view_of c.self.inside) in
-    let opened = subst P (sym c.self.view_is) c.in_ok-address.ensures.ok.0 in
-    let booked = holds_either c.self.inside.stuck c.self.invariant (λ _ settled. c.law_server_invariant_holds.ensures.server_invariant s settled.in_call_invariant) (λ _ stalled. stalled.server_invariant) in
-    c.law_open_frames_are_accessible.ensures s c.args.client c.args.frame c.args.offset (length c.args.out.now) booked opened)
+    subst (λ (v : ServerView g.row.A.Denot). IsStable (IsUnowned c.in_ok-address.address (length c.args.out.now)) (g.A.Adapter.device v.adapter)) (sym c.self.view_is) c.in_ok-address.ensures.accessible
 
 -- what it leaves, and that it adds an event
 went : (g : Over) (c : After-slice_known-2-1 g) → InvariantBetweenCalls c.self.inside.stuck (server_of g.A.Adapter.device (record (server_view_of c.self.inside) { adapter = c.load.new.self }))

@@ -32,7 +32,7 @@ stuck_server g c = with_ports (server_of g.A.Adapter.device (server_view_of c.se
 
 stuck_books : (g : Over) (c : After-note_stuck_reset g) → ServerInvariant (server_of g.A.Adapter.device (server_view_of c.self.inside))
 stuck_books g c =
-    holds_either c.self.inside.stuck c.self.invariant (λ _ settled. c.law_server_invariant_holds.ensures.server_invariant (server_of g.A.Adapter.device (server_view_of c.self.inside)) settled.in_call_invariant) (λ _ stalled. stalled.server_invariant)
+    holds_either c.self.inside.stuck c.self.invariant (λ _ settled. c.law_in_call_gives_server_invariant.ensures.server_invariant (server_of g.A.Adapter.device (server_view_of c.self.inside)) settled.in_call_invariant) (λ _ stalled. stalled.server_invariant)
 
 got_stuck : (g : Over) (c : After-note_stuck_reset g) → ResetGetsStuck (server_of g.A.Adapter.device (server_view_of c.self.inside)) (stuck_server g c)
 got_stuck g c =
@@ -65,7 +65,7 @@ returns-in-Err-clause-resets g c =
 pub give_all_back-requires : goal.give_all_back-requires
 give_all_back-requires g c =
     let s = server_of g.A.Adapter.device (server_view_of c.self.inside) in
-    let booked : ServerInvariant s = holds_either c.self.inside.stuck c.self.invariant (λ _ settled. c.law_server_invariant_holds.ensures.server_invariant s settled.in_call_invariant) (λ _ stalled. stalled.server_invariant) in
+    let booked : ServerInvariant s = holds_either c.self.inside.stuck c.self.invariant (λ _ settled. c.law_in_call_gives_server_invariant.ensures.server_invariant s settled.in_call_invariant) (λ _ stalled. stalled.server_invariant) in
     let laws = c.law_quarantined_loans_are_lent.ensures in
     subst (λ (table : OwnersAndLoans). MayGiveBack table s.kept_loans) (sym c.deref_mut.ensures.value)
     (reviving.may_go s booked (λ port. laws.lent s port booked) (λ port. laws.differ_in_one_port s port booked) (λ port other a b. laws.differ_between_ports s port other a b booked))
@@ -73,7 +73,7 @@ give_all_back-requires g c =
 -- the server as its adapter was taken over again, with no loan kept
 its_books : (g : Over) (c : After-resolve_ports-arg-3-1 g) → ServerInvariant (server_of g.A.Adapter.device (server_view_of c.self.inside))
 its_books g c =
-    holds_either c.self.inside.stuck c.self.invariant (λ _ settled. c.law_server_invariant_holds.ensures.server_invariant (server_of g.A.Adapter.device (server_view_of c.self.inside)) settled.in_call_invariant) (λ _ stalled. stalled.server_invariant)
+    holds_either c.self.inside.stuck c.self.invariant (λ _ settled. c.law_in_call_gives_server_invariant.ensures.server_invariant (server_of g.A.Adapter.device (server_view_of c.self.inside)) settled.in_call_invariant) (λ _ stalled. stalled.server_invariant)
 
 abbrev shared_then : (g : Over) (c : After-resolve_ports-arg-3-1 g) → Shared
 shared_then g c = record { table = with_value c.self.inside.shared.table c.give_all_back.new.table; book = c.self.inside.shared.book }

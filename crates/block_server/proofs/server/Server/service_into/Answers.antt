@@ -6,7 +6,7 @@ use Rattle.block_server.specs.ServerView.{ServerView, server_of}
 use Rattle.port_driver.specs.declared.served_port.ServedPort.{ServedPort}
 use Rattle.server_history.specs.Histories.{InvariantBetweenCalls}
 use Rattle.server_history.specs.Turns.{ServicesEachPort, ServicesPort, ProbesUnready}
-use Rattle.block_server.specs.Calls.{ServicesBy}
+use Rattle.block_server.specs.Calls.{ServicesOrResolvesByStuck}
 use Rattle.block_server.proofs.Placing as placing
 use Rattle.block_server.proofs.Turns.{TurnsSoFar, all_turns, its_part, none_yet, one_more}
 use Rattle.block_server.proofs.Standing.{by_on, now_on}
@@ -14,8 +14,8 @@ use Rattle.block_server.proofs.server.Server.service_into.Given.{Over}
 use Rattle.block_server.proofs.server.Server.service_into.Goals as goal
 use Rattle.block_server.proofs.server.Server.service_into.Goals.{After-loop-number}
 
-pub take_turn-requires-clause-settled : goal.take_turn-requires-clause-settled
-take_turn-requires-clause-settled g c =
+pub take_service_turn-requires-clause-settled : goal.take_service_turn-requires-clause-settled
+take_service_turn-requires-clause-settled g c =
     let device = g.A.Adapter.device in
     let v = c.loop-number.self-inside in
     let s = server_of device (server_view_of v) in (
@@ -35,14 +35,14 @@ loop-number-preserved g c =
     let first = server_of device c.args.self.now in
     let s = server_of device (server_view_of v) in
     let default = c.index-self-number.result in
-    let new = c.take_turn.new in
+    let new = c.take_service_turn.new in
     record {
       first = so_far.first;
       turns = one_more ServicesPort ProbesUnready c.args.self.now.probe_results first s (device v.adapter) v.shared v.ports told number so_far.turns small so_far.first default (device new.adapter) new.shared new.self new.replies.items
-          (c.take_turn.ensures.turn s (its_part ServicesPort ProbesUnready c.args.self.now.probe_results first s (device v.adapter) v.shared v.ports told number so_far.turns small default));
-      room = c.take_turn.ensures.room;
+          (c.take_service_turn.ensures.turn s (its_part ServicesPort ProbesUnready c.args.self.now.probe_results first s (device v.adapter) v.shared v.ports told number so_far.turns small default));
+      room = c.take_service_turn.ensures.room;
       on = so_far.on;
-      cost = omega (arith, so_far.cost, c.take_turn.ensures.cost);
+      cost = omega (arith, so_far.cost, c.take_service_turn.ensures.cost);
     }
 
 -- the ports had their turns
@@ -61,7 +61,7 @@ invariant_of-self g c = subst (λ (b : Bool). InvariantBetweenCalls b (server_of
 pub returns-clause-services : goal.returns-clause-services
 returns-clause-services g c =
     let device = g.A.Adapter.device in (
-      by_on (λ (b : Bool). ServicesBy b c.args.self.now.probe_results c.loop-number.replies.items (server_of device c.args.self.now) (server_of device (server_view_of c.loop-number.self-inside))) c.self.view_is c.if-self.false (served g c),
+      by_on (λ (b : Bool). ServicesOrResolvesByStuck b c.args.self.now.probe_results c.loop-number.replies.items (server_of device c.args.self.now) (server_of device (server_view_of c.loop-number.self-inside))) c.self.view_is c.if-self.false (served g c),
       c.loop-number.invariant.on ∙ by_on (λ (b : Bool). false ≡ b) c.self.view_is c.if-self.false refl,
     )
 

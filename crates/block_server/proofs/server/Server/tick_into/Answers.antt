@@ -7,7 +7,7 @@ use Rattle.refinement.specs.Relation.{port_at}
 use Rattle.host_boot.specs.TakeOver.{probe_result_of}
 use Rattle.request_queue.specs.BookEntries.{BookEntry, HasOverdueOn, aged_entries}
 use Rattle.block_machine.specs.Events.{Replied, Tick}
-use Rattle.block_server.specs.Calls.{TicksBy}
+use Rattle.block_server.specs.Calls.{TicksUnlessStuck}
 use Rattle.server_history.specs.Histories.{ExtendsHistory, InvariantBetweenCalls}
 use Rattle.server_history.specs.ServerState.{SettledInvariant, ServerState}
 use Rattle.server_history.specs.Turns.{Ticks, TakesTickTurn, a_tick_older, is_ready}
@@ -63,7 +63,7 @@ loop-number-preserved g c =
           (c.tick.ensures.turn s old.book exact (its_part (TakesTickTurn old.book) ChangesNothing c.args.self.now.probe_results old s (device v.adapter) v.shared v.ports told number so_far.turns small default));
       room = c.tick.ensures.room;
       on = so_far.on;
-      rests = λ none. c.tick.ensures.no_access_if_not_overdue (inr (false_from_ne_true (slice_index_or c.overdue_ports-overdue.result number false) (λ overdue. none (port_at number, exact.0 overdue)))) ∙ so_far.rests none;
+      rests = λ none. c.tick.ensures.no_access_if_unready_or_not_overdue (inr (false_from_ne_true (slice_index_or c.overdue_ports-overdue.result number false) (λ overdue. none (port_at number, exact.0 overdue)))) ∙ so_far.rests none;
       cost = omega (arith, so_far.cost, c.tick.ensures.cost);
     }
 
@@ -85,7 +85,7 @@ pub returns-clause-ticks : goal.returns-clause-ticks
 returns-clause-ticks g c =
     let device = g.A.Adapter.device in
     record {
-      ticks = by_on (λ (b : Bool). TicksBy b c.loop-number.replies.items (server_of device c.args.self.now) (server_of device (server_view_of c.loop-number.self-inside))) c.self.view_is c.if-self.false (ticked g c);
+      ticks = by_on (λ (b : Bool). TicksUnlessStuck b c.loop-number.replies.items (server_of device c.args.self.now) (server_of device (server_view_of c.loop-number.self-inside))) c.self.view_is c.if-self.false (ticked g c);
       stuck_is_unchanged = c.loop-number.invariant.on ∙ by_on (λ (b : Bool). false ≡ b) c.self.view_is c.if-self.false refl;
       no_access_if_none_overdue = c.loop-number.invariant.rests;
       no_access_if_stuck = λ stuck. absurd (false≢true (by_on (λ (b : Bool). false ≡ b) c.self.view_is c.if-self.false refl ∙ stuck));
@@ -102,7 +102,7 @@ pub returns-then-self-clause-ticks : goal.returns-then-self-clause-ticks
 returns-then-self-clause-ticks g c =
     let s = server_of g.A.Adapter.device c.args.self.now in
     record {
-      ticks = subst (λ (b : Bool). TicksBy b c.clear.new.self.items s s) (sym (ap (λ (v : ServerView g.row.A.Denot). v.stuck) (sym c.self.view_is) ∙ c.if-self.true)) (c.clear.ensures, refl);
+      ticks = subst (λ (b : Bool). TicksUnlessStuck b c.clear.new.self.items s s) (sym (ap (λ (v : ServerView g.row.A.Denot). v.stuck) (sym c.self.view_is) ∙ c.if-self.true)) (c.clear.ensures, refl);
       stuck_is_unchanged = refl;
       no_access_if_none_overdue = λ none. refl;
       no_access_if_stuck = λ stuck. refl;

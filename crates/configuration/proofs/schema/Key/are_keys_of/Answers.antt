@@ -1,15 +1,15 @@
 use Rattle.std.proofs.Common.{◌∙◌, map, sym}
 use Rattle.std.proofs.lemmas.List.Elements.{All-map}
 use Rattle.toml.specs.View.{table_view}
-use Rattle.configuration.specs.Schema.{HasKeys, IsKnown, IsPresent, key_rule_of}
+use Rattle.configuration.specs.Schema.{HasRequiredAndOnlyKnownKeys, IsKnown, IsPresentIfRequired, key_rule_of}
 use Rattle.configuration.proofs.Lists.{All-unmap}
 use Rattle.configuration.proofs.TableLemmas.{All-names, names-All}
 use Rattle.configuration.proofs.schema.Key.are_keys_of.Goals as goal
 
 pub returns-then-are_present : goal.returns-then-are_present
-unfolding HasKeys
+unfolding HasRequiredAndOnlyKnownKeys
 returns-then-are_present c =
-    let P = IsPresent (table_view c.args.table.now) in
+    let P = IsPresentIfRequired (table_view c.args.table.now) in
     let K = IsKnown (map key_rule_of c.args.keys.now) in
     let names = c.args.table.now.entries in (
       (λ t. (
@@ -20,9 +20,9 @@ returns-then-are_present c =
     )
 
 pub returns-else-are_present : goal.returns-else-are_present
-unfolding HasKeys
+unfolding HasRequiredAndOnlyKnownKeys
 returns-else-are_present c =
-    let P = IsPresent (table_view c.args.table.now) in (
+    let P = IsPresentIfRequired (table_view c.args.table.now) in (
       (λ t. let both = sym c.if-are_present.false ∙ t in let none : ⊥ = cc in absurd none),
       (λ h. c.are_present.ensures.1 (All-unmap P key_rule_of c.args.keys.now h.0)),
     )

@@ -1,7 +1,7 @@
 use Rattle.std.proofs.Common.{rules, ℕ, ◌≡◌, ◌+◌, ◌∙◌, inl, inr, subst, arith, ap}
 use Rattle.device_model.specs.WriteCaches.{HasRoomForOldSectors}
 use Rattle.device_model.specs.Disks.{disk_over}
-use Rattle.device_model.specs.Trims.{written_ahead}
+use Rattle.device_model.specs.Trims.{sectors_left_to_write}
 use Rattle.device_model.specs.PortView.{operation_of_kind}
 use Rattle.device_model.specs.declared.port.CommandKind.{CommandKind}
 use Rattle.device_model.proofs.Transfers.{fits_sector, replaced_is}
@@ -10,14 +10,14 @@ use Rattle.device_model.proofs.bay.Bay.transfer_bytes.Goals as goal
 pub returns-in-Write : goal.returns-in-Write
 returns-in-Write g c =
     record {
-      sector_on_disk = search rules;
+      done_sector_is_on_disk = search rules;
       bytes_are_sector = fits_sector c.args.bytes.now c.told-bytes c.fits-bytes;
       read_gives_told = search rules;
       write_keeps_bytes = search rules;
       failure_keeps_bytes = search rules;
       identify_page_is_sent = search rules;
       log_page_is_sent = search rules;
-      bay_is_kept = search rules;
+      unranged_keeps_bay = search rules;
       disk_is = λ done.
           let told = c.put_sector.ensures.writes.sector_is_replaced done ∙ replaced_is (g.S.SectorStore.told c.args.self.now.disk.store) c.args.next.sector c.args.bytes.now in
           elim c.in-Write.is [
@@ -33,10 +33,10 @@ returns-in-Write g c =
       cache_mode_is_kept = search rules;
       cache_has_room = λ n room.
           let P : ℕ → Type 0 = λ k. HasRoomForOldSectors c.args.self.now.cache k in
-          let one : written_ahead (operation_of_kind c.args.next.command_kind) 1 ≡ 1 =
-          let Q : CommandKind → ℕ = λ k. written_ahead (operation_of_kind k) 1 in
+          let one : sectors_left_to_write (operation_of_kind c.args.next.command_kind) 1 ≡ 1 =
+          let Q : CommandKind → ℕ = λ k. sectors_left_to_write (operation_of_kind k) 1 in
           elim c.in-Write.is [ inl plain ↦ ap Q plain | inr queued ↦ ap Q queued ] in
-          let more : written_ahead (operation_of_kind c.args.next.command_kind) 1 + n ≡ n + 1 = omega (arith, one) in
+          let more : sectors_left_to_write (operation_of_kind c.args.next.command_kind) 1 + n ≡ n + 1 = omega (arith, one) in
           c.put_sector.ensures.room_is_left n (subst P more room);
       rest_is_kept = search rules;
     }
@@ -44,14 +44,14 @@ returns-in-Write g c =
 pub returns-in-Trim : goal.returns-in-Trim
 returns-in-Trim g c =
     record {
-      sector_on_disk = search rules;
+      done_sector_is_on_disk = search rules;
       bytes_are_sector = fits_sector c.args.bytes.now c.told-bytes c.fits-bytes;
       read_gives_told = search rules;
       write_keeps_bytes = search rules;
       failure_keeps_bytes = search rules;
       identify_page_is_sent = search rules;
       log_page_is_sent = search rules;
-      bay_is_kept = search rules;
+      unranged_keeps_bay = search rules;
       disk_is = search rules;
       told_is_kept = search rules;
       size_is_kept = search rules;

@@ -5,8 +5,8 @@ use Rattle.device_model.proofs.Absurd.{none_and, some_and, some_one, true-false}
 use Rattle.device_model.specs.WriteCaches.{HasRoomForOldSectors}
 use Rattle.device_model.specs.FetchedBytes.{bytes_of}
 use Rattle.device_model.specs.Finishing.{MayFinish}
-use Rattle.device_model.specs.Slots.{HasIssuedUntaken, WorksOnIn}
-use Rattle.device_model.specs.Trims.{changes_ahead}
+use Rattle.device_model.specs.Slots.{HasIssuedUntakenOnWorkingPort, WorksOnIn}
+use Rattle.device_model.specs.Trims.{sectors_left_to_change}
 use Rattle.device_model.specs.PortView.{blank_port, taken_of}
 use Rattle.device_model.specs.WholeAdapter.{AllMedia, device_of}
 use Rattle.device_model.specs.declared.cache.Cache.{Cache}
@@ -18,18 +18,18 @@ use Rattle.device_model.proofs.hardware.Hardware.begin.Goals as goal
 
 pub begin_decoded-requires-clause-may : goal.begin_decoded-requires-clause-may
 begin_decoded-requires-clause-may c =
-    let P : ℕ → Type 0 = λ q. HasIssuedUntaken (slice_index_or c.args.self.now.ports q blank_port) c.args.slot in
-    subst P c.from-place.ensures (c.has_untaken.ensures.may c.if-has_untaken.true)
+    let P : ℕ → Type 0 = λ q. HasIssuedUntakenOnWorkingPort (slice_index_or c.args.self.now.ports q blank_port) c.args.slot in
+    subst P c.from-place.ensures (c.has_issued_untaken_on_working_port.ensures.may c.if-has_issued_untaken_on_working_port.true)
 
 pub returns-in_err-remaining-clause-is_unbegun : goal.returns-in_err-remaining-clause-is_unbegun
 returns-in_err-remaining-clause-is_unbegun c = λ _.
     inl (
       λ o left clears ready.
           let w = ready_held c.args.self.now o c.from-place.result c.args.port c.args.slot left clears c.from-place.ensures ready
-          (c.has_untaken.ensures.complete c.if-has_untaken.false) in
+          (c.has_issued_untaken_on_working_port.ensures.complete c.if-has_issued_untaken_on_working_port.false) in
           let P : ℕ → Type 0 = λ q. WorksOnIn (slice_index_or c.args.self.now.ports q blank_port) c.args.slot w.0 in
           let rest = ready_is_held c.args.self.now c.from-place.result c.args.port c.args.slot w.0 c.from-place.ensures w.1
-          (c.has_untaken.ensures.complete c.if-has_untaken.false) o left clears ready in
+          (c.has_issued_untaken_on_working_port.ensures.complete c.if-has_issued_untaken_on_working_port.false) o left clears ready in
           none_and _ _ (c.remaining_at.ensures.only w.0 left clears (subst P c.from-place.ensures w.1) rest) c.in_err-remaining.was,
       refl,
     )
@@ -37,12 +37,12 @@ returns-in_err-remaining-clause-is_unbegun c = λ _.
 pub returns-then-not-reserve_all-clause-is_unbegun : goal.returns-then-not-reserve_all-clause-is_unbegun
 returns-then-not-reserve_all-clause-is_unbegun c = λ _.
     -- the command that is ready is the one that is held, and so much is left of it
-    let ready_one : (o : AllMedia) (n m : ℕ) (may : MayFinish (device_of c.args.self.now o) c.args.port c.args.slot n m) (cache : Cache) → (c.in_ok-remaining.remaining.moves ≡ n) × (c.in_ok-remaining.remaining.clears ≡ m) × (HasRoomForOldSectors cache (changes_ahead may.fetched_command.meaning.operation (bytes_of c.args.self.now.memory.items) may.fetched_command n) → HasRoomForOldSectors cache c.reservations_of.result.old_sectors) =
+    let ready_one : (o : AllMedia) (n m : ℕ) (may : MayFinish (device_of c.args.self.now o) c.args.port c.args.slot n m) (cache : Cache) → (c.in_ok-remaining.remaining.moves ≡ n) × (c.in_ok-remaining.remaining.clears ≡ m) × (HasRoomForOldSectors cache (sectors_left_to_change may.fetched_command.meaning.operation (bytes_of c.args.self.now.memory.items) may.fetched_command n) → HasRoomForOldSectors cache c.reservations_of.result.old_sectors) =
     λ o n m may cache.
     let h = c.args.self.now in
     let rest = c.in_ok-remaining.remaining in
     let found = c.in_ok-remaining.ensures.found in
-    let never = c.has_untaken.ensures.complete c.if-has_untaken.false in
+    let never = c.has_issued_untaken_on_working_port.ensures.complete c.if-has_issued_untaken_on_working_port.false in
     let P : ℕ → Type 0 = λ q. WorksOnIn (slice_index_or h.ports q blank_port) c.args.slot found.0 in
     let held = subst P (sym c.from-place.ensures) found.1 in
     let one = some_and _ _ rest (c.remaining_at.ensures.only found.0 n m found.1 (ready_is_held h c.from-place.result c.args.port c.args.slot found.0 c.from-place.ensures held never o n m may)) c.in_ok-remaining.was in
@@ -104,10 +104,10 @@ returns-clause-begun c =
       is_in_progress = λ o.
           fetched_goes c.args.port c.args.slot rest.moves rest.clears false (device_of h o) (device_of new o) (ready o) (λ never. true-false never refl) (λ _. same o)
           (λ _ m places can.
-          c.has_untaken.ensures.complete c.if-has_untaken.false (o.media c.from-place.result) m.operation
+          c.has_issued_untaken_on_working_port.ensures.complete c.if-has_issued_untaken_on_working_port.false (o.media c.from-place.result) m.operation
           (fetch_takes h o c.from-place.result c.args.port c.args.slot m places c.from-place.ensures can));
       tape_has_room = omega (arith, room, entries);
-      fetch_is_done = λ never. true-false never refl;
+      newly_taken_is_fetched = λ never. true-false never refl;
       device_is_kept = λ _ o. same o;
       tape_is_kept = c.reserve_all.ensures.items;
       starved_is_kept = refl;

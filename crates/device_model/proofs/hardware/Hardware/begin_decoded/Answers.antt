@@ -10,8 +10,8 @@ use Rattle.adapter.specs.Decoding.{DecodesTo}
 use Rattle.device_model.specs.WriteCaches.{HasRoomForOldSectors}
 use Rattle.device_model.specs.FetchedBytes.{bytes_of}
 use Rattle.device_model.specs.Finishing.{MayFinish}
-use Rattle.device_model.specs.Slots.{HasIssuedUntaken}
-use Rattle.device_model.specs.Trims.{changes_ahead}
+use Rattle.device_model.specs.Slots.{HasIssuedUntakenOnWorkingPort}
+use Rattle.device_model.specs.Trims.{sectors_left_to_change}
 use Rattle.device_model.specs.PortView.{blank_port, taken_of}
 use Rattle.device_model.specs.WholeAdapter.{AllMedia, device_of}
 use Rattle.device_model.specs.declared.hardware.Hardware.{Hardware}
@@ -38,7 +38,7 @@ pub returns-in_default-clause-left : goal.returns-in_default-clause-left
 returns-in_default-clause-left c = λ _.
     inl (
       λ o left clears ready.
-          let P : ℕ → Type 0 = λ q. HasIssuedUntaken (slice_index_or c.args.self.now.ports q blank_port) c.args.slot in
+          let P : ℕ → Type 0 = λ q. HasIssuedUntakenOnWorkingPort (slice_index_or c.args.self.now.ports q blank_port) c.args.slot in
           let may = subst P (sym c.from.ensures) c.requires.may in
           let says = ready_said c.args.self.now o c.from.result c.args.port c.args.slot left clears c.from.ensures ready may in
           let small : c.from.result < length c.args.self.now.ports = search rules in
@@ -51,7 +51,7 @@ pub returns-in_err-remaining-clause-left : goal.returns-in_err-remaining-clause-
 returns-in_err-remaining-clause-left c = λ _.
     inl (
       λ o left clears ready.
-          let P : ℕ → Type 0 = λ q. HasIssuedUntaken (slice_index_or c.args.self.now.ports q blank_port) c.args.slot in
+          let P : ℕ → Type 0 = λ q. HasIssuedUntakenOnWorkingPort (slice_index_or c.args.self.now.ports q blank_port) c.args.slot in
           let may = subst P (sym c.from.ensures) c.requires.may in
           let small : c.from.result < length c.args.self.now.ports = search rules in
           let said = c.in-Some.ensures.found in
@@ -64,11 +64,11 @@ returns-in_err-remaining-clause-left c = λ _.
 pub returns-then-not-reserve_all-clause-left : goal.returns-then-not-reserve_all-clause-left
 returns-then-not-reserve_all-clause-left c = λ _.
     -- the command that is ready is the one that its slot's bytes say, and so much is left of it
-    let ready_one : (o : AllMedia) (n m : ℕ) (may : MayFinish (device_of c.args.self.now o) c.args.port c.args.slot n m) (cache : Cache) → (c.in_ok-remaining.remaining.moves ≡ n) × (c.in_ok-remaining.remaining.clears ≡ m) × (HasRoomForOldSectors cache (changes_ahead may.fetched_command.meaning.operation (bytes_of c.args.self.now.memory.items) may.fetched_command n) → HasRoomForOldSectors cache c.reservations_of.result.old_sectors) =
+    let ready_one : (o : AllMedia) (n m : ℕ) (may : MayFinish (device_of c.args.self.now o) c.args.port c.args.slot n m) (cache : Cache) → (c.in_ok-remaining.remaining.moves ≡ n) × (c.in_ok-remaining.remaining.clears ≡ m) × (HasRoomForOldSectors cache (sectors_left_to_change may.fetched_command.meaning.operation (bytes_of c.args.self.now.memory.items) may.fetched_command n) → HasRoomForOldSectors cache c.reservations_of.result.old_sectors) =
     λ o n m ready cache.
     let h = c.args.self.now in
     let rest = c.in_ok-remaining.remaining in
-    let P : ℕ → Type 0 = λ q. HasIssuedUntaken (slice_index_or h.ports q blank_port) c.args.slot in
+    let P : ℕ → Type 0 = λ q. HasIssuedUntakenOnWorkingPort (slice_index_or h.ports q blank_port) c.args.slot in
     let may = subst P (sym c.from.ensures) c.requires.may in
     let small : c.from.result < length c.args.self.now.ports = search rules in
     let said = c.in-Some.ensures.found in
@@ -83,7 +83,7 @@ returns-then-not-reserve_all-clause-left c = λ _.
     ) in
     let h = c.args.self.now in
     let rest = c.in_ok-remaining.remaining in
-    let P : ℕ → Type 0 = λ q. HasIssuedUntaken (slice_index_or h.ports q blank_port) c.args.slot in
+    let P : ℕ → Type 0 = λ q. HasIssuedUntakenOnWorkingPort (slice_index_or h.ports q blank_port) c.args.slot in
     let may = subst P (sym c.from.ensures) c.requires.may in
     let small : c.from.result < length c.args.self.now.ports = search rules in
     let said = c.in-Some.ensures.found in
@@ -117,7 +117,7 @@ did c o =
     let h = c.args.self.now in
     let held : Hardware = record h { tape = c.reserve_all.new.tape } in
     let new : Hardware = record held { ports = slice_set h.ports c.from.result c.take.new.self } in
-    let P : ℕ → Type 0 = λ q. HasIssuedUntaken (slice_index_or h.ports q blank_port) c.args.slot in
+    let P : ℕ → Type 0 = λ q. HasIssuedUntakenOnWorkingPort (slice_index_or h.ports q blank_port) c.args.slot in
     let may = subst P (sym c.from.ensures) c.requires.may in
     let small : c.from.result < length h.ports = search rules in
     let said = c.in-Some.ensures.found in
@@ -147,7 +147,7 @@ returns-clause-begun c =
     let h = c.args.self.now in
     let rest = c.in_ok-remaining.remaining in
     let held : Hardware = record h { tape = c.reserve_all.new.tape } in
-    let P : ℕ → Type 0 = λ q. HasIssuedUntaken (slice_index_or h.ports q blank_port) c.args.slot in
+    let P : ℕ → Type 0 = λ q. HasIssuedUntakenOnWorkingPort (slice_index_or h.ports q blank_port) c.args.slot in
     let may = subst P (sym c.from.ensures) c.requires.may in
     let small : c.from.result < length h.ports = search rules in
     let said = c.in-Some.ensures.found in
@@ -165,7 +165,7 @@ returns-clause-begun c =
           fetched_goes c.args.port c.args.slot rest.moves rest.clears true (device_of h o) (device_of new o) (ready o) (λ _. did c o) (λ never. true-false refl never)
           (λ never. true-false refl never);
       tape_has_room = omega (arith, room, entries);
-      fetch_is_done = λ _ o. did c o;
+      newly_taken_is_fetched = λ _ o. did c o;
       device_is_kept = λ never. true-false refl never;
       tape_is_kept = c.reserve_all.ensures.items;
       starved_is_kept = refl;
@@ -176,7 +176,7 @@ pub returns-then-not-may_take_command-clause-left : goal.returns-then-not-may_ta
 returns-then-not-may_take_command-clause-left c = λ _.
     inl (
       λ o left clears ready.
-          let P : ℕ → Type 0 = λ q. HasIssuedUntaken (slice_index_or c.args.self.now.ports q blank_port) c.args.slot in
+          let P : ℕ → Type 0 = λ q. HasIssuedUntakenOnWorkingPort (slice_index_or c.args.self.now.ports q blank_port) c.args.slot in
           let may = subst P (sym c.from.ensures) c.requires.may in
           let small : c.from.result < length c.args.self.now.ports = search rules in
           let said = c.in-Some.ensures.found in

@@ -1,5 +1,5 @@
 use Rattle.std.proofs.Common.{rules, ◌<◌, length, Bool, Option, refl, subst, sym}
-use Rattle.device_model.specs.Finishing.{FindsPageCommand}
+use Rattle.device_model.specs.Finishing.{FindsPageCommandAndWhetherItCanEnd}
 use Rattle.device_model.specs.WholeAdapter.{device_of}
 use Rattle.device_model.proofs.Ready.{finds, page_crowded, page_said, page_unmeant, page_unsaid, page_endless, may_page, ready_may}
 use Rattle.device_model.proofs.SlotLemmas.{at_port}
@@ -32,5 +32,5 @@ pub returns-in_err-command : goal.returns-in_err-command
 returns-in_err-command c = λ o.
     let some : c.args.port < length c.args.self.now.ports = search rules in
     let none = rw (at_port c.args.self.now.ports c.args.port c.index-self-port.result some) at (rw c.deref.ensures.value at c.decode_page_command.ensures.complete c.in_err-command.was) in
-    let P : Option Bool → Type 0 = λ r. FindsPageCommand (device_of c.args.self.now o) c.args.port c.args.slot r in
+    let P : Option Bool → Type 0 = λ r. FindsPageCommandAndWhetherItCanEnd (device_of c.args.self.now o) c.args.port c.args.slot r in
     subst P (sym c.from_residual.ensures) (page_unmeant c.args.self.now c.args.port c.args.slot none o, page_unsaid c.args.self.now c.args.port c.args.slot _ refl none c.requires.may o)

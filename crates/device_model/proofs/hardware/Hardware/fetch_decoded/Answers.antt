@@ -1,5 +1,5 @@
 use Rattle.std.proofs.Common.{rules, true, ◌≡◌, ◌<◌, ℕ, length, subst, sym, slice_index_or}
-use Rattle.device_model.specs.Slots.{HasIssuedUntaken}
+use Rattle.device_model.specs.Slots.{HasIssuedUntakenOnWorkingPort}
 use Rattle.adapter.specs.Commands.{Meaning}
 use Rattle.adapter.specs.Steps.{IsUnmixed, admits}
 use Rattle.adapter.proofs.SaysLemmas.{says_meaning}
@@ -22,7 +22,7 @@ returns-clause-did c = λ _ o.
     let h = c.args.self.now in
     let m = o.media c.from-place.result in
     let small : c.from-place.result < length h.ports = search rules in
-    let P : ℕ → Type 0 = λ q. HasIssuedUntaken (slice_index_or h.ports q blank_port) c.args.slot in
+    let P : ℕ → Type 0 = λ q. HasIssuedUntakenOnWorkingPort (slice_index_or h.ports q blank_port) c.args.slot in
     let may = subst P (sym c.from-place.ensures) c.requires.may in
     let taken = may_be_taken (slice_index_or h.ports c.from-place.result blank_port) c.args.slot c.in-Some.command may (rw (at_port h.ports c.from-place.result c.index-self-place-2.result small) at (c.may_take_command.ensures.open c.if-not-may_take_command.false)) in
     port_takes h o c.from-place.result c.args.port c.args.slot _ c.in-Some.command c.from-place.ensures small (taken m)

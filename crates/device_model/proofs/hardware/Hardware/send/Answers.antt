@@ -26,7 +26,7 @@ returns-then-area-len-clause-sent c = λ o.
     let fits_8 = c.type_inv.fis in
     let byte : (k : ℕ) → slice_index c.args.fis.now k < 256 = λ k. search (fits_8, rules) in
     record {
-      is_posted = λ _. record {
+      is_posted_if_received = λ _. record {
         receives = receives;
         from = omega arith;
         to = search rules;

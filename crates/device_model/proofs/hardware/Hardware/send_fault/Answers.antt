@@ -6,7 +6,7 @@ use Rattle.fis.specs.Encoding.{EncodesDeviceToHost, EncodesSetDeviceBits}
 use Rattle.fis.specs.declared.DeviceToHost.{DeviceToHost}
 use Rattle.fis.specs.declared.SetDeviceBits.{SetDeviceBits}
 use Rattle.adapter.specs.Device.{Device}
-use Rattle.device_model.specs.SentFises.{SendsSetDeviceBits, SendsDeviceToHost, end_fis, failed_tags_fis}
+use Rattle.device_model.specs.SentFises.{SendsSetDeviceBits, SendsDeviceToHost, end_fis, queued_failure_fis}
 use Rattle.device_model.specs.PortView.{port_of}
 use Rattle.device_model.specs.WholeAdapter.{device_of, no_media}
 use Rattle.device_model.proofs.SlotLemmas.{at_port}
@@ -25,7 +25,7 @@ returns-then-queued-clause-sent c = λ o.
     let small : c.args.port < length c.args.self.now.ports = search rules in
     let P : SetDeviceBits → Type 0 = λ f. EncodesSetDeviceBits c.encode_set_device_bits-fis.result f in
     let d : Device = device_of c.args.self.now o in
-    let sent : SendsSetDeviceBits c.args.port (failed_tags_fis (d.port c.args.port)) d (device_of c.send.new.self o) =
+    let sent : SendsSetDeviceBits c.args.port (queued_failure_fis (d.port c.args.port)) d (device_of c.send.new.self o) =
     (c.encode_set_device_bits-fis.result, subst P (rw (at_port c.args.self.now.ports c.args.port c.index-self-port.result small) at (c.failed_bits.ensures (o.media c.args.port))) c.encode_set_device_bits-fis.ensures, c.send.ensures.sent o) in
     rw c.if-queued.true sent
 

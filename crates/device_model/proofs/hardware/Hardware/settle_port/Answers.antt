@@ -45,8 +45,8 @@ returns-then-link-clause-settled c = λ o.
     let there = ap (λ (x : Hardware). slice_index_or x.ports p blank_port) c.send_signature.ensures.rest ∙ get_or-set_same mid p c.link.new.self blank_port still in
     let P : PortModel → Type 0 = λ x. IsSettledPort (port_of x (o.media p)) in
     subst P (sym there)
-    (linked_settled c.settle_state.new.self _ c.link.new.self (o.media p) (get_or-set_same h.ports p c.settle_state.new.self c.index-self-port-2.result small) c.settle_state.ensures.fallen
-    c.settle_state.ensures.area c.link.ensures.linked c.link.ensures.engine c.link.ensures.area)
+    (linked_settled c.settle_state.new.self _ c.link.new.self (o.media p) (get_or-set_same h.ports p c.settle_state.new.self c.index-self-port-2.result small) c.settle_state.ensures.cr_is_clear_without_st
+    c.settle_state.ensures.fr_is_clear_without_fre_and_cr c.link.ensures.no_link_may_come c.link.ensures.engine c.link.ensures.fre_and_fr_are_kept)
 
 pub returns-else-link-clause-settled : goal.returns-else-link-clause-settled
 returns-else-link-clause-settled c = λ o.
@@ -57,8 +57,8 @@ returns-else-link-clause-settled c = λ o.
     let still : p < length mid = search rules in
     let P : PortModel → Type 0 = λ x. IsSettledPort (port_of x (o.media p)) in
     subst P (sym (get_or-set_same mid p c.link.new.self blank_port still))
-    (linked_settled c.settle_state.new.self _ c.link.new.self (o.media p) (get_or-set_same h.ports p c.settle_state.new.self c.index-self-port-2.result small) c.settle_state.ensures.fallen
-    c.settle_state.ensures.area c.link.ensures.linked c.link.ensures.engine c.link.ensures.area)
+    (linked_settled c.settle_state.new.self _ c.link.new.self (o.media p) (get_or-set_same h.ports p c.settle_state.new.self c.index-self-port-2.result small) c.settle_state.ensures.cr_is_clear_without_st
+    c.settle_state.ensures.fr_is_clear_without_fre_and_cr c.link.ensures.no_link_may_come c.link.ensures.engine c.link.ensures.fre_and_fr_are_kept)
 
 pub returns-then-link-clause-others : goal.returns-then-link-clause-others
 returns-then-link-clause-others c = λ o q ne.

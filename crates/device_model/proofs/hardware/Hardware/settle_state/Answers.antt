@@ -81,10 +81,10 @@ returns-clause-settled c = λ o.
           subst P (sym (get_or_past h.ports q blank_port (omega (arith, past, four)))) (blank_settled (o.media q))
     ] in
     record {
-      reset_has_ended = λ on. c.loop-port.invariant.left on;
-      crs_have_fallen = λ q may. held_if _ (λ free. (all q free).cr_has_fallen may.0 may.1);
-      frs_have_fallen = λ q may. held_if _ (λ free. (all q free).fr_has_fallen may.0 may.1 may.2);
-      no_links_may_come = λ q sig n may. held_if _ (λ free. (all q free).no_link_may_come sig may);
+      reset_waits_only_if_all_are_held = λ on. c.loop-port.invariant.left on;
+      cr_may_fall_only_where_held = λ q may. held_if _ (λ free. (all q free).cr_is_clear_without_st may.0 may.1);
+      fr_may_fall_only_where_held = λ q may. held_if _ (λ free. (all q free).fr_is_clear_without_fre_and_cr may.0 may.1 may.2);
+      link_may_come_up_only_where_held = λ q sig n may. held_if _ (λ free. (all q free).no_link_may_come sig may);
     }
   where
     held_if : (b : Bool) → (b ≡ false → ⊥) → b ≡ true

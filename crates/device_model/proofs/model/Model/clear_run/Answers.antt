@@ -37,9 +37,9 @@ returns-in_default-clause-answers g c =
       page_source_is = refl;
       disk_index_is = refl;
       other_bays_are_kept = λ _ _. refl;
-      step_keeps = record { identities_are_kept = λ _ _. refl; absent_disks_are_kept = λ _ _ _. refl; caches_are_kept = λ _. refl; queue_is_kept = refl; access_count_is_kept = refl };
+      step_keeps = record { identities_are_kept = λ _ _. refl; disks_not_last_in_are_kept = λ _ _ _. refl; cache_modes_are_kept = λ _. refl; queue_is_kept = refl; access_count_is_kept = refl };
       disks_are_kept = λ _. refl;
-      lacks_memory = λ served may.
+      possible_step_lacks_memory = λ served may.
           absurd (
           let found = clear_fits c.reserve-room.new.self o _ c.args.port.0 c.args.slot.0 c.args.most may.1 (c.reserve-room.ensures.device_is_kept o) may.2 in
           c.run_to_clear.ensures.none c.in_default.is found.0 found.1 found.2);
@@ -64,9 +64,9 @@ returns-then-not-room-clause-answers g c =
       page_source_is = refl;
       disk_index_is = refl;
       other_bays_are_kept = λ _ _. refl;
-      step_keeps = record { identities_are_kept = λ _ _. refl; absent_disks_are_kept = λ _ _ _. refl; caches_are_kept = λ _. refl; queue_is_kept = refl; access_count_is_kept = refl };
+      step_keeps = record { identities_are_kept = λ _ _. refl; disks_not_last_in_are_kept = λ _ _ _. refl; cache_modes_are_kept = λ _. refl; queue_is_kept = refl; access_count_is_kept = refl };
       disks_are_kept = λ _. refl;
-      lacks_memory = λ _ _. (lacks, refl);
+      possible_step_lacks_memory = λ _ _. (lacks, refl);
       stays_starved = λ _. refl;
       starves_for_want = λ _. inr ((c.requires, taken_of found.0, has), lacks);
     }
@@ -168,8 +168,8 @@ all g c =
         no_call_failed = λ _. store_fine m (whole_mid g c) c.args.port.0 a b (whole_was g c) (whole_items g c) (whole_rest g c) g.S.SectorStore.failures
             (c.clear-count.ensures.zero.no_call_failed (omega (arith, few, cut, same)) ∙ ap g.S.SectorStore.failures (whole_store g c));
         page_source_is = store_says m (whole_mid g c) c.args.port.0 a b (whole_was g c) (whole_items g c) (whole_rest g c) c.args.port.0;
-        does_all_it_asks = λ _. cleared;
-        loses_cache = λ yes. true-false yes refl;
+        clear_and_finish_do_all_below_4_gib = λ _. cleared;
+        lose_plug_loses_cache = λ yes. true-false yes refl;
       },
     )
 

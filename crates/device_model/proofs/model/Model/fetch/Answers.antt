@@ -2,7 +2,7 @@ use Rattle.std.proofs.Common.{ℕ, false, true, ◌≡◌, ◌∙◌, ap, arith,
 use Rattle.adapter.specs.Device.{Device}
 use Rattle.adapter.specs.Steps.{Can, device_after}
 use Rattle.adapter.specs.Steps.DeviceTransition.{FetchFault}
-use Rattle.device_model.specs.Finishing.{IsStepSkipped}
+use Rattle.device_model.specs.Finishing.{IsImpossibleOrLacksTape}
 use Rattle.device_model.specs.ModelState.{all_media_at}
 use Rattle.device_model.specs.SentFises.{SendsFault}
 use Rattle.device_model.specs.WholeAdapter.{AllMedia, device_of}
@@ -25,7 +25,7 @@ returns-then-not-abort_invalid g c =
     let f = c.abort_invalid.ensures in
     let kept : c.fetch.new.self ≡ m.hardware = c.fetch.ensures.refused c.if-fetch.false in
     let not : c.abort_invalid.result ≡ false = c.if-not-abort_invalid.true in
-    let Q : Hardware → Type 0 = λ h. IsStepSkipped h c.abort_invalid.new.self (Can (FetchFault c.args.port.0 c.args.slot.0 false 0) (device_of h o)) in
+    let Q : Hardware → Type 0 = λ h. IsImpossibleOrLacksTape h c.abort_invalid.new.self (Can (FetchFault c.args.port.0 c.args.slot.0 false 0) (device_of h o)) in
     senseless_answers g.S.SectorStore.size g.S.SectorStore.told g.S.SectorStore.failures m c.abort_invalid.new.self c.args.port c.args.slot
     false (omega (arith, c.if-port-ge4.false)) (omega (arith, c.if-slot-ge32.false)) (c.fetch.ensures.complete c.if-fetch.false o)
     (λ e. absurd (cc e)) (λ _. f.refused not o ∙ ap (λ (h : Hardware). device_of h o) kept) (λ _. subst Q kept (f.step_is_skipped not o)) (λ e. absurd (cc e))

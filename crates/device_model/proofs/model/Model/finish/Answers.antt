@@ -4,14 +4,14 @@ use Rattle.std.specs.Vec.{with_item}
 use Rattle.adapter.specs.AskedSteps.{DoesFetch}
 use Rattle.adapter.specs.Device.{Device, FetchedCommand}
 use Rattle.adapter.specs.declared.access.DeviceStep.TheVariants as asked
-use Rattle.device_model.specs.Finishing.{HasPageCommand, TapeHasRoom, IsInProgress, MayFinish}
+use Rattle.device_model.specs.Finishing.{HasFinishablePageCommand, TapeHasRoom, IsInProgress, MayFinish}
 use Rattle.device_model.specs.WriteCaches.{HasRoomForOldSectors}
 use Rattle.device_model.specs.Disks.{bay_of}
-use Rattle.device_model.specs.StepEffects.{LacksMemory, IsPossible, is_step_answered}
+use Rattle.device_model.specs.StepEffects.{LacksMemory, IsPossible, is_step_not_skipped}
 use Rattle.device_model.specs.ModelState.{device_at, all_media_at}
 use Rattle.device_model.specs.SentFises.{SendsEnd}
 use Rattle.device_model.specs.Slots.{WorksOnIn}
-use Rattle.device_model.specs.Trims.{HasClear, changes_ahead, uncleared}
+use Rattle.device_model.specs.Trims.{HasClear, sectors_left_to_change, uncleared}
 use Rattle.device_model.specs.PortView.{blank_port, taken_of}
 use Rattle.device_model.specs.WholeAdapter.{HasDisks, AllMedia, device_of}
 use Rattle.device_model.specs.declared.bay.Bay.{Bay}
@@ -73,7 +73,7 @@ loop-piece-init g c =
     let new : Device = device_of c.begin.new.hardware o in
     let is = c.in-Some-begin.ensures.begun in
     let P : AllMedia → Type 0 = λ x. DoesFetch c.args.port.0 c.args.slot.0 (device_of m.hardware x) new in
-    let did : c.in-Some-begin.field-0.is_newly_taken ≡ true → DoesFetch c.args.port.0 c.args.slot.0 old new = λ e. subst P behind (is.fetch_is_done e o) in
+    let did : c.in-Some-begin.field-0.is_newly_taken ≡ true → DoesFetch c.args.port.0 c.args.slot.0 old new = λ e. subst P behind (is.newly_taken_is_fetched e o) in
     let same : c.in-Some-begin.field-0.is_newly_taken ≡ false → new ≡ old = λ e. is.device_is_kept e o ∙ ap (device_of m.hardware) behind in
     record {
       did = λ e. goes_one (SendsEnd c.args.slot.0) c.args.port.0 c.args.slot.0 old new (inl (did e));
@@ -108,8 +108,8 @@ loop-piece-init g c =
 
 pub loop-piece-preserved : goal.loop-piece-preserved
 loop-piece-preserved g c =
-    let step = did_it g.S.SectorStore.size g.S.SectorStore.told g.S.SectorStore.failures (asked.Move c.args.port c.args.slot) _ _ (is_step_answered c.move_piece.result)
-    c.move_piece.ensures.answers (ap is_step_answered c.in-Done.is) in
+    let step = did_it g.S.SectorStore.size g.S.SectorStore.told g.S.SectorStore.failures (asked.Move c.args.port c.args.slot) _ _ (is_step_not_skipped c.move_piece.result)
+    c.move_piece.ensures.answers (ap is_step_not_skipped c.in-Done.is) in
     let whole = c.move_piece.ensures.whole c.in-Done.is in
     let moved = whole.does_asked_step in
     record {
@@ -145,8 +145,8 @@ returns-in-Skipped-clause-answers g c =
     let o : AllMedia = all_media_at g.S.SectorStore.size g.S.SectorStore.told first in
     let is = c.loop-piece.invariant in
     let d : Device = device_at g.S.SectorStore.size g.S.SectorStore.told m in
-    let step = left_it g.S.SectorStore.size g.S.SectorStore.told g.S.SectorStore.failures (asked.Move c.args.port c.args.slot) _ _ (is_step_answered c.move_piece.result)
-    c.move_piece.ensures.answers (ap is_step_answered c.in-Skipped.is) in
+    let step = left_it g.S.SectorStore.size g.S.SectorStore.told g.S.SectorStore.failures (asked.Move c.args.port c.args.slot) _ _ (is_step_not_skipped c.move_piece.result)
+    c.move_piece.ensures.answers (ap is_step_not_skipped c.in-Skipped.is) in
     let left = c.in-Some-begin.field-0.remaining.moves - (c.loop-piece.piece + 1) in
     let clears = c.in-Some-begin.field-0.remaining.clears in
     let P : ℕ → Type 0 = λ n. IsInProgress d c.args.port.0 c.args.slot.0 n clears in
@@ -167,8 +167,8 @@ returns-in-Failed-clause-answers g c =
     let first = c.args.self.now in
     let o : AllMedia = all_media_at g.S.SectorStore.size g.S.SectorStore.told first in
     let is = c.loop-piece.invariant in
-    let step = did_it g.S.SectorStore.size g.S.SectorStore.told g.S.SectorStore.failures (asked.Move c.args.port c.args.slot) _ _ (is_step_answered c.move_piece.result)
-    c.move_piece.ensures.answers (ap is_step_answered c.in-Failed.is) in
+    let step = did_it g.S.SectorStore.size g.S.SectorStore.told g.S.SectorStore.failures (asked.Move c.args.port c.args.slot) _ _ (is_step_not_skipped c.move_piece.result)
+    c.move_piece.ensures.answers (ap is_step_not_skipped c.in-Failed.is) in
     let failed = c.move_piece.ensures.failed c.in-Failed.is in
     let left = c.in-Some-begin.field-0.remaining.moves in
     let asks = finish_moves c.args.port c.args.slot c.loop-piece.did _ _ left c.in-Some-begin.field-0.remaining.clears (found_disks g.S.SectorStore.size g.S.SectorStore.told c.args.self.now c.from.result c.args.port.0 _ c.from.ensures c.as_slice.ensures.value (sym c.has_disks.ensures.disks ∙ c.if-not-has_disks.false))
@@ -214,8 +214,8 @@ loop-run-preserved g c =
     let is = c.loop-run.invariant in
     let d : Device = device_at g.S.SectorStore.size g.S.SectorStore.told m in
     let most = c.count_uncleared-most.result in
-    let step = did_it g.S.SectorStore.size g.S.SectorStore.told g.S.SectorStore.failures (asked.Clear c.args.port c.args.slot most) _ _ (is_step_answered c.clear_run.result)
-    c.clear_run.ensures.answers (ap is_step_answered c.in-Done-clear_run.is) in
+    let step = did_it g.S.SectorStore.size g.S.SectorStore.told g.S.SectorStore.failures (asked.Clear c.args.port c.args.slot most) _ _ (is_step_not_skipped c.clear_run.result)
+    c.clear_run.ensures.answers (ap is_step_not_skipped c.in-Done-clear_run.is) in
     let whole = c.clear_run.ensures.whole c.in-Done-clear_run.is in
     let left = c.in-Some-begin.field-0.remaining.clears - (c.loop-run._run + 1) in
     let P : ℕ → Type 0 = λ n. IsInProgress d c.args.port.0 c.args.slot.0 0 n in
@@ -248,8 +248,8 @@ returns-in-Skipped-clear_run-clause-answers g c =
     let disks : HasDisks (device_at g.S.SectorStore.size g.S.SectorStore.told first) c.args.port.0 = found_disks g.S.SectorStore.size g.S.SectorStore.told c.args.self.now c.from.result c.args.port.0 _ c.from.ensures c.as_slice.ensures.value (sym c.has_disks.ensures.disks ∙ c.if-not-has_disks.false) in
     let d : Device = device_at g.S.SectorStore.size g.S.SectorStore.told m in
     let most = c.count_uncleared-most.result in
-    let step = left_it g.S.SectorStore.size g.S.SectorStore.told g.S.SectorStore.failures (asked.Clear c.args.port c.args.slot most) _ _ (is_step_answered c.clear_run.result)
-    c.clear_run.ensures.answers (ap is_step_answered c.in-Skipped-clear_run.is) in
+    let step = left_it g.S.SectorStore.size g.S.SectorStore.told g.S.SectorStore.failures (asked.Clear c.args.port c.args.slot most) _ _ (is_step_not_skipped c.clear_run.result)
+    c.clear_run.ensures.answers (ap is_step_not_skipped c.in-Skipped-clear_run.is) in
     let left = c.in-Some-begin.field-0.remaining.clears - (c.loop-run._run + 1) in
     let P : ℕ → Type 0 = λ n. IsInProgress d c.args.port.0 c.args.slot.0 0 n in
     let next : c.in-Some-begin.field-0.remaining.clears - c.loop-run._run ≡ suc left = omega (arith, c.loop-run-test.true) in
@@ -269,8 +269,8 @@ returns-in-Failed-clear_run-clause-answers g c =
     let start : AllMedia = all_media_at g.S.SectorStore.size g.S.SectorStore.told first in
     let is = c.loop-run.invariant in
     let most = c.count_uncleared-most.result in
-    let step = did_it g.S.SectorStore.size g.S.SectorStore.told g.S.SectorStore.failures (asked.Clear c.args.port c.args.slot most) _ _ (is_step_answered c.clear_run.result)
-    c.clear_run.ensures.answers (ap is_step_answered c.in-Failed-clear_run.is) in
+    let step = did_it g.S.SectorStore.size g.S.SectorStore.told g.S.SectorStore.failures (asked.Clear c.args.port c.args.slot most) _ _ (is_step_not_skipped c.clear_run.result)
+    c.clear_run.ensures.answers (ap is_step_not_skipped c.in-Failed-clear_run.is) in
     let asks = finish_clears c.args.port c.args.slot _ c.in-Some-begin.field-0.remaining.moves c.in-Some-begin.field-0.remaining.clears (found_disks g.S.SectorStore.size g.S.SectorStore.told c.args.self.now c.from.result c.args.port.0 _ c.from.ensures c.as_slice.ensures.value (sym c.has_disks.ensures.disks ∙ c.if-not-has_disks.false)) c.requires
     (omega (arith, c.loop-run-test.true)) (c.in-Some-begin.ensures.begun.may_finish start) in
     clear_fails g.S.SectorStore.size g.S.SectorStore.told g.S.SectorStore.failures c.args.port c.args.slot c.loop-run.did first _ _
@@ -298,10 +298,10 @@ returns-then-done-clause-answers g c =
           does_asked_step = goes_next (SendsEnd c.args.slot.0) c.args.port.0 c.args.slot.0 _ _ _ c.loop-run.did is.did is.refused (inr (inr (inl done)));
           no_call_failed = λ _ q which. whole.no_call_failed refl q which ∙ is.fine q which;
           page_source_is = all.says;
-          does_all_it_asks = λ _.
+          clear_and_finish_do_all_below_4_gib = λ _.
               let issued = no_more_going c.args.port.0 c.args.slot.0 c.loop-run.did _ _ is.did is.refused in
               done_ended c.args.port.0 c.args.slot.0 _ _ _ issued done;
-          loses_cache = λ yes. true-false yes refl;
+          lose_plug_loses_cache = λ yes. true-false yes refl;
         });
         held_ports_are = all.held;
         disk_index_is = all.which;
@@ -322,7 +322,7 @@ end_is_done g c =
     let none : c.in-Some-begin.field-0.remaining.clears - c.loop-run._run ≡ 0 = omega (arith, c.loop-run-test.false) in
     let going = subst P none c.loop-run.invariant.going in
     let left = left_it g.S.SectorStore.size g.S.SectorStore.told g.S.SectorStore.failures (asked.Done c.args.port c.args.slot) _ _ c.done.result c.done.ensures c.if-done.false in
-    (left.lacks_memory tt (omega (arith, c.if-port-ge4.false), c.requires, 0, going.fetched_command, going_may_end c.args.port.0 c.args.slot.0 _ going)).0 (omega (arith, c.loop-run.invariant.room))
+    (left.possible_step_lacks_memory tt (omega (arith, c.if-port-ge4.false), c.requires, 0, going.fetched_command, going_may_end c.args.port.0 c.args.slot.0 _ going)).0 (omega (arith, c.loop-run.invariant.room))
 
 pub returns-else-done-clause-answers : goal.returns-else-done-clause-answers
 returns-else-done-clause-answers g c = absurd (end_is_done g c)
@@ -436,14 +436,14 @@ returns-in_default-begin-clause-sends g c = λ disks has.
     elim (c.in_default-begin.ensures.is_unbegun refl) [
       | inl never ↦ absurd (never.0 o has.moves_left 0 ready)
       | inr lacks ↦
-          let none : changes_ahead ready.fetched_command.meaning.operation (device_of m.hardware o).memory ready.fetched_command has.moves_left ≡ 0 = page_unchanged ready.fetched_command.meaning.operation _ ready.fetched_command has.moves_left has.sends_page in (
+          let none : sectors_left_to_change ready.fetched_command.meaning.operation (device_of m.hardware o).memory ready.fetched_command has.moves_left ≡ 0 = page_unchanged ready.fetched_command.meaning.operation _ ready.fetched_command has.moves_left has.sends_page in (
             λ never. absurd (let e : false ≡ true = never in cc),
             λ _. (lacks.starved_is_set, λ room. lacks.room_is_lacking o has.moves_left 0 ready (omega (arith, room)) (subst (HasRoomForOldSectors c.begin.new.self.cache) (sym none) (no_room c.begin.new.self.cache))),
           )
     ]
 
 -- it clears nothing
-no_clears : (d : Device) (port slot left clears : ℕ) → HasPageCommand d port slot → MayFinish d port slot left clears → 1 ≤ clears → ⊥
+no_clears : (d : Device) (port slot left clears : ℕ) → HasFinishablePageCommand d port slot → MayFinish d port slot left clears → 1 ≤ clears → ⊥
 no_clears d port slot left clears has may some = page_asks_none d port slot left clears has may (inr some)
 
 pub returns-in-Skipped-clear_run-clause-sends : goal.returns-in-Skipped-clear_run-clause-sends

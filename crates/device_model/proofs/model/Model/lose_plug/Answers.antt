@@ -49,4 +49,4 @@ returns g c =
     (ap (λ k. slice_set m.bays.items k (Some b)) c.from-place.ensures) c.plug_after_cache_loss.ensures.loses c.plug_after_cache_loss.ensures.rest c.plug_after_cache_loss.ensures.later
     may.1.0
     (λ d is. ap (λ (x : Device). (x.port c.args.port.0).present) is ∙ c.plug.ensures.no_disk_was_in yes (all_media_at g.S.SectorStore.size g.S.SectorStore.told m))
-    g.met.S.SectorStore.tells_sectors (λ o disk name same. c.plug.ensures.did yes o disk (name ∙ sym c.number.ensures) same) (c.plug.ensures.starved_is_kept yes)
+    g.met.S.SectorStore.told_sectors_are_valid (λ o disk name same. c.plug.ensures.did yes o disk (name ∙ sym c.number.ensures) same) (c.plug.ensures.starved_is_kept yes)

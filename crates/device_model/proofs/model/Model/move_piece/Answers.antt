@@ -19,7 +19,7 @@ use Rattle.device_model.specs.PieceTransfers.{TransfersPiece, piece_of}
 use Rattle.device_model.specs.Finishing.{HasMove}
 use Rattle.device_model.specs.ModelState.{device_at, media_of, all_media_at}
 use Rattle.device_model.specs.Slots.{IsNextMove}
-use Rattle.device_model.specs.Trims.{written_ahead}
+use Rattle.device_model.specs.Trims.{sectors_left_to_write}
 use Rattle.device_model.specs.PortView.{Media, operation_of_kind, taken_of}
 use Rattle.device_model.specs.declared.port.CommandKind.{CommandKind}
 use Rattle.device_model.specs.WholeAdapter.{AllMedia, device_of, all_media_after_move}
@@ -147,7 +147,7 @@ moved g c =
       can = subst R (c.reserve-room.ensures.device_is_kept o)
           (may_move h o c.args.port.0 c.args.slot.0 c.in-Some-next_move.next r bytes is (exchanged g c).bytes_are_sector
           (subst (λ (x : Media). is_ranged (operation_of_kind c.in-Some-next_move.next.command_kind) ≡ true →
-          c.in-Some-next_move.next.sector < x.disk.sector_count) at ((exchanged g c).sector_on_disk did))
+          c.in-Some-next_move.next.sector < x.disk.sector_count) at ((exchanged g c).done_sector_is_on_disk did))
           (subst (λ (x : Media). is_ranged (operation_of_kind c.in-Some-next_move.next.command_kind) ≡ true → reads_memory (operation_of_kind c.in-Some-next_move.next.command_kind) ≡ false →
           IfSome x.disk.sectors (λ f. bytes ≡ f c.in-Some-next_move.next.sector)) at ((exchanged g c).read_gives_told did))
           (exchanged g c).write_keeps_bytes);
@@ -169,8 +169,8 @@ whole g c =
           ((exchanged g c).no_call_failed c.if-not-transfer_piece.false);
       page_source_is = store_says m (moved_model g c) c.args.port.0 a c.transfer_piece.new.self (was g c) (items g c)
           (exchanged g c).rest_is_kept c.args.port.0;
-      does_all_it_asks = λ _. tt;
-      loses_cache = λ yes. true-false yes refl;
+      clear_and_finish_do_all_below_4_gib = λ _. tt;
+      lose_plug_loses_cache = λ yes. true-false yes refl;
     }
 
 pub returns-clause-whole : goal.returns-clause-whole
@@ -203,7 +203,7 @@ returns-clause-answers g c =
         disks_are_kept = λ none w.
             seated_same m (moved_model g c) c.args.port.0 a b (was g c) (items g c) (option_map (λ (x : Bay g.row.S.Denot). disk_in_bay x w))
             (ap (λ (x : Bay g.row.S.Denot). Some (disk_in_bay x w))
-            ((exchanged g c).bay_is_kept
+            ((exchanged g c).unranged_keeps_bay
             (next_unranged c.reserve-room.new.self o _ c.args.port c.args.slot c.in-Some-next_move.next (grow c.args.port.0 c.args.slot.0 c.reserve-room.ensures.rest c.in-Some-next_move.ensures.found).0 disks c.requires.small
             (c.reserve-room.ensures.device_is_kept o) (grow c.args.port.0 c.args.slot.0 c.reserve-room.ensures.rest c.in-Some-next_move.ensures.found).1 none))) c.args.port.0;
         step_keeps = store_keeps m (moved_model g c) c.args.port.0 a b (was g c) (items g c)
@@ -267,7 +267,7 @@ past_ranged g c = by (is_ranged (operation_of_kind c.in-Some-next_move.next.comm
     found = (grow c.args.port.0 c.args.slot.0 c.reserve-room.ensures.rest c.in-Some-next_move.ensures.found)
 
     never : (is_ranged (operation_of_kind c.in-Some-next_move.next.command_kind) ≡ true → c.in-Some-next_move.next.sector < c.sectors.result) → ⊥
-    never on = true-false (c.is_within_disk.ensures.1 on) c.if-not-is_within_disk.true
+    never on = true-false (c.is_within_disk_if_ranged.ensures.1 on) c.if-not-is_within_disk_if_ranged.true
 
     by : (b : Bool) → is_ranged (operation_of_kind c.in-Some-next_move.next.command_kind) ≡ b → (next_sector (taken_of found.0) ≡ c.in-Some-next_move.next.sector)
         × (is_ranged (operation_of_kind found.0.command_kind) ≡ true) × (g.S.SectorStore.size c.in-Some.bay.disk.store ≤ c.in-Some-next_move.next.sector)
@@ -299,11 +299,11 @@ past_failed g c =
     (store_says m (past_model g c) c.args.port.0 a a (was_past g c) (past_items g c) refl c.args.port.0) (past_fits g c) is.1
     (inl (omega (arith, size, sector, below), refl, calls))
 
-pub returns-then-not-is_within_disk-clause-failed : goal.returns-then-not-is_within_disk-clause-failed
-returns-then-not-is_within_disk-clause-failed g c = λ _. past_failed g c
+pub returns-then-not-is_within_disk_if_ranged-clause-failed : goal.returns-then-not-is_within_disk_if_ranged-clause-failed
+returns-then-not-is_within_disk_if_ranged-clause-failed g c = λ _. past_failed g c
 
-pub returns-then-not-is_within_disk-clause-answers : goal.returns-then-not-is_within_disk-clause-answers
-returns-then-not-is_within_disk-clause-answers g c =
+pub returns-then-not-is_within_disk_if_ranged-clause-answers : goal.returns-then-not-is_within_disk_if_ranged-clause-answers
+returns-then-not-is_within_disk_if_ranged-clause-answers g c =
     let m = c.args.self.now in
     let a = c.in-Some.bay in
     let found = (grow c.args.port.0 c.args.slot.0 c.reserve-room.ensures.rest c.in-Some-next_move.ensures.found) in (
@@ -396,7 +396,7 @@ store_failed g c =
     let b = c.transfer_piece.new.self in
     let next = (grow c.args.port.0 c.args.slot.0 c.reserve-room.ensures.rest c.in-Some-next_move.ensures.found) in
     let ranged = (exchanged_so g c).only_ranged_fails c.if-not-transfer_piece.true in
-    let here = c.is_within_disk.ensures.0 c.if-not-is_within_disk.false ranged in
+    let here = c.is_within_disk_if_ranged.ensures.0 c.if-not-is_within_disk_if_ranged.false ranged in
     let listed = c.sectors.ensures in
     let on : c.reserve.new.self.cache.is_on ≡ port_has_cache m c.args.port.0 = c.reserve.ensures.old_sectors_are_kept.cache_mode_is_kept ∙ sym (ap has_cache (was_store g c)) in
     let Q : Bool → ℕ → Type 0 = λ writes sector. CallFails (port_has_cache m c.args.port.0) writes sector (g.S.SectorStore.failures a.disk.store) (g.S.SectorStore.failures b.disk.store) in
@@ -461,13 +461,13 @@ returns-clause-readies g c = λ _.
           let found = (grow c.args.port.0 c.args.slot.0 c.reserve-room.ensures.rest c.in-Some-next_move.ensures.found) in
           let o : AllMedia = all_media_at g.S.SectorStore.size g.S.SectorStore.told m in
           let one : t ≡ taken_of found.0 = some_one (sym taken ∙ (fits g c).works.taken) in
-          let kind : written_ahead t.meaning.operation 1 ≡ written_ahead (operation_of_kind c.in-Some-next_move.next.command_kind) 1 =
-          ap (λ (x : FetchedCommand). written_ahead x.meaning.operation 1) one ∙ ap (λ (k : CommandKind). written_ahead (operation_of_kind k) 1) (sym found.1.kind_is) in
+          let kind : sectors_left_to_write t.meaning.operation 1 ≡ sectors_left_to_write (operation_of_kind c.in-Some-next_move.next.command_kind) 1 =
+          ap (λ (x : FetchedCommand). sectors_left_to_write x.meaning.operation 1) one ∙ ap (λ (k : CommandKind). sectors_left_to_write (operation_of_kind k) 1) (sym found.1.kind_is) in
           let P : ℕ → Type 0 = λ k. HasRoomForOldSectors a.cache (k + n) in
           room_there (moved_model g c) c.args.port.0 n c.transfer_piece.new.self (seated_here m (moved_model g c) c.args.port.0 a c.transfer_piece.new.self (was g c) (items g c))
           ((exchanged g c).cache_has_room n
-          (c.reserve.ensures.room_is_kept (written_ahead (operation_of_kind c.in-Some-next_move.next.command_kind) 1 + n)
-          (subst P kind (room_here m c.args.port.0 (written_ahead t.meaning.operation 1 + n) a (was g c) room))));
+          (c.reserve.ensures.room_is_kept (sectors_left_to_write (operation_of_kind c.in-Some-next_move.next.command_kind) 1 + n)
+          (subst P kind (room_here m c.args.port.0 (sectors_left_to_write t.meaning.operation 1 + n) a (was g c) room))));
       next_move_is = c.note_move.ensures.after;
     }
 
@@ -500,12 +500,12 @@ returns-then-not-reserve-clause-answers g c =
     let fits : HasMove (device_at g.S.SectorStore.size g.S.SectorStore.told m) c.args.port.0 c.args.slot.0 (taken_of r) =
     next_has_move c.reserve-room.new.self o _ c.args.port.0 c.args.slot.0 c.in-Some-next_move.next r (has_disks g.S.SectorStore.size g.S.SectorStore.told m c.args.port.0 a was)
     (c.reserve-room.ensures.device_is_kept o) found.1 in
-    let changes : written_ahead (operation_of_kind r.command_kind) 1 ≡ c.sectors_to_write.result = ap (λ (k : CommandKind). written_ahead (operation_of_kind k) 1) (sym found.1.kind_is) ∙ sym c.sectors_to_write.ensures in
+    let changes : sectors_left_to_write (operation_of_kind r.command_kind) 1 ≡ c.sectors_to_write.result = ap (λ (k : CommandKind). sectors_left_to_write (operation_of_kind k) 1) (sym found.1.kind_is) ∙ sym c.sectors_to_write.ensures in
     let lacks : LacksMemory (asked.Move c.args.port c.args.slot) (device_at g.S.SectorStore.size g.S.SectorStore.told m) m.hardware m.bays.items = (
       taken_of r,
       fits,
       λ _ old. c.reserve.ensures.lacked c.if-not-reserve.true
-          (subst (HasRoomForOldSectors a.cache) changes (room_here m c.args.port.0 (written_ahead (operation_of_kind r.command_kind) 1) a was old)),
+          (subst (HasRoomForOldSectors a.cache) changes (room_here m c.args.port.0 (sectors_left_to_write (operation_of_kind r.command_kind) 1) a was old)),
     ) in
     grown_left g.S.SectorStore.size g.S.SectorStore.told g.S.SectorStore.failures m _ c.args.port.0 a c.reserve.new.self.cache was
     (ap (λ k. slice_set m.bays.items k (Some c.reserve.new.self)) c.from-place.ensures ∙ ap (λ (x : Bay g.row.S.Denot). slice_set m.bays.items c.args.port.0 (Some x)) c.reserve.ensures.rest)
@@ -522,7 +522,7 @@ returns-then-not-reserve-clause-page g c = λ t taken sends _ _ _ _.
     let P : Device → Type 0 = λ d. (d.port c.args.port.0).taken c.args.slot.0 ≡ Some (taken_of found.0) in
     let here = subst P (c.reserve-room.ensures.device_is_kept o) (found.1.works_on.works (o.media c.args.port.0)).taken in
     let one : t ≡ taken_of found.0 = some_one (sym taken ∙ here) in
-    let none : written_ahead (operation_of_kind found.0.command_kind) 1 ≡ 0 =
-    ap (λ (x : FetchedCommand). written_ahead x.meaning.operation 1) (sym one) ∙ page_unwritten t.meaning.operation 1 sends in
-    let changes : written_ahead (operation_of_kind found.0.command_kind) 1 ≡ c.sectors_to_write.result = ap (λ (k : CommandKind). written_ahead (operation_of_kind k) 1) (sym found.1.kind_is) ∙ sym c.sectors_to_write.ensures in
+    let none : sectors_left_to_write (operation_of_kind found.0.command_kind) 1 ≡ 0 =
+    ap (λ (x : FetchedCommand). sectors_left_to_write x.meaning.operation 1) (sym one) ∙ page_unwritten t.meaning.operation 1 sends in
+    let changes : sectors_left_to_write (operation_of_kind found.0.command_kind) 1 ≡ c.sectors_to_write.result = ap (λ (k : CommandKind). sectors_left_to_write (operation_of_kind k) 1) (sym found.1.kind_is) ∙ sym c.sectors_to_write.ensures in
     c.reserve.ensures.lacked c.if-not-reserve.true (subst (HasRoomForOldSectors a.cache) (sym none ∙ changes) (no_room a.cache))

@@ -54,7 +54,7 @@ returns g c =
     selects.lasting_is
     may.1.0
     (λ d is. ap (λ (x : Device). (x.port c.args.port.0).present) is ∙ c.plug.ensures.no_disk_was_in yes (all_media_at g.S.SectorStore.size g.S.SectorStore.told m))
-    g.met.S.SectorStore.tells_sectors (λ o disk name same. c.plug.ensures.did yes o disk (name ∙ (sym c.in-Some.ensures.found ∙ sym c.number.ensures)) (c.equals.ensures ∙ same)) (c.plug.ensures.starved_is_kept yes)
+    g.met.S.SectorStore.told_sectors_are_valid (λ o disk name same. c.plug.ensures.did yes o disk (name ∙ (sym c.in-Some.ensures.found ∙ sym c.number.ensures)) (c.equals.ensures ∙ same)) (c.plug.ensures.starved_is_kept yes)
 
 -- no disk may be put in
 pub returns-then-not-may_plug : goal.returns-then-not-may_plug

@@ -3,7 +3,7 @@ use Rattle.adapter.specs.Device.{Device}
 use Rattle.adapter.specs.declared.access.DeviceStep.TheVariants as asked
 use Rattle.ata_types.specs.declared.Port.{Port}
 use Rattle.ata_types.specs.declared.Slot.{Slot}
-use Rattle.device_model.specs.Finishing.{HasPageCommand, MayTakePage}
+use Rattle.device_model.specs.Finishing.{HasFinishablePageCommand, MayTakePageCommand}
 use Rattle.device_model.specs.ModelState.{device_at}
 use Rattle.device_model.proofs.Absurd.{true-false}
 use Rattle.device_model.proofs.Doing.{left_it}
@@ -25,7 +25,7 @@ loop-found-preserved-then-lacks g c =
     let s : Slot = record { 0 = c.in-Some.found.slot } in
     let d : Device = device_at g.S.SectorStore.size g.S.SectorStore.told m in
     let found = c.in-Some.ensures.port in
-    let stuck : c.loop-found.lacks ≡ false → MayTakePage d p.0 s.0 × (HasPageCommand d p.0 s.0 → ⊥) =
+    let stuck : c.loop-found.lacks ≡ false → MayTakePageCommand d p.0 s.0 × (HasFinishablePageCommand d p.0 s.0 → ⊥) =
     λ (fed : c.loop-found.lacks ≡ false).
     elim c.if-lacks.either [
       | inl ends ↦ found_stuck d p.0 s.0 c.in-Some.found.can_end ends c.in-Some.ensures.found
@@ -95,9 +95,9 @@ loop-found-preserved g c =
 pub returns-clause-left : goal.returns-clause-left
 returns-clause-left g c =
     none_left g.S.SectorStore.size g.S.SectorStore.told g.S.SectorStore.failures c.args.self.now c.loop-found.self c.loop-found.left_out c.loop-found.lacks
-    c.loop-found.invariant (c.next_page.ensures.none c.in_default.is)
+    c.loop-found.invariant (c.next_page_command.ensures.none c.in_default.is)
 
 pub returns-clause-told : goal.returns-clause-told
 returns-clause-told g c =
     lacking_told g.S.SectorStore.size g.S.SectorStore.told g.S.SectorStore.failures c.args.self.now c.loop-found.self c.loop-found.left_out c.loop-found.lacks
-    c.loop-found.invariant (c.next_page.ensures.none c.in_default.is)
+    c.loop-found.invariant (c.next_page_command.ensures.none c.in_default.is)

@@ -47,7 +47,7 @@ returns g c =
         page_source_is = λ _. refl;
         disk_index_is = λ _. refl;
         gains_own_pages = gains_none g.S.SectorStore.size was is (ap (λ (v : Vec Entry). v.items) c.fetch-taken.ensures.tape);
-        step_keeps = record { absent_disks_are_kept = λ _ _ _. refl; identities_are_kept = λ _ _. refl; caches_are_kept = λ _. refl; queue_is_kept = refl; access_count_is_kept = refl };
+        step_keeps = record { disks_not_last_in_are_kept = λ _ _ _. refl; identities_are_kept = λ _ _. refl; cache_modes_are_kept = λ _. refl; queue_is_kept = refl; access_count_is_kept = refl };
         stays_starved = λ yes. c.fetch-taken.ensures.starved ∙ yes;
       };
       tape_had_room = λ n room.

@@ -2,7 +2,7 @@ use Rattle.std.proofs.Common.{◌∷◌, [], slice_index_or, rules, ◌≡◌, �
 use Rattle.std.specs.Prelude.{is_some}
 use Rattle.device_model.specs.Disks.{disks_given_for}
 use Rattle.device_model.specs.PortView.{blank_port}
-use Rattle.device_model.specs.ToldDisks.{disks_told}
+use Rattle.device_model.specs.ToldDisks.{all_disks_have_known_sectors}
 use Rattle.device_model.proofs.NewModel.{IsIdleModel, IsResetModel, blank_idle, ports_are, all_zero, disks_are, new_port, past_given, zeros_small}
 use Rattle.device_model.proofs.model.Model.with_disks.Goals as goal
 
@@ -15,7 +15,7 @@ returns g c =
         memory_size_is = search rules;
         cap = search rules;
         pi = search rules;
-        ports_are_new = λ port.
+        first_given_disks_are_in = λ port.
             new_port g.S.SectorStore.size g.S.SectorStore.told (disks_given_for c.args.disks port) (slice_index_or (c.in_ok-port0.port0 ∷ c.in_ok-port1.port1 ∷ c.in_ok-port2.port2 ∷ c.in_ok-port3.port3 ∷ []) port blank_port) _
             (ports_are (λ k p. p.present ≡ is_some (disks_given_for c.args.disks k)) c.in_ok-port0.port0 c.in_ok-port1.port1 c.in_ok-port2.port2 c.in_ok-port3.port3 (c.in_ok-port0.ensures.present ∙ c.is_some.ensures)
             (c.in_ok-port1.ensures.present ∙ c.is_some-2.ensures) (c.in_ok-port2.ensures.present ∙ c.is_some-3.ensures)
@@ -34,8 +34,8 @@ returns g c =
       };
       holds_and_tells_bytes = record {
         memory_holds_bytes = zeros_small _ _ (c.in_ok-vec.ensures.items_if_clones_equal (λ y e. e));
-        disks_hold_sectors = λ port. disks_are g.S.SectorStore.size g.S.SectorStore.told g.met.S.SectorStore.tells_sectors _;
-        disks_are_told = disks_told g.S.SectorStore.size g.S.SectorStore.told bays;
+        disks_hold_sectors = λ port. disks_are g.S.SectorStore.size g.S.SectorStore.told g.met.S.SectorStore.told_sectors_are_valid _;
+        disks_are_known_if_telling = all_disks_have_known_sectors g.S.SectorStore.size g.S.SectorStore.told bays;
       };
       telling_is = is.tells;
       bays_are_new = is.bays;

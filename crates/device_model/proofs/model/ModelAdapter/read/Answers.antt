@@ -4,9 +4,9 @@ use Rattle.std.specs.Global.{Vec}
 use Rattle.std.specs.Vec.{vec_len, vec_capacity}
 use Rattle.adapter.specs.Device.{Device}
 use Rattle.adapter.specs.declared.tape.Entry.{Entry}
-use Rattle.device_model.specs.Finishing.{HasPageCommand, MayTakePage}
+use Rattle.device_model.specs.Finishing.{HasFinishablePageCommand, MayTakePageCommand}
 use Rattle.device_model.specs.HeldPorts.{IsPortHeld}
-use Rattle.device_model.specs.ModelOwnSteps.{DoesSpontaneousSteps, EndsResetUnlessHeld, IsSettled}
+use Rattle.device_model.specs.ModelOwnSteps.{DoesSpontaneousSteps, EndsPendingResetUnlessAllHeld, IsSettled}
 use Rattle.device_model.specs.ModelState.{device_at, all_media_at}
 use Rattle.device_model.specs.WholeAdapter.{HasDisks, AllMedia, device_of}
 use Rattle.device_model.proofs.TwoDisks.{disks_kept, identity_kept}
@@ -46,8 +46,8 @@ returns-clause-settled g c =
     (noted_settled c.args.r c.shown-value.result (device_of c.send_pages.new.self.hardware last) _
     (subst Q (sym c.send_pages.ensures.rest.held_ports_are) (c.send_pages.ensures.settled _ (c.settle_state.ensures.settled o))))
 
-pub returns-clause-no_page_is_left : goal.returns-clause-no_page_is_left
-returns-clause-no_page_is_left g c =
+pub returns-clause-page_command_waits_only_if_held_or_starved : goal.returns-clause-page_command_waits_only_if_held_or_starved
+returns-clause-page_command_waits_only_if_held_or_starved g c =
     let last : AllMedia = all_media_at g.S.SectorStore.size g.S.SectorStore.told c.send_pages.new.self in
     let Q : ℕ → Bool → Type 0 = λ port starved. IsPortHeld c.send_pages.new.self.held port ⊎ (starved ≡ true) in
     let sent : Device = device_of c.send_pages.new.self.hardware last in
@@ -55,14 +55,14 @@ returns-clause-no_page_is_left g c =
     λ (port : ℕ) (has : HasDisks (device_of c.note_reading.new.self last) port).
     disks_kept g.S.SectorStore.size g.S.SectorStore.told (record c.send_pages.new.self { hardware = c.note_reading.new.self }) c.send_pages.new.self port refl has in
     record {
-      none_may_be_taken = λ port slot small low disks may.
-          let P : Device → Type 0 = λ d. MayTakePage d port slot in
-          c.send_pages.ensures.left.none_may_be_taken port slot small low (had port disks)
+      may_be_taken_only_if_held = λ port slot small low disks may.
+          let P : Device → Type 0 = λ d. MayTakePageCommand d port slot in
+          c.send_pages.ensures.left.may_be_taken_only_if_held port slot small low (had port disks)
           (noted_may c.args.r c.shown-value.result sent port slot (subst P (c.note_reading.ensures.notes last) may));
-      none_may_be_finished = λ port slot small low disks has.
-          let P : Device → Type 0 = λ d. HasPageCommand d port slot in
+      may_finish_only_if_held_or_starved = λ port slot small low disks has.
+          let P : Device → Type 0 = λ d. HasFinishablePageCommand d port slot in
           subst (Q port) (sym c.note_reading.ensures.starved)
-          (c.send_pages.ensures.left.none_may_be_finished port slot small low (had port disks)
+          (c.send_pages.ensures.left.may_finish_only_if_held_or_starved port slot small low (had port disks)
           (noted_page c.args.r c.shown-value.result sent port slot (subst P (c.note_reading.ensures.notes last) has)));
     }
 
@@ -74,7 +74,7 @@ returns-clause-does_read g c =
     let after = record mid { hardware = c.settle_state.new.self; held = c.settle_state.new.held } in
     let settled = c.settle_state.ensures.own o in
     let own = c.send_pages.ensures.rest in
-    let P : List Bool → Type 0 = λ held. EndsResetUnlessHeld mid.held held (device_at g.S.SectorStore.size g.S.SectorStore.told mid) settled.0 in
+    let P : List Bool → Type 0 = λ held. EndsPendingResetUnlessAllHeld mid.held held (device_at g.S.SectorStore.size g.S.SectorStore.told mid) settled.0 in
     let Q : List Bool → Type 0 = λ held. DoesSpontaneousSteps held settled.0 (device_of c.send_pages.new.self.hardware last) in
     record {
       after_begin = mid;
@@ -95,9 +95,9 @@ returns-clause-does_read g c =
           (ap (λ (d : Device). d.tape) (c.note_reading.ensures.notes last) ∙ noted_tape c.args.r c.shown-value.result (device_of c.send_pages.new.self.hardware last))));
       disks_are_kept = c.send_pages.ensures.disks;
       step_keeps = record {
-        absent_disks_are_kept = own.step_keeps.absent_disks_are_kept;
+        disks_not_last_in_are_kept = own.step_keeps.disks_not_last_in_are_kept;
         identities_are_kept = own.step_keeps.identities_are_kept;
-        caches_are_kept = own.step_keeps.caches_are_kept;
+        cache_modes_are_kept = own.step_keeps.cache_modes_are_kept;
         queue_is_kept = own.step_keeps.queue_is_kept;
         access_count_is_kept = own.step_keeps.access_count_is_kept;
       };

@@ -4,7 +4,7 @@ use Rattle.adapter.specs.Memory.{changed}
 use Rattle.adapter.specs.Steps.{block_after, snapshot_of_bytes}
 use Rattle.device_model.proofs.Absurd.{some_one, true-false}
 use Rattle.device_model.specs.TakenBlocks.{brought}
-use Rattle.device_model.specs.PortView.{taken_in, media_after_move, operation_of_kind, port_of, taken_slots, taken_of}
+use Rattle.device_model.specs.PortView.{taken_in, media_after_move, operation_of_kind, port_of, taken_commands_by_slot, taken_of}
 use Rattle.device_model.specs.declared.port.TakenCommand.{TakenCommand}
 use Rattle.device_model.specs.declared.port.CommandKind.{CommandKind}
 use Rattle.device_model.specs.declared.port.CommandKind.TheVariants.{Trim}
@@ -28,9 +28,9 @@ returns-then-is_trim-clause-moved c = λ m t held.
     same_kind (was slot) c.requires.slot_has_command.0 t c.args.command_kind c.requires.slot_has_command.1 c.requires.slot_has_command.2 held ∙ c.is_trim.ensures.0 c.if-is_trim.true in
     let kept : block_after (operation_of_kind t.command_kind) bytes (brought t.block) ≡ bytes = ap (λ (k : CommandKind). block_after (operation_of_kind k) bytes (brought t.block)) kind in
     ap (λ (f : ℕ → Option FetchedCommand). record (port_of c.args.self.now (media_after_move m (taken_of t) bytes)) { taken = f })
-    (ap taken_slots (c.add_block.ensures t held)
+    (ap taken_commands_by_slot (c.add_block.ensures t held)
     ∙ (slots_changed was slot (Some u)
-    ∙ ap (λ (b : List ℕ). changed (taken_slots was) slot (Some (record (taken_of t) { moved = t.moved + 1; block = b }))) (sym kept)))
+    ∙ ap (λ (b : List ℕ). changed (taken_commands_by_slot was) slot (Some (record (taken_of t) { moved = t.moved + 1; block = b }))) (sym kept)))
 
 -- no other command has one
 pub returns-else-is_trim-clause-moved : goal.returns-else-is_trim-clause-moved
@@ -41,9 +41,9 @@ returns-else-is_trim-clause-moved c = λ m t held.
     let kind = same_kind (was slot) c.requires.slot_has_command.0 t c.args.command_kind c.requires.slot_has_command.1 c.requires.slot_has_command.2 held in
     let other : t.command_kind ≡ Trim → ⊥ = λ (trim : t.command_kind ≡ Trim). true-false (c.is_trim.ensures.1 (sym kind ∙ trim)) c.if-is_trim.false in
     ap (λ (f : ℕ → Option FetchedCommand). record (port_of c.args.self.now (media_after_move m (taken_of t) bytes)) { taken = f })
-    (ap taken_slots (c.add_moved.ensures t held)
+    (ap taken_commands_by_slot (c.add_moved.ensures t held)
     ∙ (slots_changed was slot (Some (record t { moved = t.moved + 1 }))
-    ∙ ap (λ (b : List ℕ). changed (taken_slots was) slot (Some (record (taken_of t) { moved = t.moved + 1; block = b })))
+    ∙ ap (λ (b : List ℕ). changed (taken_commands_by_slot was) slot (Some (record (taken_of t) { moved = t.moved + 1; block = b })))
     (sym (no_block t.command_kind bytes (brought t.block) other))))
 
 pub returns-then-is_trim-clause-held : goal.returns-then-is_trim-clause-held

@@ -4,11 +4,11 @@ use Rattle.adapter.specs.Commands.{is_queued}
 use Rattle.adapter.specs.Device.{DurableState, DevicePort}
 use Rattle.adapter.specs.Device.Halt.{NotHalted}
 use Rattle.adapter.specs.Memory.{changed}
-use Rattle.adapter.specs.Steps.{lasting_after, port_after_done, port_after_flush}
+use Rattle.adapter.specs.Steps.{lasting_after, port_after_done, port_with_lasting_after_operation}
 use Rattle.adapter.specs.declared.command.Operation.{Operation}
 use Rattle.adapter.specs.declared.command.Operation.TheVariants as operation
 use Rattle.device_model.specs.WordBits.{word_bits}
-use Rattle.device_model.specs.PortView.{Media, cause_of, taken_in, lasting_sectors, operation_of_kind, port_of, taken_slots}
+use Rattle.device_model.specs.PortView.{Media, cause_of, taken_in, lasting_sectors_after_end, operation_of_kind, port_of, taken_commands_by_slot}
 use Rattle.device_model.specs.declared.port.PortModel.{PortModel}
 use Rattle.device_model.specs.declared.port.CommandKind.{CommandKind}
 use Rattle.device_model.proofs.SlotLemmas.{slots_changed}
@@ -16,7 +16,7 @@ use Rattle.device_model.proofs.port.PortModel.end.Goals as goal
 
 -- what is lasting then
 ended_lasting : (o : Operation) (m : Media) (was here since : ℕ) → since ≡ (lasting_after o (record { sectors = m.lasting; tape_length = was }) m.disk here).tape_length →
-    ◌≡◌ {A = DurableState} (record { sectors = lasting_sectors o m; tape_length = since }) (lasting_after o (record { sectors = m.lasting; tape_length = was }) m.disk here)
+    ◌≡◌ {A = DurableState} (record { sectors = lasting_sectors_after_end o m; tape_length = since }) (lasting_after o (record { sectors = m.lasting; tape_length = was }) m.disk here)
 ended_lasting operation.Flush m was here since e = λ i. record { sectors = m.disk.sectors; tape_length = e i }
 ended_lasting operation.Identify m was here since e = λ i. record { sectors = m.lasting; tape_length = e i }
 ended_lasting operation.ReadLog m was here since e = λ i. record { sectors = m.lasting; tape_length = e i }
@@ -32,10 +32,10 @@ returns-then-is_queued c = λ m.
     let p : PortModel = c.args.self.now in
     let k : CommandKind = c.args.command_kind in
     let slot : ℕ = c.args.slot in
-    let state : DevicePort = port_after_flush (port_after_done (port_of p m) slot (cause_of k) (operation_of_kind k)) (operation_of_kind k) c.args.here in
+    let state : DevicePort = port_with_lasting_after_operation (port_after_done (port_of p m) slot (cause_of k) (operation_of_kind k)) (operation_of_kind k) c.args.here in
     let lasting = ended_lasting (operation_of_kind k) m p.lasting_tape_length c.args.here c.lasting_at-self.result (c.lasting_at-self.ensures (record { sectors = m.lasting; tape_length = p.lasting_tape_length }) m.disk refl) in
     let queued : true ≡ is_queued (operation_of_kind k) = sym c.if-is_queued.true ∙ c.is_queued.ensures in
-    let taken = ap taken_slots c.remove.ensures ∙ slots_changed (taken_in p.taken) slot None in
+    let taken = ap taken_commands_by_slot c.remove.ensures ∙ slots_changed (taken_in p.taken) slot None in
     let is : word_bits c.with_bit_as-self.result ≡ changed (word_bits p.is) (cause_of k) true =
     c.with_bit_as-self.ensures ∙ ap (λ (place : ℕ). changed (word_bits p.is) place true) c.cause.ensures in
     let tfd : bit_and c.task_file.result 0xff7f ≡ bit_and (port_of p m).tfd 0xff7f = ap (λ (n : ℕ). bit_and n 0xff7f) c.task_file.ensures in
@@ -50,10 +50,10 @@ returns-else-is_queued c = λ m.
     let p : PortModel = c.args.self.now in
     let k : CommandKind = c.args.command_kind in
     let slot : ℕ = c.args.slot in
-    let state : DevicePort = port_after_flush (port_after_done (port_of p m) slot (cause_of k) (operation_of_kind k)) (operation_of_kind k) c.args.here in
+    let state : DevicePort = port_with_lasting_after_operation (port_after_done (port_of p m) slot (cause_of k) (operation_of_kind k)) (operation_of_kind k) c.args.here in
     let lasting = ended_lasting (operation_of_kind k) m p.lasting_tape_length c.args.here c.lasting_at-self.result (c.lasting_at-self.ensures (record { sectors = m.lasting; tape_length = p.lasting_tape_length }) m.disk refl) in
     let plain : false ≡ is_queued (operation_of_kind k) = sym c.if-is_queued.false ∙ c.is_queued.ensures in
-    let taken = ap taken_slots c.remove.ensures ∙ slots_changed (taken_in p.taken) slot None in
+    let taken = ap taken_commands_by_slot c.remove.ensures ∙ slots_changed (taken_in p.taken) slot None in
     let is : word_bits c.with_bit_as-self.result ≡ changed (word_bits p.is) (cause_of k) true =
     c.with_bit_as-self.ensures ∙ ap (λ (place : ℕ). changed (word_bits p.is) place true) c.cause.ensures in
     let tfd : bit_and c.task_file.result 0xff7f ≡ bit_and (port_of p m).tfd 0xff7f = ap (λ (n : ℕ). bit_and n 0xff7f) c.task_file.ensures in

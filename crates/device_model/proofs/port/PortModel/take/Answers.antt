@@ -5,7 +5,7 @@ use Rattle.adapter.specs.Device.{DevicePort}
 use Rattle.adapter.specs.Memory.{changed}
 use Rattle.adapter.specs.Steps.{port_after_fetch}
 use Rattle.device_model.specs.WordBits.{word_bits}
-use Rattle.device_model.specs.PortView.{taken_in, operation_of_kind, port_of, taken_slots, taken_of}
+use Rattle.device_model.specs.PortView.{taken_in, operation_of_kind, port_of, taken_commands_by_slot, taken_of}
 use Rattle.device_model.specs.declared.port.PortModel.{PortModel}
 use Rattle.device_model.specs.declared.port.TakenCommand.{TakenCommand}
 use Rattle.device_model.specs.WholeAdapter.{no_media}
@@ -24,7 +24,7 @@ returns-then-queued c = λ m.
     let r : TakenCommand = c.args.command.now in
     let state : DevicePort = port_after_fetch (port_of p m) c.args.slot (taken_of r).meaning (taken_of r).places in
     let queued : true ≡ is_queued (operation_of_kind r.command_kind) = sym c.if-queued.true ∙ c.is_queued-queued.ensures in
-    let taken = ap taken_slots c.put.ensures ∙ slots_begun (taken_in p.taken) c.args.slot r c.requires.new in
+    let taken = ap taken_commands_by_slot c.put.ensures ∙ slots_begun (taken_in p.taken) c.args.slot r c.requires.new in
     let ci : word_bits c.with_bit_as-self.result ≡ changed (word_bits p.ci) c.args.slot false =
     c.with_bit_as-self.ensures ∙ ap (λ (place : ℕ). changed (word_bits p.ci) place false) c.from.ensures in
     (λ i. record (port_of p m) { taken = taken i; ci = ci i })
@@ -37,7 +37,7 @@ returns-else-queued c = λ m.
     let r : TakenCommand = c.args.command.now in
     let state : DevicePort = port_after_fetch (port_of p m) c.args.slot (taken_of r).meaning (taken_of r).places in
     let plain : false ≡ is_queued (operation_of_kind r.command_kind) = sym c.if-queued.false ∙ c.is_queued-queued.ensures in
-    let taken = ap taken_slots c.put.ensures ∙ slots_begun (taken_in p.taken) c.args.slot r c.requires.new in
+    let taken = ap taken_commands_by_slot c.put.ensures ∙ slots_begun (taken_in p.taken) c.args.slot r c.requires.new in
     let tfd : bit_or c.task_file.result 0x80 ≡ bit_or (port_of p m).tfd 0x80 = ap (λ (n : ℕ). bit_or n 0x80) c.task_file.ensures in
     (λ i. record (port_of p m) { taken = taken i; tfd = tfd i })
     ∙ ap (λ (b : Bool). record state { ci = if b then changed (word_bits p.ci) c.args.slot false else word_bits p.ci; tfd = if b then (port_of p m).tfd else bit_or (port_of p m).tfd 0x80 }) plain

@@ -34,8 +34,8 @@ loop-place-init g c =
     let self = c.args.self.now in
     let port = c.args.port in
     let may = c.requires.may in
-    let s = may.has_found_port.0 in
-    let l = may.has_found_port.1 in
+    let s = may.some_server_has_port.0 in
+    let l = may.some_server_has_port.1 in
     let there = sending.ready_there s port l.in_call_invariant (ap (λ f. Rattle.server_history.specs.ServerState.state_of f) l.probe_result_is ∙ may.ready) in
     let runs = (l.in_call_invariant.port_invariant port.0 there.0).ready_engine_runs (ap (λ f. Rattle.server_history.specs.ServerState.state_of f) l.probe_result_is ∙ may.ready) in
     let none : IsBatchStored port [] s.device s.device = c.law_batches_grow.ensures.empty_batch port s.device l.in_call_invariant.adapter_is_on there l.in_call_invariant.driver_memory_fits (record { st_is_set = runs.st_is_set; list_is_in_place = ap (λ b. b.clb) runs.bases_are_programmed })
@@ -115,7 +115,7 @@ module _ (g : Over) (c : After-deref g) where
             (λ none. some (batching.puts_place preparing.port items c.loop-place.place preparing.tasks s mid in_list (preparing.puts s l) none))).0
 
         first : c.loop-place.place ≡ 0 → is_plain mode preparing.turn.0.request.op ≡ false
-        first zero_is = batching.first_queued preparing s l slot (may_take slot lowest).slot_is_below_32 lowest c.law_operations_change_what_is_due.ensures.issue c.law_due_requests_get_slots.ensures.one_more_gets_a_slot c.law_due_requests_get_slots.ensures.several_are_queued
+        first zero_is = batching.first_queued preparing s l slot (may_take slot lowest).slot_is_below_32 lowest c.law_operations_change_the_unanswered.ensures.issue c.law_due_requests_get_slots.ensures.one_more_gets_a_slot c.law_due_requests_get_slots.ensures.several_are_queued
             items c.loop-place.place no_id (let some = c.requires.several in omega (arith, some, zero_is)) id_is c.loop-place.invariant.turns
 
 pub entry-requires : goal.entry-requires
@@ -123,7 +123,7 @@ entry-requires g c = let turn = (preparing g (goal.at.entry-requires g c).After-
 
 pub unreachable-requires : goal.unreachable-requires
 unreachable-requires g c =
-    let l = c.requires.may.has_found_port in
+    let l = c.requires.may.some_server_has_port in
     full g (goal.at.unreachable-requires g c).After-deref l.0 l.1 c.in_default.ensures.all_are_allocated
 
 -- ---- it is stored
@@ -142,10 +142,10 @@ module _ (g : Over) (c : After-frames g) where
   now = g.A.Adapter.device c.loop-place.adapter
 
   abbrev s0 : ServerState
-  s0 = c.requires.may.has_found_port.0
+  s0 = c.requires.may.some_server_has_port.0
 
   abbrev l0 : HasPortToIssue s0 x.start x.first_book x.first_slots x.port x.mode x.found
-  l0 = c.requires.may.has_found_port.1
+  l0 = c.requires.may.some_server_has_port.1
 
   takes : FindsSlotFor s0 x.port x.tasks x.turn.0 slot
   takes = may_take g d s0 l0 slot c.in-Some.ensures.lowest
@@ -175,7 +175,7 @@ store_transfer-requires g c = record { may = subst (λ (u : PlacedTask). MayIssu
 pub issue-requires : goal.issue-requires
 issue-requires g c =
     let x = preparing g (goal.at.issue-requires g c).After-deref in
-    let w = c.law_operations_change_what_is_due.ensures.waits x.mode x.book _ x.turn.4 in
+    let w = c.law_operations_change_the_unanswered.ensures.waits x.mode x.book _ x.turn.4 in
     (w.0, w.1, w.2 ∙ x.turn.2, w.3)
 
 pub with_bit-mask-requires : goal.with_bit-mask-requires
@@ -209,7 +209,7 @@ loop-place-preserved g c =
             (batching.puts_it x s l c.in-Some.slot.0 (slot_small g f) c.in-Some.ensures.lowest later c.issue.ensures used used_is)),
       );
       turns = subst (λ (us : List Unanswered). AreAllDueInOrder x.mode x.port (drop (place + 1) items) us)
-          (sym (ap unanswered_of c.issue.ensures ∙ c.law_operations_change_what_is_due.ensures.issue x.book x.id)) turn.1;
+          (sym (ap unanswered_of c.issue.ensures ∙ c.law_operations_change_the_unanswered.ensures.issue x.book x.id)) turn.1;
       many = ap length c.issue.ensures ∙ length-map x.book (update_if_id x.id issued_request) ∙ c.loop-place.invariant.many;
       port = ap (λ (p : ServedPort). record p { slots = used }) c.loop-place.invariant.port;
       fits = c.with_bit-mask.type_inv;

@@ -8,7 +8,7 @@ use Rattle.port_driver.proofs.served_port.ServedPort.issue_due.Goals as goal
 
 pub issue_one-requires-clause-due : goal.issue_one-requires-clause-due
 issue_one-requires-clause-due g c =
-    let l = c.requires.has_found_port.1 in
+    let l = c.requires.some_server_has_port.1 in
     let book = c.args.book.now in
     let mode = c.args.self.now.mode in
     let port = c.args.port in

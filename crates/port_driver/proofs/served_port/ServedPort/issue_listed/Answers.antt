@@ -18,7 +18,7 @@ issue_one-requires-clause-due g c =
     let book = c.args.book.now in
     let mode = c.args.self.now.mode in
     let port = c.args.port in
-    let l = c.requires.has_found_port.1 in
+    let l = c.requires.some_server_has_port.1 in
     let order : BookIsWellFormed book = subst BookIsWellFormed l.book_is l.in_call_invariant.book_is_well_formed in
     let turns : AreAllDueInOrder mode port c.issuable.new.due.items (unanswered_of book) =
     subst (λ (ids : List RequestId). AreAllDueInOrder mode port ids (unanswered_of book)) (sym c.issuable.ensures) (c.law_due_in_turn.ensures mode port (unanswered_of book) (c.law_book_stays_well_formed.ensures.unanswered_are_in_order book order)) in

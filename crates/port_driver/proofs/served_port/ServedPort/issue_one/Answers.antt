@@ -12,17 +12,17 @@ use Rattle.port_driver.proofs.served_port.ServedPort.issue_one.Goals.{After-fram
 
 pub unreachable-requires : goal.unreachable-requires
 unreachable-requires g c =
-    let l = c.requires.may.has_found_port in
-    sending.is_free l.0 (g.A.Adapter.device c.args.adapter.now) c.args.book.now c.args.self.now.slots c.args.port c.args.self.now.mode c.args.self.now.probe_result c.requires.may.ready l.1 c.args.id c.requires.due c.law_a_due_request_may_issue.ensures.not_all_usable_are_taken c.in_default.ensures.all_are_allocated
+    let l = c.requires.may.some_server_has_port in
+    sending.is_free l.0 (g.A.Adapter.device c.args.adapter.now) c.args.book.now c.args.self.now.slots c.args.port c.args.self.now.mode c.args.self.now.probe_result c.requires.may.ready l.1 c.args.id c.requires.due c.law_a_due_request_finds_a_free_slot.ensures.not_all_usable_are_taken c.in_default.ensures.all_are_allocated
 
 pub issue_task-requires-clause-fits : goal.issue_task-requires-clause-fits
 issue_task-requires-clause-fits g c =
-    let l = c.requires.may.has_found_port in
+    let l = c.requires.may.some_server_has_port in
     let one = c.law_an_id_is_one_request.ensures.one_request_an_id in
     let device = g.A.Adapter.device c.args.adapter.now in
     let book = c.args.book.now in
     let slots = c.args.self.now.slots in
-    let lowest = c.law_a_due_request_may_issue.ensures.lowest_free_slot_fits in
+    let lowest = c.law_a_due_request_finds_a_free_slot.ensures.lowest_free_slot_fits in
     let entry_is = sending.entry_is l.0 device book slots c.args.port c.args.self.now.mode c.args.self.now.probe_result c.requires.may.ready l.1 c.args.id c.requires.due one c.entry.result.0.now c.entry.result.1.now.frames c.entry.ensures.is_in_book c.entry.ensures.id.0 in
     sending.may_go l.0.table c.requires.due.0 (sending.its l.0 device book slots c.args.port c.args.self.now.mode c.args.self.now.probe_result c.requires.may.ready l.1 c.args.id c.requires.due) c.args.self.now.mode c.in-Some.slot.0
     (sending.may_issue l.0 device book slots c.args.port c.args.self.now.mode c.args.self.now.probe_result c.requires.may.ready l.1 c.args.id c.requires.due lowest c.in-Some.slot.0 c.in-Some.ensures.lowest).2
@@ -38,7 +38,7 @@ returns g c = record {
       let one = c.law_an_id_is_one_request.ensures.one_request_an_id in
       let e = c.requires.due.0 in
       let task : Task = record { op = c.entry.result.0.now.op; range = c.entry.result.0.now.range; queued = not c.is_plain.result } in
-      let small = (sending.may_issue s (device c.args.adapter.now) c.args.book.now c.args.self.now.slots port c.args.self.now.mode c.args.self.now.probe_result c.requires.may.ready l c.args.id c.requires.due c.law_a_due_request_may_issue.ensures.lowest_free_slot_fits slot c.in-Some.ensures.lowest).0 in
+      let small = (sending.may_issue s (device c.args.adapter.now) c.args.book.now c.args.self.now.slots port c.args.self.now.mode c.args.self.now.probe_result c.requires.may.ready l c.args.id c.requires.due c.law_a_due_request_finds_a_free_slot.ensures.lowest_free_slot_fits slot c.in-Some.ensures.lowest).0 in
       let entry_is = sending.entry_is s (device c.args.adapter.now) c.args.book.now c.args.self.now.slots port c.args.self.now.mode c.args.self.now.probe_result c.requires.may.ready l c.args.id c.requires.due one c.entry.result.0.now c.entry.result.1.now.frames c.entry.ensures.is_in_book c.entry.ensures.id.0 in
       let task_is = sending.task_is s (device c.args.adapter.now) c.args.book.now c.args.self.now.slots port c.args.self.now.mode c.args.self.now.probe_result c.requires.may.ready l c.args.id c.requires.due c.is_plain.result c.entry.result.0.now c.is_plain.ensures entry_is in
       let lent_is = c.frames.ensures.frames ∙ sending.frames_are s (device c.args.adapter.now) c.args.book.now c.args.self.now.slots port c.args.self.now.mode c.args.self.now.probe_result c.requires.may.ready l c.args.id c.requires.due one c.entry.result.0.now c.entry.result.1.now.frames c.entry.ensures.is_in_book c.entry.ensures.id.0 in
@@ -54,14 +54,14 @@ returns g c = record {
 
 pub issue_task-requires-clause-may : goal.issue_task-requires-clause-may
 issue_task-requires-clause-may g c =
-    let l = c.requires.may.has_found_port in
-    sending.may_issue_task l.0 (g.A.Adapter.device c.args.adapter.now) c.args.book.now c.args.self.now.slots c.args.port c.args.self.now.mode c.args.self.now.probe_result c.requires.may.ready l.1 c.args.id c.requires.due c.law_a_due_request_may_issue.ensures.lowest_free_slot_fits c.in-Some.slot.0 c.in-Some.ensures.lowest
+    let l = c.requires.may.some_server_has_port in
+    sending.may_issue_task l.0 (g.A.Adapter.device c.args.adapter.now) c.args.book.now c.args.self.now.slots c.args.port c.args.self.now.mode c.args.self.now.probe_result c.requires.may.ready l.1 c.args.id c.requires.due c.law_a_due_request_finds_a_free_slot.ensures.lowest_free_slot_fits c.in-Some.slot.0 c.in-Some.ensures.lowest
 
 -- where it may be issued
 goes_in : (g : Over) (c : After-frames g) → (c.in-Some.slot.0 < 32) × (c.in-Some.slot.0 ≤ (g.A.Adapter.device c.args.adapter.now).cap / 256 % 32)
 goes_in g c =
-    let l = c.requires.may.has_found_port in
-    let may = sending.may_issue l.0 (g.A.Adapter.device c.args.adapter.now) c.args.book.now c.args.self.now.slots c.args.port c.args.self.now.mode c.args.self.now.probe_result c.requires.may.ready l.1 c.args.id c.requires.due c.law_a_due_request_may_issue.ensures.lowest_free_slot_fits c.in-Some.slot.0 c.in-Some.ensures.lowest in
+    let l = c.requires.may.some_server_has_port in
+    let may = sending.may_issue l.0 (g.A.Adapter.device c.args.adapter.now) c.args.book.now c.args.self.now.slots c.args.port c.args.self.now.mode c.args.self.now.probe_result c.requires.may.ready l.1 c.args.id c.requires.due c.law_a_due_request_finds_a_free_slot.ensures.lowest_free_slot_fits c.in-Some.slot.0 c.in-Some.ensures.lowest in
     (may.0, may.1)
 
 pub issue_task-requires-clause-small : goal.issue_task-requires-clause-small

@@ -4,7 +4,7 @@ use Rattle.port_driver.proofs.Sending.{none_issued}
 use Rattle.port_driver.proofs.served_port.ServedPort.issue_where_ready.Goals as goal
 
 pub issue_due-requires : goal.issue_due-requires
-issue_due-requires g c = record { ready = ap state_of c.in-Ready.is; has_found_port = c.requires.server_has_port }
+issue_due-requires g c = record { ready = ap state_of c.in-Ready.is; some_server_has_port = c.requires.server_has_port }
 
 pub returns-in_default : goal.returns-in_default
 returns-in_default g c = record {

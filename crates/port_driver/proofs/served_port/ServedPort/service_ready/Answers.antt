@@ -61,7 +61,7 @@ module _ (g : Over) (c : After-take_event-look g) (s : ServerState) (h : Has g c
 
   in_error : (port_error : PortError) → error_of c.take_event-look.result ≡ Some port_error → IsInError s seen c.args.shared.now c.args.port c.args.self.now port_error
   in_error port_error is = record {
-    is_settled_with = placing.on_its_device s c.args.shared.now c.args.port c.args.self.now h;
+    was_settled_with = placing.on_its_device s c.args.shared.now c.args.port c.args.self.now h;
     sees_port_error = record { in_call_invariant = h.settled_invariant.in_call_invariant; ready = ready; error_is_found = (found port_error is).0; is_simulated = followed };
   }
 

@@ -1,7 +1,7 @@
 use Rattle.std.proofs.Common.{rules, ℕ, List, Some, ◌+◌, ap, sym, ◌∙◌}
 use Rattle.sector_store.specs.Stores.{with_sector}
 use Rattle.server_examples.proofs.Numbered.{numbered_clears, numbered_sector}
-use Rattle.server_examples.specs.NumberedSectors.{numbered_sectors}
+use Rattle.server_examples.specs.NumberedSectors.{numbered_sectors_with_cleared_range}
 use Rattle.server_examples.proofs.tests.numbered_store.NumberedStoreSectorStore.write.Goals as goal
 
 pub invariant_of-self-2-clause-are_sectors : goal.invariant_of-self-2-clause-are_sectors
@@ -13,7 +13,7 @@ returns c =
       is_inside = search rules;
       sector_is_replaced = λ _.
           let s = c.args.self.now in
-          let told = numbered_sectors s.first s.next in
+          let told = numbered_sectors_with_cleared_range s.first s.next in
           let cleared = c.is_next.ensures c.if-not-is_next.false in
           ap (λ (f : ℕ → List ℕ). Some f) (
           numbered_clears s.first s.next s.rising

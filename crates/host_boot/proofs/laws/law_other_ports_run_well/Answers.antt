@@ -1,5 +1,0 @@
-use Rattle.host_boot.proofs.Running.{other_well}
-use Rattle.host_boot.proofs.laws.law_other_ports_run_well.Goals as goal
-
-pub returns : goal.returns
-returns c = other_well c.law_prerequisites.ensures

@@ -1,0 +1,5 @@
+use Rattle.machine_runs.proofs.Once.{law_accepted_at_most_once}
+use Rattle.machine_runs.proofs.laws.law_accepted_at_most_once.Goals as goal
+
+pub returns : goal.returns
+returns g c = law_accepted_at_most_once

@@ -1,5 +1,0 @@
-use Rattle.machine_runs.proofs.Once.{law_accepted_once}
-use Rattle.machine_runs.proofs.laws.law_accepted_once.Goals as goal
-
-pub returns : goal.returns
-returns g c = law_accepted_once

@@ -1,5 +1,0 @@
-use Rattle.machine_runs.proofs.Staying.{law_expected_is_stable}
-use Rattle.machine_runs.proofs.laws.law_expected_is_stable.Goals as goal
-
-pub returns : goal.returns
-returns c = law_expected_is_stable

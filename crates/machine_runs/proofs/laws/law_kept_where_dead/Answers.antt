@@ -1,5 +1,0 @@
-use Rattle.machine_runs.proofs.RunLaws.{law_kept_where_dead}
-use Rattle.machine_runs.proofs.laws.law_kept_where_dead.Goals as goal
-
-pub returns : goal.returns
-returns g c = law_kept_where_dead

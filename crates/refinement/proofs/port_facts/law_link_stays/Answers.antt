@@ -1,8 +1,0 @@
-use Rattle.refinement.proofs.device.PortControls.{steps_link, access_link}
-use Rattle.refinement.proofs.port_facts.law_link_stays.Goals as goal
-
-pub returns-clause-steps : goal.returns-clause-steps
-returns-clause-steps c = steps_link c.law_prerequisites.ensures
-
-pub returns-clause-access : goal.returns-clause-access
-returns-clause-access c = access_link c.law_prerequisites.ensures
